@@ -1,0 +1,74 @@
+-- The linear algebra of the affine form: row operations, and what they do to its value.
+use mathlib.Core.Path.{_≡_, refl, sym, ap, ap₂, _∙_}
+use mathlib.Core.Logic.{_≢_, _↔_, ite, if-pos}
+use Prim.Native.Nat.{ℕ, zero, suc}
+use Rattle.decoder.specs.Field.{Ops, Laws}
+use Rattle.decoder.specs.Model.{tail, Filling, Row, eval, axpy, scale, lead, at, symbol, push}
+
+module _ (O : Ops) (L : Laws O) where
+  open Ops O using (K, Sym, 𝟘, 𝟙, _+_, _*_, inv, zero?, null, _⊕_, _•_, null?)
+  open Laws L using (⊕-comm, ⊕-assoc, ⊕-null, ⊕-self, •-⊕, +-•, *-•, 𝟙-•, 𝟘-•, +-self, *-𝟘, *-𝟙, *-inv, 𝟙≢𝟘, unit, unit≢null)
+
+  infixl 50 _+_
+  infixl 60 _*_
+  infixl 50 _⊕_
+  infixr 60 _•_
+  pub null-⊕ : (v : Sym) → null ⊕ v ≡ v
+  null-⊕ v = ⊕-comm null v ∙ ⊕-null v
+
+  pub ⊕-left-comm : (u v w : Sym) → u ⊕ (v ⊕ w) ≡ v ⊕ (u ⊕ w)
+  ⊕-left-comm u v w = sym (⊕-assoc u v w) ∙ ap (λ z. z ⊕ w) (⊕-comm u v) ∙ ⊕-assoc v u w
+
+  pub •-null : (a : K) → a • null ≡ null
+  •-null a = ap (λ v. a • v) (sym (⊕-self null)) ∙ •-⊕ a null null ∙ ⊕-self (a • null)
+
+  -- Adding twice takes it away again.
+  pub ⊕-twice : (u v : Sym) → u ⊕ (u ⊕ v) ≡ v
+  ⊕-twice u v = sym (⊕-assoc u u v) ∙ ap (λ w. w ⊕ v) (⊕-self u) ∙ null-⊕ v
+
+  pub ⊕-cancel : (u v w : Sym) → u ⊕ v ≡ u ⊕ w → v ≡ w
+  ⊕-cancel u v w e = sym (⊕-twice u v) ∙ ap (λ z. u ⊕ z) e ∙ ⊕-twice u w
+
+  pub ⊕-cancel-right : (u v w : Sym) → v ⊕ u ≡ w ⊕ u → v ≡ w
+  ⊕-cancel-right u v w e = ⊕-cancel u v w (⊕-comm u v ∙ e ∙ ⊕-comm w u)
+
+  -- A sum is null where both are the same.
+  pub null-iff : (u v : Sym) → (u ⊕ v ≡ null) ↔ (u ≡ v)
+  null-iff u v = ((λ e. ⊕-cancel v u v (⊕-comm v u ∙ e ∙ sym (⊕-self v))), (λ e. ap (λ w. w ⊕ v) e ∙ ⊕-self v))
+
+  pub eval-axpy : (n : ℕ) (k : K) (r e : Row O n) (x : Filling O) → eval O n (axpy O n k r e) x ≡ eval O n e x ⊕ k • eval O n r x
+  unfolding eval axpy
+  eval-axpy zero k r e x = refl
+  eval-axpy (suc n) k r e x =
+      simp (eval, axpy, eval-axpy n k (r .1) (e .1) (tail x), +-•, *-•, •-⊕, ⊕-assoc, ⊕-left-comm)
+
+  pub eval-scale : (n : ℕ) (k : K) (e : Row O n) (x : Filling O) → eval O n (scale O n k e) x ≡ k • eval O n e x
+  unfolding eval scale
+  eval-scale zero k e x = refl
+  eval-scale (suc n) k e x = simp (eval, scale, eval-scale n k (e .1) (tail x), *-•, •-⊕)
+
+  pub eval-push : (n : ℕ) (e : Row O n) (x : Filling O) → eval O (suc n) (push O n e) x ≡ eval O n e x
+  unfolding eval push
+  eval-push zero e x = simp (eval, push, 𝟘-•, null-⊕)
+  eval-push (suc n) e x = simp (eval, push, eval-push n (e .1) (tail x))
+
+  -- Where every coefficient is zero, the form is its symbol.
+  pub eval-lead : (n : ℕ) (e : Row O n) (x : Filling O) → lead O n e ≡ 𝟘 → eval O n e x ≡ symbol O n e
+  unfolding eval lead symbol
+  eval-lead zero e x h = refl
+  eval-lead (suc n) e x h = go (zero? (e .0)) h (eval-lead n (e .1) (tail x))
+    where
+      go : (d : Dec (e .0 ≡ 𝟘)) → ite d (lead O n (e .1)) (e .0) ≡ 𝟘 → (lead O n (e .1) ≡ 𝟘 → eval O n (e .1) (tail x) ≡ symbol O n (e .1))
+          → e .0 • x 0 ⊕ eval O n (e .1) (tail x) ≡ symbol O n (e .1)
+      go (yes z) h ih = simp (z, 𝟘-•, null-⊕) (ih h)
+      go (no z) h ih = absurd (z h)
+
+  pub lead-push : (n : ℕ) (e : Row O n) → lead O (suc n) (push O n e) ≡ lead O n e
+  unfolding lead push
+  lead-push zero e = if-pos (zero? 𝟘) refl _ _
+  lead-push (suc n) e = ap (λ a. ite (zero? (e .0)) a (e .0)) (lead-push n (e .1))
+
+  pub symbol-push : (n : ℕ) (e : Row O n) → symbol O (suc n) (push O n e) ≡ symbol O n e
+  unfolding symbol push
+  symbol-push zero e = refl
+  symbol-push (suc n) e = symbol-push n (e .1)

@@ -1,0 +1,165 @@
+-- To unmark the rows of the positions that leave moves the window on.
+use mathlib.Core.Path.{_≡_, refl, sym, ap, _∙_, subst}
+use mathlib.Core.Logic.{_≢_}
+use mathlib.Core.Bool.{Bool, true, false, true≢false}
+use mathlib.Core.List.{List, [], _∷_, _++_}
+use Prim.Native.Nat.{ℕ, zero, suc, _+_, _*_, _-_, _%_, _≤_, _<_}
+use native.Mathlib.Nat.{mod-lt, mod-eq-of-lt, mod-add-mod, add-mod-mod, add-mod-right, add-zero}
+use native.Mathlib.Decide.{ℕ-discrete}
+use native.Mathlib.Numerals.{add-one}
+use native.Mathlib.Omega.{arith}
+use lib.ListN.{length, getD}
+use lib.Dec.{ltb}
+use Rattle.memory.specs.Part.{part, splice}
+use Rattle.memory.proofs.Parts.{length-part, getD-past, part-within, getD-part, row-fits}
+use Rattle.decoder.specs.Field.{Ops}
+use Rattle.decoder.specs.Bytes.{byte}
+use Rattle.decoder.specs.Model.{Row, State, end, free, pivot, advance}
+use Rattle.decoder.specs.Receiver.{advance-by, empty}
+use Rattle.decoder.specs.Table.{Table, Moves, Echelon, view, read, slot}
+use Rattle.decoder.specs.Stretch.{remainders}
+use Rattle.decoder.specs.Refine.{view-advance}
+use Rattle.decoder.specs.Steps.{moves-echelon}
+use Rattle.decoder.specs.Jump.{advance-by-suc, advance-by-empty}
+use Rattle.elimination.specs.Bytes.{Coded, laws}
+use Rattle.elimination.specs.Window.{stride, place, row, inUse, line, table, unmarked, Window, Fits, Kept}
+use Rattle.elimination.specs.Steps.{Moved}
+use Rattle.elimination.proofs.Rows.{row-store, row-other, kept-store, kept-refl, kept-trans}
+
+-- Another position of the window has another row.
+pub other : (w b p q : ℕ) → b ≤ p → p < b + w → b ≤ q → q < b + w → q ≢ p → q % w ≢ p % w
+other w b p q c l d k n e = n (remainders w b q p d k c l e)
+
+-- The byte that was stored.
+pub stored-at : (l : List ℕ) (i v : ℕ) → i < length l → getD (splice i (v ∷ []) l) i 0 ≡ v
+unfolding splice
+stored-at [] i v h = absurd (omega arith)
+stored-at (x ∷ l) zero v h = refl
+stored-at (x ∷ l) (suc i) v h = stored-at l i v (omega arith)
+
+module _ (w E : ℕ) (m : List ℕ) (fits : Fits w E m) where
+  pub length-row : (r : ℕ) → r < w → length (row w E r m) ≡ stride w E
+  length-row r h = length-part (place w E r) (stride w E) m (omega (arith, fits .room, row-fits w (stride w E) r h))
+
+  unmark-kept : (b q : ℕ) → b < q → q < b + w → row w E (q % w) (unmarked w E (b % w) m) ≡ row w E (q % w) m
+  unmark-kept b q c l =
+      row-other w E (b % w) (w + E) (0 ∷ []) m (fits .room) (mod-lt b (fits .some-width)) (omega arith)
+      (q % w) (mod-lt q (fits .some-width)) (other w b b q (omega arith) (omega arith) (omega arith) l (omega arith))
+
+  unmark-moves : (b : ℕ) → Moves (table w E m) (table w E (unmarked w E (b % w) m)) b w
+  unmark-moves b =
+      let r = b % w in
+      let h : r < w = mod-lt b (fits .some-width) in
+      let same : (b + w) % w ≡ r = add-mod-right b w in
+      record {
+        has-last =
+            ap (λ x. inUse w E (row w E x (unmarked w E r m))) same
+            ∙ ap (inUse w E) (row-store w E r (w + E) (0 ∷ []) m (fits .room) h (omega arith))
+            ∙ ap (ltb 0) (stored-at (row w E r m) (w + E) 0 (omega (arith, length-row r h)));
+        has-kept = λ q c l. ap (inUse w E) (unmark-kept b q c l);
+        line-kept = λ q c l _. ap (line w E) (unmark-kept b q c l);
+        wraps = λ q. ap (λ x. byte (getD (row w E (q % w) m) x 0)) same;
+      }
+
+  window-unmark : (b : ℕ) (S : State (Coded E) w) → Window w E m b S → Window w E (unmarked w E (b % w) m) (suc b) (advance S)
+  window-unmark b S h =
+      let L = laws E (omega (arith, fits .some-symbol)) in
+      let T = table w E m in
+      let T′ = table w E (unmarked w E (b % w) m) in
+      record {
+        echelon = moves-echelon L T T′ b w (h .echelon) (unmark-moves b);
+        reads = view-advance L T T′ b w (h .echelon) (unmark-moves b) ∙ ap advance (h .reads);
+      }
+
+pub moved-to : {w E base i k : ℕ} {m m′ : List ℕ} → i ≡ k → Moved w E base i m m′ → Moved w E base k m m′
+moved-to {w} {E} {base} {i} {k} {m} {m′} e f = subst (λ x. Moved w E base x m m′) e f
+
+-- No turn yet, one more, and as many as there are rows.
+pub moved-none : (w E base : ℕ) (m : List ℕ) → Moved w E base 0 m m
+unfolding advance-by
+moved-none w E base m = record { kept = kept-refl; moves = λ b S e h. rw add-zero h }
+
+pub moved-more : (w E base i : ℕ) (m m′ : List ℕ) → Fits w E m′ → Moved w E base i m m′
+    → Moved w E base (i + 1) m (unmarked w E ((base + i) % w) m′)
+moved-more w E base i m m′ fits f =
+    let pos = fits .some-width in record {
+      kept = kept-trans (f .kept) (kept-store w E ((base + i) % w) (w + E) (0 ∷ []) m′ (fits .room) (mod-lt (base + i) pos) (omega arith));
+      moves = λ b S e h.
+          let turn = window-unmark w E m′ fits (b + i) (advance-by i S) (f .moves b S e h) in
+          let same : (b + i) % w ≡ (base + i) % w = sym (mod-add-mod b w i) ∙ ap (λ k. (k + i) % w) e in
+          let next : suc (b + i) ≡ b + (i + 1) = omega arith in
+          let done : advance (advance-by i S) ≡ advance-by (i + 1) S = sym (advance-by-suc i S) ∙ ap (λ k. advance-by k S) (sym (add-one i)) in
+          subst (λ k. Window w E (unmarked w E k m′) (b + (i + 1)) (advance-by (i + 1) S)) same
+          (subst (λ k. Window w E (unmarked w E ((b + i) % w) m′) k (advance-by (i + 1) S)) next
+          (subst (λ S′. Window w E (unmarked w E ((b + i) % w) m′) (suc (b + i)) S′) done turn));
+    }
+
+-- Each row has its position in the window.
+pub position : (w b r : ℕ) → r < w → (p : ℕ) × (b ≤ p) × (p < b + w) × (p % w ≡ r)
+position w b r h =
+    let pos : 0 < w = omega arith in
+    let d = (r + (w - b % w)) % w in
+    let l : b % w < w = mod-lt b pos in
+    let e : b % w + (r + (w - b % w)) ≡ r + w = omega arith in (
+      b + d,
+      omega arith,
+      omega (arith, mod-lt (r + (w - b % w)) pos),
+      add-mod-mod b (r + (w - b % w)) w ∙ sym (mod-add-mod b w (r + (w - b % w))) ∙ ap (λ k. k % w) e ∙ add-mod-right r w ∙ mod-eq-of-lt h,
+    )
+
+module _ {O : Ops} where
+  is-pivot : {n : ℕ} → State O n → Bool
+  is-pivot end = false
+  is-pivot (free S) = false
+  is-pivot (pivot r S) = true
+
+  rest : {n : ℕ} → State O (suc n) → State O n
+  rest (free S) = S
+  rest (pivot r S) = S
+
+  slot-free : {n : ℕ} (t : Bool) (r : Row O n) (S : State O n) → slot t r S ≡ free (empty O n) → (t ≡ false) × (S ≡ empty O n)
+  unfolding slot is-pivot rest
+  slot-free true r S e = absurd (true≢false (ap is-pivot e))
+  slot-free false r S e = (refl, ap rest e)
+
+  empty-view : (T : Table O) (n q p : ℕ) → view T n q ≡ empty O n → q ≤ p → p < q + n → T .has p ≡ false
+  unfolding view empty
+  empty-view T zero q p e g l = absurd (omega arith)
+  empty-view T (suc n) q p e g l = go (slot-free (T .has q) (read (T .line q) n (suc q)) (view T n (suc q)) e) (ℕ-discrete q p) (λ x g′. empty-view T n (suc q) p x g′ (omega arith))
+    where
+      go : (T .has q ≡ false) × (view T n (suc q) ≡ empty O n) → Dec (q ≡ p) → (view T n (suc q) ≡ empty O n → suc q ≤ p → T .has p ≡ false) → T .has p ≡ false
+      go s (yes x) ih = ap (T .has) (sym x) ∙ s .0
+      go s (no x) ih = ih (s .1) (omega arith)
+
+  view-empty : (T : Table O) (n q : ℕ) → ((p : ℕ) → T .has p ≡ false) → view T n q ≡ empty O n
+  unfolding view empty slot
+  view-empty T zero q h = refl
+  view-empty T (suc n) q h = ap (λ t. slot t (read (T .line q) n (suc q)) (view T n (suc q))) (h q) ∙ ap free (view-empty T n (suc q) h)
+
+-- A memory without rows holds the empty system, for a window from anywhere on.
+pub window-free : (w E b : ℕ) (m : List ℕ) → 0 < w → ((r : ℕ) → r < w → inUse w E (row w E r m) ≡ false) → Window w E m b (empty (Coded E) w)
+window-free w E b m pos h =
+    let none : (p : ℕ) → table w E m .has p ≡ false = (λ p. h (p % w) (mod-lt p pos)) in
+    record {
+      echelon = record {
+        one-at = λ q _ _ t. absurd (true≢false (sym t ∙ none q));
+        zero-before = λ q _ _ t j _ _. absurd (true≢false (sym t ∙ none q));
+      };
+      reads = view-empty (table w E m) w b none;
+    }
+
+window-anywhere : (w E b c : ℕ) (m : List ℕ) → 0 < w → Window w E m b (empty (Coded E) w) → Window w E m c (empty (Coded E) w)
+window-anywhere w E b c m pos h =
+    window-free w E c m pos
+    (λ r l.
+    let (q, g, k, e) = position w b r l in
+    ap (λ x. inUse w E (row w E x m)) (sym e) ∙ empty-view (table w E m) w b q (h .reads) g k)
+
+pub moved-past : (w E base rise : ℕ) (m m′ : List ℕ) → 0 < w → w ≤ rise → Moved w E base w m m′ → Moved w E base rise m m′
+moved-past w E base rise m m′ pos g f = record {
+  kept = f .kept;
+  moves = λ b S e h.
+      subst (λ S′. Window w E m′ (b + rise) S′) (sym (advance-by-empty rise S g))
+      (window-anywhere w E (b + w) (b + rise) m′ pos
+      (subst (λ S′. Window w E m′ (b + w) S′) (advance-by-empty w S (omega arith)) (f .moves b S e h)));
+}

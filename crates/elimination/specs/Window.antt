@@ -1,0 +1,64 @@
+-- The window's equations in lent memory: 64 bytes of header, then `w` rows, each of `w` coefficients, `E` bytes of symbol and 4 flags,
+-- of which the first says that the row is in use. Row and column of a position are its remainder by `w`.
+use mathlib.Core.Path.{_≡_}
+use mathlib.Core.Bool.{Bool, true, false}
+use mathlib.Core.List.{List, [], _∷_}
+use Prim.Native.Nat.{ℕ, _+_, _*_, _%_, _≤_, _<_}
+use lib.ListN.{length, take, drop, getD}
+use lib.Dec.{ltb}
+use Rattle.field.specs.Gf256.{product, inverse}
+use Rattle.memory.specs.Part.{part, splice}
+use Rattle.decoder.specs.Model.{Row, State}
+use Rattle.decoder.specs.Table.{Line, Table, read, view, Echelon}
+use Rattle.decoder.specs.Stretch.{line-of}
+use Rattle.elimination.specs.Bytes.{gf, Coded}
+
+-- How many bytes a row has, and where row `r` begins.
+abbrev pub stride : ℕ → ℕ → ℕ
+stride w E = w + E + 4
+
+abbrev pub place : ℕ → ℕ → ℕ → ℕ
+place w E r = 64 + r * stride w E
+
+-- The bytes of row `r`.
+abbrev pub row : ℕ → ℕ → ℕ → List ℕ → List ℕ
+row w E r m = part (place w E r) (stride w E) m
+
+-- What the bytes of a row say: whether it is in use, and its coefficients and symbol.
+abbrev pub inUse : ℕ → ℕ → List ℕ → Bool
+inUse w E l = ltb 0 (getD l (w + E) 0)
+
+abbrev pub line : (w E : ℕ) → List ℕ → Line (Coded E)
+line w E l = line-of product inverse gf w E l
+
+-- The memory's rows by position.
+abbrev pub table : (w E : ℕ) → List ℕ → Table (Coded E)
+table w E m = record { has = λ p. inUse w E (row w E (p % w) m); line = λ p. line w E (row w E (p % w) m) }
+
+-- The equation that a working row spells over the window from `b` on.
+abbrev pub equation : (w E b : ℕ) → List ℕ → Row (Coded E) w
+equation w E b l = read (line w E l) w b
+
+-- The memory holds the system `S` for the window from `b` on.
+pub record Window (w E : ℕ) (m : List ℕ) (b : ℕ) (S : State (Coded E) w) : Type 0 where
+  pub echelon : Echelon (table w E m) b w
+  pub reads : view (table w E m) w b ≡ S
+
+-- Sizes for which the memory has room.
+pub record Fits (w E : ℕ) (m : List ℕ) : Type 0 where
+  pub some-width : 0 < w
+  pub wide : w ≤ 255
+  pub some-symbol : 4 ≤ E
+  pub long : E ≤ 1500
+  pub room : place w E w ≤ length m
+
+-- Nothing but the rows has changed, and of their flags only the first.
+pub record Kept (w E : ℕ) (m m′ : List ℕ) : Type 0 where
+  pub size : length m′ ≡ length m
+  pub header : take 64 m′ ≡ take 64 m
+  pub past : drop (place w E w) m′ ≡ drop (place w E w) m
+  pub flags : (r k : ℕ) → r < w → w + E < k → k < stride w E → getD m′ (place w E r + k) 0 ≡ getD m (place w E r + k) 0
+
+-- The memory with the row `r` unmarked.
+abbrev pub unmarked : (w E r : ℕ) → List ℕ → List ℕ
+unmarked w E r m = splice (place w E r + (w + E)) (0 ∷ []) m

@@ -1,0 +1,29 @@
+-- `field::tables::logarithm` meets its contract, by the rule of the table.
+use mathlib.Core.Path.{subst⁻¹}
+use mathlib.Core.List.{List}
+use Prim.Native.Nat.{ℕ, _-_}
+use native.Mathlib.Omega.{arith}
+use lib.ListN.{getD}
+use borrow.Author.Needs.{needs}
+use Rattle.field.specs.Logarithm.{IsLogarithm}
+use Rattle.field.proofs.Laws.{logarithms-at}
+use Rattle.field.proofs.tables.logarithm.Statement.{statement}
+use Rattle.field.proofs.tables.logarithm.Tie as tie
+
+sub-result : tie.Need-sub-result
+sub-result c = search needs
+
+element-copy-out-result : tie.Need-element-copy-out-result
+element-copy-out-result c = search needs
+
+returns : tie.Need-returns
+returns c =
+    let s = c .before in
+    subst⁻¹ (λ (l : List ℕ). IsLogarithm (s .args .x) (getD l (s .args .x - 1) 0)) (s .pre .0)
+    (logarithms-at (s .args .x) (s .pre .1) (omega arith))
+
+cast-result : tie.Need-cast-result
+cast-result c = omega (arith, returns c)
+
+pub logarithm-spec : {M : Type 1} → statement M
+logarithm-spec = tie.close (tie.spec sub-result element-copy-out-result cast-result returns)

@@ -1,0 +1,38 @@
+-- `field::tables::product` meets its contract: 2^e times 2^f is 2^(e + f).
+use mathlib.Core.Logic.{⊎-elim}
+use mathlib.Core.Path.{_≡_, sym, ap, _∙_}
+use Prim.Native.Nat.{ℕ}
+use native.Mathlib.Omega.{arith}
+use borrow.Author.Needs.{needs}
+use borrow.Author.Tests.{eqb-true, eqb-false}
+use Rattle.field.specs.Gf256.{product}
+use Rattle.field.proofs.Laws.{product-by-logarithms, product-zero, product-comm}
+use Rattle.field.proofs.tables.product.Statement.{statement}
+use Rattle.field.proofs.tables.product.Tie as tie
+
+zero-left : (a b : ℕ) → a ≡ 0 → 0 ≡ product a b
+zero-left a b p = sym (ap (λ (x : ℕ). product x b) p ∙ product-zero b)
+
+zero-right : (a b : ℕ) → b ≡ 0 → 0 ≡ product a b
+zero-right a b p = zero-left b a p ∙ product-comm b a
+
+returns : tie.Need-returns
+returns c = ⊎-elim (λ w. zero-left _ _ (w .taken)) (λ w. zero-right _ _ (eqb-true _ _ (w .1 .taken))) (c .if1 .came)
+
+logarithm-requires : tie.Need-logarithm-requires
+logarithm-requires c κs = search needs
+
+logarithm-requires-2 : tie.Need-logarithm-requires-2
+logarithm-requires-2 c κs = (search needs, omega (arith, eqb-false))
+
+add-power : tie.Need-add-power
+add-power c = search needs
+
+power-requires : tie.Need-power-requires
+power-requires c κs = search needs
+
+returns-2 : tie.Need-returns-2
+returns-2 c = c .power .ensures ∙ product-by-logarithms _ _ _ _ (c .before .before .logarithm .ensures) (c .before .logarithm2 .ensures)
+
+pub product-spec : {M : Type 1} → statement M
+product-spec = tie.close (tie.spec returns logarithm-requires logarithm-requires-2 add-power power-requires returns-2)

@@ -1,0 +1,43 @@
+-- GF(2^8), as RFC 8681 has it: polynomials over GF(2) modulo x^8 + x^4 + x^3 + x^2 + 1.
+-- A polynomial is the number whose binary digits are its coefficients, so the sum of two is `bitXor` and `p * 2` is x times p.
+use Prim.Native.Nat.{ℕ, zero, suc, _*_, _/_, _%_, _^_}
+use mathlib.Core.Bool.{Bool, true, false}
+use lib.Bits.{bitXor}
+use lib.Dec.{eqb}
+use Rattle.field.specs.Digits.{fold-digits}
+
+-- x^8 + x^4 + x^3 + x^2 + 1
+abbrev pub modulus : ℕ
+modulus = 285
+
+-- The product of two polynomials: d b + x r, by Horner's rule.
+unfoldable pub times : ℕ → ℕ → ℕ
+times a b = fold-digits (λ d r. bitXor (d * b) (r * 2)) a
+
+-- The remainder of a polynomial of degree at most 8: less the modulus if its degree is 8.
+unfoldable pub reduce : ℕ → ℕ
+reduce p = bitXor (p / 2 ^ 8 % 2 * modulus) p
+
+-- The remainder of any polynomial: d + x r, reduced, by Horner's rule.
+unfoldable pub remainder : ℕ → ℕ
+unfolding reduce
+remainder = fold-digits (λ d r. reduce (bitXor d (r * 2)))
+
+-- The product in GF(2^8).
+unfoldable pub product : ℕ → ℕ → ℕ
+unfolding times remainder
+product a b = remainder (times a b)
+
+-- The powers of 2, which is the polynomial x.
+unfoldable pub power : ℕ → ℕ
+power zero = 1
+power (suc n) = product 2 (power n)
+
+-- The number below n whose product with a is 1, or 0 if there is none.
+unfoldable pub inverse-below : ℕ → ℕ → ℕ
+inverse-below zero a = 0
+inverse-below (suc n) a = elim (eqb (product a n) 1) [ true ↦ n | false ↦ inverse-below n a ]
+
+-- The inverse in GF(2^8), and 0 for 0.
+unfoldable pub inverse : ℕ → ℕ
+inverse = inverse-below 256

@@ -1,0 +1,9 @@
+-- Logarithms to the base 2 in GF(2^8).
+use mathlib.Core.Path.{_≡_}
+use Prim.Native.Nat.{ℕ, _<_}
+use Rattle.field.specs.Gf256.{power}
+
+-- e is the logarithm of a
+pub record IsLogarithm (a e : ℕ) : Type 0 where
+  pub small : e < 255
+  pub power-is : power e ≡ a

@@ -1,0 +1,41 @@
+-- `memory::store_u16` meets its contract.
+use native.Mathlib.Omega.{arith}
+use mathlib.Core.Path.{_≡_}
+use Prim.Native.Nat.{_/_, _%_, _^_}
+use native.Mathlib.Numerals.{add-one}
+use lib.ListN.{length-set}
+use Rattle.memory.specs.Number.{bytes}
+use Rattle.memory.proofs.Parts.{sets-splice}
+use borrow.Author.Needs.{needs}
+use Rattle.memory.proofs.store_u16.Statement.{statement}
+use Rattle.memory.proofs.store_u16.Tie as tie
+
+cast-mem : tie.Need-cast-mem
+cast-mem c = search needs
+
+slice-write-mem : tie.Need-slice-write-mem
+slice-write-mem c = search needs
+
+cast-mem-2 : tie.Need-cast-mem-2
+cast-mem-2 c = search needs
+
+add-mem : tie.Need-add-mem
+add-mem c = search needs
+
+slice-write-mem-2 : tie.Need-slice-write-mem-2
+slice-write-mem-2 c = simp length-set (omega arith)
+
+same-length : tie.Need-same-length
+same-length c = search needs
+
+returns : tie.Need-returns
+returns c =
+    let a = c .args in
+    let e0 : a .v / 256 ≡ a .v / 256 ^ 1 % 256 = omega arith in
+    let e1 : a .v % 256 ≡ a .v / 256 ^ 0 % 256 = omega arith in
+    cc (sets-splice (a .at) (bytes 2 (a .v)) (a .mem .now) (omega arith), add-one (a .at), e0, e1)
+
+pub store-u16-spec : {M : Type 1} → statement M
+store-u16-spec =
+    tie.close
+    (tie.spec cast-mem slice-write-mem cast-mem-2 add-mem slice-write-mem-2 same-length returns)

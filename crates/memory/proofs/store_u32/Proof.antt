@@ -1,0 +1,49 @@
+-- `memory::store_u32` meets its contract.
+use mathlib.Core.Path.{_≡_}
+use Prim.Native.Nat.{_/_, _%_, _^_}
+use native.Mathlib.Omega.{arith}
+use Rattle.memory.specs.Number.{bytes}
+use Rattle.memory.proofs.Parts.{splice-next}
+use borrow.Author.Needs.{needs}
+use Rattle.memory.proofs.store_u32.Statement.{statement}
+use Rattle.memory.proofs.store_u32.Tie as tie
+
+cast-store-u16 : tie.Need-cast-store-u16
+cast-store-u16 c = search needs
+
+store-u16-requires : tie.Need-store-u16-requires
+store-u16-requires c κs = search needs
+
+add-store-u16 : tie.Need-add-store-u16
+add-store-u16 c = search needs
+
+cast-store-u16-2 : tie.Need-cast-store-u16-2
+cast-store-u16-2 c = search needs
+
+store-u16-requires-2 : tie.Need-store-u16-requires-2
+store-u16-requires-2 c κs = search needs
+
+same-length : tie.Need-same-length
+same-length c = search needs
+
+returns : tie.Need-returns
+returns c =
+    let a = c .before .before .before .before .before .before .before .before .before .args in
+    let v = a .v in
+    let e0 : v / 65536 / 256 ^ 1 % 256 ≡ v / 256 ^ 3 % 256 = omega arith in
+    let e1 : v / 65536 / 256 ^ 0 % 256 ≡ v / 256 ^ 2 % 256 = omega arith in
+    let e2 : v % 65536 / 256 ^ 1 % 256 ≡ v / 256 ^ 1 % 256 = omega arith in
+    let e3 : v % 65536 / 256 ^ 0 % 256 ≡ v / 256 ^ 0 % 256 = omega arith in
+    cc (splice-next (a .at) (bytes 2 (v / 65536)) (bytes 2 (v % 65536)) (a .mem .now) (omega arith), e0, e1, e2, e3)
+
+pub store-u32-spec : {M : Type 1} → statement M
+store-u32-spec =
+    tie.close
+    (tie.spec
+    cast-store-u16
+    store-u16-requires
+    add-store-u16
+    cast-store-u16-2
+    store-u16-requires-2
+    same-length
+    returns)

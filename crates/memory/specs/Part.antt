@@ -1,0 +1,20 @@
+-- A part of a memory, and a memory with a part replaced.
+use mathlib.Core.Path.{_≡_}
+use denote.Ref.{RefT, now, ptr}
+use Prim.Native.Nat.{ℕ, _+_}
+use mathlib.Core.List.{List, _++_}
+use lib.ListN.{length, take, drop}
+
+-- the n bytes of m from a on
+unfoldable pub part : ℕ → ℕ → List ℕ → List ℕ
+part a n m = take n (drop a m)
+
+-- m with x in place of the bytes from a on
+unfoldable pub splice : ℕ → List ℕ → List ℕ → List ℕ
+splice a x m = take a m ++ (x ++ drop (length x) (drop a m))
+
+-- the slice r is the n bytes from a on of the slice m, and lies where they lie
+pub record LiesAt (r m : RefT (List ℕ)) (a n : ℕ) : Type 0 where
+  pub bytes : now r ≡ part a n (now m)
+  pub block : ptr r .0 ≡ ptr m .0
+  pub offset : ptr r .1 ≡ ptr m .1 + a

@@ -1,0 +1,105 @@
+-- Laws of `addScaled` and `scaled`.
+use mathlib.Core.Path.{_≡_, refl, sym, ap, _∙_}
+use Prim.Native.Nat.{ℕ, zero, suc, _<_}
+use native.Mathlib.Nat.{le-of-suc-le-suc, not-suc-le-zero}
+use mathlib.Core.List.{List, [], _∷_}
+use lib.Bits.{bitXor, xor-zero-r}
+use lib.ListN.{length, take, drop, getD, replicate, length-map}
+use Rattle.field.specs.Gf256.{product}
+use Rattle.field.proofs.Laws.{product-zero, product-one, product-assoc}
+use Rattle.field.specs.Field.{gf256}
+use Rattle.field.proofs.Fields.{gf256-laws}
+use Rattle.field.proofs.Derived.{product-zero-right}
+use Rattle.memory.specs.Number.{Bytes}
+use Rattle.memory.specs.Part.{part}
+use Rattle.memory.proofs.Parts.{cons-eq}
+use Rattle.rows.specs.Rows.{addScaled, scaled}
+
+-- no partner, no change
+pub addScaled-none : (c : ℕ) (d : List ℕ) → addScaled c d [] ≡ d
+unfolding addScaled
+addScaled-none c [] = refl
+addScaled-none c (x ∷ d) = refl
+
+module _ (c : ℕ) where
+  pub length-addScaled : (d s : List ℕ) → length (addScaled c d s) ≡ length d
+  unfolding addScaled
+  length-addScaled [] s = refl
+  length-addScaled (x ∷ d) [] = refl
+  length-addScaled (x ∷ d) (y ∷ s) = ap suc (length-addScaled d s)
+
+  -- element by element
+  pub getD-addScaled : (d s : List ℕ) (i : ℕ) → i < length d → i < length s → getD (addScaled c d s) i 0 ≡ bitXor (getD d i 0) (product c (getD s i 0))
+  unfolding addScaled
+  getD-addScaled [] s i h k = absurd (not-suc-le-zero h)
+  getD-addScaled (x ∷ d) [] i h k = absurd (not-suc-le-zero k)
+  getD-addScaled (x ∷ d) (y ∷ s) zero h k = refl
+  getD-addScaled (x ∷ d) (y ∷ s) (suc i) h k = getD-addScaled d s i (le-of-suc-le-suc h) (le-of-suc-le-suc k)
+
+  pub length-scaled : (row : List ℕ) → length (scaled c row) ≡ length row
+  unfolding scaled
+  length-scaled row = length-map row (product c)
+
+  pub getD-scaled : (row : List ℕ) (i : ℕ) → i < length row → getD (scaled c row) i 0 ≡ product c (getD row i 0)
+  unfolding scaled
+  getD-scaled [] i h = absurd (not-suc-le-zero h)
+  getD-scaled (x ∷ row) zero h = refl
+  getD-scaled (x ∷ row) (suc i) h = getD-scaled row i (le-of-suc-le-suc h)
+
+  -- pieces of a sum and of a multiple are those of the pieces
+  pub take-addScaled : (n : ℕ) (d s : List ℕ) → take n (addScaled c d s) ≡ addScaled c (take n d) (take n s)
+  unfolding addScaled
+  take-addScaled zero d s = refl
+  take-addScaled (suc n) [] s = refl
+  take-addScaled (suc n) (x ∷ d) [] = refl
+  take-addScaled (suc n) (x ∷ d) (y ∷ s) = cons-eq refl (take-addScaled n d s)
+
+  pub drop-addScaled : (n : ℕ) (d s : List ℕ) → drop n (addScaled c d s) ≡ addScaled c (drop n d) (drop n s)
+  unfolding addScaled
+  drop-addScaled zero d s = refl
+  drop-addScaled (suc n) [] s = refl
+  drop-addScaled (suc n) (x ∷ d) [] = sym (addScaled-none c (drop n d))
+  drop-addScaled (suc n) (x ∷ d) (y ∷ s) = drop-addScaled n d s
+
+  pub part-addScaled : (a n : ℕ) (d s : List ℕ) → part a n (addScaled c d s) ≡ addScaled c (part a n d) (part a n s)
+  unfolding part
+  part-addScaled a n d s = rw (drop-addScaled, take-addScaled)
+
+  pub take-scaled : (n : ℕ) (row : List ℕ) → take n (scaled c row) ≡ scaled c (take n row)
+  unfolding scaled
+  take-scaled zero row = refl
+  take-scaled (suc n) [] = refl
+  take-scaled (suc n) (x ∷ row) = cons-eq refl (take-scaled n row)
+
+  pub drop-scaled : (n : ℕ) (row : List ℕ) → drop n (scaled c row) ≡ scaled c (drop n row)
+  unfolding scaled
+  drop-scaled zero row = refl
+  drop-scaled (suc n) [] = refl
+  drop-scaled (suc n) (x ∷ row) = drop-scaled n row
+
+  pub part-scaled : (a n : ℕ) (row : List ℕ) → part a n (scaled c row) ≡ scaled c (part a n row)
+  unfolding part
+  part-scaled a n row = rw (drop-scaled, take-scaled)
+
+-- nothing is added
+pub addScaled-zero : (d s : List ℕ) → addScaled 0 d s ≡ d
+unfolding addScaled
+addScaled-zero [] s = refl
+addScaled-zero (x ∷ d) [] = refl
+addScaled-zero (x ∷ d) (y ∷ s) = cons-eq (ap (bitXor x) (product-zero y) ∙ xor-zero-r x) (addScaled-zero d s)
+
+-- a multiple of a multiple
+pub scaled-scaled : (a b : ℕ) (row : List ℕ) → scaled a (scaled b row) ≡ scaled (product a b) row
+unfolding scaled
+scaled-scaled a b [] = refl
+scaled-scaled a b (x ∷ row) = cons-eq (sym (product-assoc a b x)) (scaled-scaled a b row)
+
+pub scaled-one : (row : List ℕ) → Bytes row → scaled 1 row ≡ row
+unfolding scaled
+scaled-one [] h = refl
+scaled-one (x ∷ row) h = cons-eq (product-one x (h 0)) (scaled-one row (λ i. h (suc i)))
+
+pub scaled-zeros : (a n : ℕ) → scaled a (replicate n 0) ≡ replicate n 0
+unfolding scaled
+scaled-zeros a zero = refl
+scaled-zeros a (suc n) = cons-eq (product-zero-right gf256 gf256-laws a) (scaled-zeros a n)

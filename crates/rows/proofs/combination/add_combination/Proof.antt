@@ -1,0 +1,24 @@
+-- `rows::combination::add_combination` meets its contract.
+use Rattle.rows.proofs.Digits.{scaled-back}
+use borrow.Author.Needs.{needs}
+use Rattle.rows.proofs.combination.add_combination.Statement.{statement}
+use Rattle.rows.proofs.combination.add_combination.Tie as tie
+
+inverse-requires : tie.Need-inverse-requires
+inverse-requires c κs = search needs
+
+scale-requires : tie.Need-scale-requires
+scale-requires c κs = search needs
+
+add-digits-requires : tie.Need-add-digits-requires
+add-digits-requires c κs = search needs
+
+same-length : tie.Need-same-length
+same-length c = search needs
+
+returns : tie.Need-returns
+returns c = cc (scaled-back (c .before .before .before .before .before .before .before .before .before .before .before .before .args .dst .now) (λ i. c .before .before .before .before .before .before .before .before .before .before .before .slice-known .given i .fits))
+
+pub add-combination-spec : {M : Type 1} → statement M
+add-combination-spec =
+    tie.close (tie.spec inverse-requires scale-requires add-digits-requires same-length returns)

@@ -1,0 +1,86 @@
+-- `rows::combination::add_digits` meets its contract. The loop: the sum has the j highest binary digits of the coefficients.
+use mathlib.Core.Path.{_≡_, refl}
+use Prim.Native.Nat.{_≤_, _-_, _+_, suc}
+use native.Mathlib.Omega.{arith}
+use lib.ListN.{length}
+use Rattle.field.specs.Gf256.{power}
+use Rattle.rows.specs.Rows.{scaled}
+use Rattle.rows.specs.Combination.{combined, shifted, rowAt}
+use Rattle.rows.proofs.Sums.{length-scaled}
+use Rattle.rows.proofs.Digits.{long-rows, combined-shifted, combined-start, combined-end, scaled-next, scaled-start}
+use borrow.Author.Needs.{needs}
+use Rattle.rows.proofs.combination.add_digits.Statement.{statement}
+use Rattle.rows.proofs.combination.add_digits.Tie as tie
+
+abbrev Inv-loop : tie.InvT-loop
+Inv-loop dst₀ cs mem a s j₀ dst j =
+    (j ≤ 8) × (dst ≡ combined (shifted cs (8 - j)) (rowAt mem a s (length dst₀)) (length cs) (scaled (power j) dst₀)) × (length dst ≡ length dst₀)
+
+abbrev μ-loop : tie.MeasureT-loop
+μ-loop dst₀ cs mem a s j₀ dst j = 8 - j
+
+loop-holds : tie.Need-loop-holds Inv-loop μ-loop
+loop-holds c =
+    let a = c .before .before .before .args in
+    let d = a .dst .now in
+    let row = rowAt (a .mem .now) (a .a) (a .s) (length d) in (
+      omega arith,
+      cc (combined-start row (a .cs .now) (length (a .cs .now)) (scaled (power 0) d) (λ i. c .before .shared-slice-known .given i .fits), scaled-start d (λ i. c .before .before .slice-known .given i .fits)),
+      refl,
+    )
+
+double-requires : tie.Need-double-requires Inv-loop μ-loop
+double-requires c κs = search needs
+
+sub-add-digit : tie.Need-sub-add-digit Inv-loop μ-loop
+sub-add-digit c = search needs
+
+add-digit-requires : tie.Need-add-digit-requires Inv-loop μ-loop
+add-digit-requires c κs = search needs
+
+add-j : tie.Need-add-j Inv-loop μ-loop
+add-j c = search needs
+
+loop-less : tie.Need-loop-less Inv-loop μ-loop
+loop-less c = search needs
+
+loop-again : tie.Need-loop-again Inv-loop μ-loop
+loop-again c =
+    let a = c .before .before .before .before .before .before .before .before .before .before .before .before .before .args in
+    let j = c .before .before .before .before .before .before .before .before .before .loop .j in
+    let d = a .dst .now in
+    let n = length (a .cs .now) in
+    let e : 8 - j ≡ suc (7 - j) = omega arith in
+    let f : 8 - (j + 1) ≡ 7 - j = omega arith in
+    let long = long-rows (a .mem .now) (a .a) (a .s) (length d) n (omega arith) (omega arith) in (
+      search needs,
+      cc (combined-shifted (rowAt (a .mem .now) (a .a) (a .s) (length d)) (length d) n long (a .cs .now) (7 - j) (scaled (power j) d) (length-scaled (power j) d), scaled-next j d),
+      search needs,
+    )
+
+same-length : tie.Need-same-length Inv-loop μ-loop
+same-length c = search needs
+
+returns : tie.Need-returns Inv-loop μ-loop
+returns c =
+    let a = c .before .before .before .before .before .args in
+    let d = a .dst .now in
+    let e : c .before .loop .j ≡ 8 = omega arith in
+    let z : 8 - c .before .loop .j ≡ 0 = omega arith in
+    cc (combined-end (rowAt (a .mem .now) (a .a) (a .s) (length d)) (a .cs .now) (length (a .cs .now)) (scaled (power 8) d))
+
+pub add-digits-spec : {M : Type 1} → statement M
+add-digits-spec =
+    tie.close
+    (tie.spec
+    Inv-loop
+    μ-loop
+    loop-holds
+    double-requires
+    sub-add-digit
+    add-digit-requires
+    add-j
+    loop-less
+    loop-again
+    same-length
+    returns)

@@ -1,0 +1,94 @@
+-- Reading what was written gives the fields back.
+use mathlib.Core.Path.{_≡_, refl, sym, ap, _∙_}
+use mathlib.Core.Bool.{true}
+use Prim.Native.Nat.{ℕ, _+_, _-_, _*_, _^_, _≤_, _<_}
+use native.Mathlib.Nat.{mul-div-cancel, suc-mul, zero-mul}
+use native.Mathlib.Omega.{arith}
+use lib.Arith.{digits-div, digits-mod}
+use mathlib.Core.List.{List, [], _∷_}
+use lib.ListN.{length, length-append}
+use lib.Seq.{take-at, drop-at}
+use borrow.Author.Tests.{le-leb, eq-eqb}
+use Rattle.memory.specs.Part.{part}
+use Rattle.memory.specs.Number.{number, bytes}
+use Rattle.memory.proofs.Number.{number-bytes}
+use Rattle.wire.specs.Packets.{joined, chunks, sourcePacket, sourceForm, sourceAdu, sourceEsi, repairHeader, repairPacket, repairCount, repairForm, repairKey, densityThreshold, protectedCount, firstEsi, repairSymbols}
+
+-- ---- a source packet
+
+module _ (adu : List ℕ) (esi : ℕ) where
+  pub source-length : length (sourcePacket adu esi) ≡ length adu + 4
+  unfolding sourcePacket
+  source-length = length-append adu (bytes 4 esi)
+
+  pub source-form : sourceForm (sourcePacket adu esi) ≡ true
+  unfolding sourceForm
+  source-form = le-leb 4 (length (sourcePacket adu esi)) (omega (arith, source-length))
+
+  tail : length (sourcePacket adu esi) - 4 ≡ length adu
+  tail = omega (arith, source-length)
+
+  pub source-adu : sourceAdu (sourcePacket adu esi) ≡ adu
+  unfolding sourceAdu sourcePacket
+  source-adu = rw tail (take-at adu (bytes 4 esi) (length adu) refl)
+
+  pub source-esi : esi < 2 ^ 32 → sourceEsi (sourcePacket adu esi) ≡ esi
+  unfolding sourceEsi sourcePacket part
+  source-esi h = rw (tail, drop-at adu (bytes 4 esi) (length adu) refl) (number-bytes 4 esi h)
+
+-- ---- symbols of E bytes, joined and cut
+
+-- every symbol has E bytes
+abbrev pub Sized : ℕ → List (List ℕ) → Type 0
+Sized E [] = Unit {0}
+Sized E (x ∷ xs) = (length x ≡ E) × Sized E xs
+
+pub length-joined : (E : ℕ) (xs : List (List ℕ)) → Sized E xs → length (joined xs) ≡ length xs * E
+length-joined E [] s = sym (zero-mul E)
+length-joined E (x ∷ xs) s = length-append x (joined xs) ∙ omega (arith, s .0, length-joined E xs (s .1), suc-mul (length xs) E)
+
+pub cut-joined : (E : ℕ) (xs : List (List ℕ)) → Sized E xs → chunks (length xs) E (joined xs) ≡ xs
+cut-joined E [] s = refl
+cut-joined E (x ∷ xs) s = rw (take-at x (joined xs) E (s .0), drop-at x (joined xs) E (s .0)) (ap (λ (l : List (List ℕ)). x ∷ l) (cut-joined E xs (s .1)))
+
+-- ---- a repair packet
+
+module _ (key dt nss first : ℕ) (E : ℕ) (xs : List (List ℕ)) (s : Sized E xs) (z : 0 < E) where
+  pub repair-length : length (repairPacket key dt nss first xs) ≡ 8 + length xs * E
+  unfolding repairPacket repairHeader
+  repair-length = omega (arith, length-joined E xs s)
+
+  pub repair-count : repairCount E (repairPacket key dt nss first xs) ≡ length xs
+  unfolding repairCount
+  repair-count = let e : length (repairPacket key dt nss first xs) - 8 ≡ length xs * E = omega (arith, repair-length) in rw e (mul-div-cancel (length xs) z)
+
+  pub repair-form : 1 ≤ length xs → length xs ≤ 16 → repairForm E (repairPacket key dt nss first xs) ≡ true
+  unfolding repairForm
+  repair-form l h =
+      rw (repair-count, le-leb 1 (length xs) l, le-leb (length xs) 16 h)
+      (eq-eqb (length (repairPacket key dt nss first xs)) (8 + length xs * E) repair-length)
+
+  pub repair-symbols : repairSymbols E (repairPacket key dt nss first xs) ≡ xs
+  unfolding repairSymbols repairPacket repairHeader
+  repair-symbols = rw repair-count (cut-joined E xs s)
+
+module _ (key dt nss first : ℕ) (xs : List (List ℕ)) where
+  pub repair-key : key < 2 ^ 16 → repairKey (repairPacket key dt nss first xs) ≡ key
+  unfolding repairKey repairPacket repairHeader part
+  repair-key h = number-bytes 2 key h
+
+  mixed : dt < 16 → nss < 4096 → number (part 2 2 (repairPacket key dt nss first xs)) ≡ dt * 4096 + nss
+  unfolding repairPacket repairHeader part
+  mixed h k = number-bytes 2 (dt * 4096 + nss) (omega arith)
+
+  pub density-threshold : dt < 16 → nss < 4096 → densityThreshold (repairPacket key dt nss first xs) ≡ dt
+  unfolding densityThreshold
+  density-threshold h k = rw (mixed h k) (digits-div dt k)
+
+  pub protected-count : dt < 16 → nss < 4096 → protectedCount (repairPacket key dt nss first xs) ≡ nss
+  unfolding protectedCount
+  protected-count h k = rw (mixed h k) (digits-mod dt k)
+
+  pub first-esi : first < 2 ^ 32 → firstEsi (repairPacket key dt nss first xs) ≡ first
+  unfolding firstEsi repairPacket repairHeader part
+  first-esi h = number-bytes 4 first h

@@ -1,0 +1,22 @@
+-- What a header parser answers: the fields of a packet that has the form, else refusal 5.
+use mathlib.Core.Bool.{cond}
+use Prim.Native.Nat.{ℕ, _-_}
+use mathlib.Core.List.{List}
+use lib.ListN.{length}
+use Rattle.wire.specs.Packets.{sourceForm, sourceEsi, repairForm, repairCount, repairKey, densityThreshold, protectedCount, firstEsi}
+use Rattle.wire.specs.declared.Refusal.the-variants.{Form}
+use Rattle.wire.specs.declared.SourceHeader.{SourceHeader}
+use Rattle.wire.specs.declared.SourceHeader.the-variants.{Source, NoSource}
+use Rattle.wire.specs.declared.RepairHeader.{RepairHeader}
+use Rattle.wire.specs.declared.RepairHeader.the-variants.{Repair, NoRepair}
+
+-- the length of the ADU, and the ESI of its first symbol
+abbrev pub sourceHeaderOf : List ℕ → SourceHeader
+sourceHeaderOf p = cond (sourceForm p) (Source (length p - 4) (record { 0 = sourceEsi p })) (NoSource Form)
+
+-- the fields of the header, and how many repair symbols of E bytes follow it
+abbrev pub repairHeaderOf : ℕ → List ℕ → RepairHeader
+repairHeaderOf E p =
+    cond (repairForm E p)
+    (Repair (record { 0 = repairKey p }) (densityThreshold p) (protectedCount p) (record { 0 = firstEsi p }) (repairCount E p))
+    (NoRepair Form)

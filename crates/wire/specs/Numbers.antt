@@ -1,0 +1,33 @@
+-- The two kinds of number (document 01, "Words and sizes"), and the number that document 01 gives each refusal.
+use Prim.Native.Nat.{ℕ, _+_, _-_, _^_, _%_}
+use Rattle.wire.specs.declared.Refusal.{Refusal}
+use Rattle.wire.specs.declared.Refusal.the-variants.{Setting, Short, Unopened, Long, Form, Range, Empty, Behind, Ahead, Draws, Contradiction, Unknown, NoStart, Padding}
+
+-- how far the ESI e lies past the ESI base, modulo 2^32
+abbrev pub distanceOf : ℕ → ℕ → ℕ
+distanceOf e base = (e + 2 ^ 32 - base) % 2 ^ 32
+
+-- the ESI n symbols after e, modulo 2^32
+abbrev pub esiAfter : ℕ → ℕ → ℕ
+esiAfter e n = (e + n) % 2 ^ 32
+
+-- the key after a key, modulo 65,536
+abbrev pub keyAfter : ℕ → ℕ
+keyAfter key = (key + 1) % 2 ^ 16
+
+-- the number of a refusal (document 01, "Why a call says no")
+abbrev pub numberOf : Refusal → ℕ
+numberOf Setting = 1
+numberOf Short = 2
+numberOf Unopened = 3
+numberOf Long = 4
+numberOf Form = 5
+numberOf Range = 6
+numberOf Empty = 7
+numberOf Behind = 8
+numberOf Ahead = 9
+numberOf Draws = 10
+numberOf Contradiction = 11
+numberOf Unknown = 12
+numberOf NoStart = 13
+numberOf Padding = 14
