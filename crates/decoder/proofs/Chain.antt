@@ -1,44 +1,39 @@
 -- Reducing and placing one row after the other: what it does to an equation, to the reduced form and to the packet's equations.
 use mathlib.Core.Path.{_≡_, refl, sym, ap, ap₂, _∙_, subst}
-use mathlib.Core.Logic.{_≢_, ite, if-pos, if-neg}
+use mathlib.Core.Logic.{_≢_, if-pos, if-neg}
 use mathlib.Core.Option.{Option, none, some}
 use mathlib.Core.List.{List, [], _∷_, _++_}
-use Prim.Native.Nat.{ℕ, zero, suc, _≤_, _<_}
+use Prim.Native.Nat.{ℕ, zero, suc, _<_}
 use native.Mathlib.Decide.{decLt}
 use native.Mathlib.Omega.{arith}
 use Rattle.decoder.specs.Field.{Ops, Laws}
-use Rattle.decoder.specs.Model.{Filling, Row, State, Sat, Reduced, Rref, eval, axpy, scale, lead, at, symbol, reduce, place, settle, insert}
+use Rattle.decoder.specs.Model.{Row, State, Reduced, Rref, eval, axpy, scale, lead, at, symbol, reduce, place, settle, insert}
 use Rattle.decoder.specs.Receiver.{and-then, insert-all}
 use Rattle.decoder.specs.Chain.{Chain, place-rows, eliminate}
-use Rattle.decoder.specs.Linear as lin
-use Rattle.decoder.specs.Elimination as elimination
-use Rattle.decoder.specs.Canonical as canonical
-use Rattle.decoder.specs.Jump.{insert-all-append}
+use Rattle.decoder.proofs.Linear as lin
+use Rattle.decoder.proofs.Elimination as elimination
+use Rattle.decoder.proofs.Canonical as canonical
+use Rattle.decoder.proofs.Jump.{insert-all-append}
 
 module _ {O : Ops} (L : Laws O) where
   open Ops O using (K, Sym, 𝟘, 𝟙, _+_, _*_, inv, zero?, null, _⊕_, _•_, null?)
-  open Laws L using (+-comm, +-assoc, +-𝟘, +-self, *-comm, *-𝟙, *-inv, 𝟙≢𝟘, ⊕-null, 𝟙-•)
+  open Laws L using (*-comm, *-𝟙, *-inv, 𝟙≢𝟘, ⊕-null, 𝟙-•)
 
   infixl 50 _+_
   infixl 60 _*_
   infixl 50 _⊕_
   infixr 60 _•_
-  -- Two coefficients whose sum is zero are the same.
-  pub same : (a b : K) → a + b ≡ 𝟘 → a ≡ b
-  same a b z =
-      sym (+-𝟘 a) ∙ ap (λ c. a + c) (sym (+-self b)) ∙ sym (+-assoc a b b) ∙ ap (λ c. c + b) z ∙ +-comm 𝟘 b ∙ +-𝟘 b
-
   -- A reduced row is its own reduction.
   pub reduce-fixed : {n : ℕ} (T : State O n) (e : Row O n) → Reduced T e → reduce T e ≡ e
   reduce-fixed T e r =
-      canonical.alike L same T (reduce T e) e (elimination.reduce-reduced L T e) r (λ x s. elimination.reduce-eval L T e x s)
+      canonical.alike L T (reduce T e) e (elimination.reduce-reduced L T e) r (λ x s. elimination.reduce-eval L T e x s)
 
   -- To reduce by a system with one more row is to reduce by the system, and then to eliminate the row.
   pub reduce-place : {n : ℕ} (T : State O n) (g e : Row O n) → Reduced T g → lead O n g ≡ 𝟙
       → reduce (place T g) e ≡ axpy O n (at O n g (reduce T e)) g (reduce T e)
   reduce-place {n} T g e r l =
       let d = reduce T e in
-      canonical.alike L same (place T g) (reduce (place T g) e) (axpy O n (at O n g d) g d)
+      canonical.alike L (place T g) (reduce (place T g) e) (axpy O n (at O n g d) g d)
       (elimination.reduce-reduced L (place T g) e)
       (elimination.place-reduced L T g d r l (elimination.reduce-reduced L T e))
       (λ x s.

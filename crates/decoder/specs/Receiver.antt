@@ -4,7 +4,7 @@ use mathlib.Core.Option.{Option, none, some}
 use mathlib.Core.List.{List, [], _∷_, map}
 use Prim.Native.Nat.{ℕ, zero, suc, _+_, _-_, _≤_}
 use Rattle.decoder.specs.Field.{Ops}
-use Rattle.decoder.specs.Model.{tail, Filling, Row, eval, symbol, State, end, free, Sat, insert, known, advance}
+use Rattle.decoder.specs.Model.{tail, Filling, Row, eval, symbol, State, end, free, insert, known, advance}
 
 -- The filling from a position on.
 abbrev pub shift : {A : Type 0} → ℕ → (ℕ → A) → ℕ → A

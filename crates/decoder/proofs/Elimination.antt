@@ -1,12 +1,12 @@
 -- Gaussian elimination, oldest position first: what each step of the model does to the fillings that satisfy it.
-use mathlib.Core.Path.{_≡_, refl, sym, ap, ap₂, _∙_, subst}
-use mathlib.Core.Logic.{_≢_, _↔_, ite, if-pos, if-neg, Iff·rfl, Iff·trans, Iff·and}
+use mathlib.Core.Path.{_≡_, refl, sym, ap, _∙_, subst}
+use mathlib.Core.Logic.{_≢_, _↔_, ite, if-pos, Iff·rfl, Iff·trans, Iff·and}
 use mathlib.Core.Option.{Option, none, some, Option·none-ne-some, Option·some-ne-none, Option·some-injective}
 use Prim.Native.Nat.{ℕ, zero, suc}
 use Rattle.decoder.specs.Field.{Ops, Laws}
 use Rattle.decoder.specs.Model.{tail, ext, Filling, Row, State, end, free, pivot, Sat, Reduced, Rref}
 use Rattle.decoder.specs.Model.{eval, axpy, scale, lead, at, symbol, push, reduce, place-free, place, settle, insert, known, extend, advance}
-use Rattle.decoder.specs.Linear as lin
+use Rattle.decoder.proofs.Linear as lin
 
 module _ {O : Ops} (L : Laws O) where
   open Ops O using (K, Sym, 𝟘, 𝟙, _+_, _*_, inv, zero?, null, _⊕_, _•_, null?)

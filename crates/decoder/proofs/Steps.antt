@@ -1,17 +1,17 @@
 -- What each step of the receiver does to the table, as a whole: add an equation, move the base on, look a symbol up.
-use mathlib.Core.Path.{_≡_, refl, sym, ap, ap₂, _∙_, subst}
+use mathlib.Core.Path.{_≡_, refl, sym, ap, ap₂, _∙_}
 use mathlib.Core.Logic.{_≢_, ite, if-pos, if-neg}
 use mathlib.Core.Bool.{Bool, true, false, true≢false}
-use mathlib.Core.Option.{Option, none, some}
+use mathlib.Core.Option.{none, some}
 use Prim.Native.Nat.{ℕ, zero, suc, _+_ as _+ₙ_, _≤_, _<_}
 use native.Mathlib.Decide.{ℕ-discrete, decLt}
 use native.Mathlib.Omega.{arith}
-use native.Mathlib.Nat.{add-zero, add-suc, suc-add}
+use native.Mathlib.Nat.{add-zero}
 use Rattle.decoder.specs.Field.{Ops, Laws}
-use Rattle.decoder.specs.Model.{Row, State, end, free, pivot, scale, lead, symbol, reduce, place, settle, insert, known}
-use Rattle.decoder.specs.Table.{Line, Table, add-line, scale-line, read, slot, view, Echelon, step-by, sweep, Leads, Places, Moves}
-use Rattle.decoder.specs.Refine as refine
-use Rattle.decoder.specs.Elimination as elimination
+use Rattle.decoder.specs.Model.{Row, State, scale, lead, symbol, place, settle, insert, known}
+use Rattle.decoder.specs.Table.{Line, Table, read, slot, view, Echelon}
+use Rattle.decoder.specs.TableSteps.{add-line, scale-line, step-by, sweep, Leads, Places, Moves}
+use Rattle.decoder.proofs.Refine as refine
 
 module _ {O : Ops} (L : Laws O) where
   open Ops O using (K, Sym, 𝟘, 𝟙, _+_, _*_, inv, zero?, null, _⊕_, _•_, null?)

@@ -1,26 +1,12 @@
--- For the loops: a packet's equations one after the other, the base position by position; and where a packet's ESI lies from it.
-use mathlib.Core.Path.{_≡_, refl, sym, ap, _∙_}
-use Prim.Native.Nat.{ℕ, zero, suc, _+_, _-_, _%_, _≤_, _<_}
+-- A packet's equations one after the other, and the base position by position.
+use mathlib.Core.Path.{_≡_, refl, ap}
+use Prim.Native.Nat.{ℕ, zero, suc, _≤_}
 use native.Mathlib.Omega.{arith}
 use Rattle.decoder.specs.Field.{Ops}
 use mathlib.Core.List.{List, [], _∷_, _++_}
 use mathlib.Core.Option.{Option, none, some}
 use Rattle.decoder.specs.Model.{Row, insert, State, end, free, pivot, extend, advance}
 use Rattle.decoder.specs.Receiver.{advance-by, empty, insert-all, and-then}
-
--- How far an ESI lies ahead of the base, modulo 2^32.
-abbrev pub distance : ℕ → ℕ → ℕ
-distance base esi = (esi + 4294967296 - base % 4294967296) % 4294967296
-
-pub distance-esi : (base esi : ℕ) → esi < 4294967296 → (base + distance base esi) % 4294967296 ≡ esi
-distance-esi base esi h = omega arith
-
--- A position less than 2^31 ahead is found again; one that lies less behind is told apart.
-pub distance-ahead : (base p : ℕ) → base ≤ p → p < base + 2147483648 → base + distance base (p % 4294967296) ≡ p
-distance-ahead base p h l = omega arith
-
-pub distance-behind : (base p : ℕ) → p < base → base ≤ p + 2147483648 → 2147483648 ≤ distance base (p % 4294967296)
-distance-behind base p h l = omega arith
 
 module _ {O : Ops} where
   -- A loop over a packet's equations: what some have made, the rest go on with; and a contradiction stays one.

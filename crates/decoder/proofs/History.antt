@@ -1,17 +1,18 @@
 -- The receiver against its whole history: it accepts what some filling allows, and shows what all fillings agree on.
 use mathlib.Core.Path.{_≡_, refl, sym, ap, _∙_, subst}
-use mathlib.Core.Logic.{_≢_, _↔_, ⊎-elim, Iff·rfl, Iff·trans, Iff·and}
-use mathlib.Core.Option.{Option, none, some, Option·none-ne-some, Option·some-ne-none, Option·some-injective}
+use mathlib.Core.Logic.{_↔_, ⊎-elim, Iff·rfl, Iff·and}
+use mathlib.Core.Option.{Option, none, some}
 use mathlib.Core.List.{List, [], _∷_, map, List·Memᴰ, List·Memᴰ·head, List·Memᴰ·tail, List·Memᴰ·not-nil, List·Memᴰ·cases-cons}
-use Prim.Native.Nat.{ℕ, zero, suc, _+_, _-_, _≤_, _<_}
+use Prim.Native.Nat.{ℕ, zero, suc, _+_, _-_, _≤_}
 use native.Mathlib.Nat.{zero-add, suc-add}
 use native.Mathlib.Omega.{arith}
 use Rattle.decoder.specs.Field.{Ops, Laws}
-use Rattle.decoder.specs.Model.{tail, ext, Filling, Row, eval, symbol, State, end, free, pivot, extend, Sat, Rref, insert, known, advance}
+use Rattle.decoder.specs.Model.{tail, Filling, Row, eval, symbol, State, end, free, pivot, extend, Sat, Rref, insert, known, advance}
 use Rattle.decoder.specs.Receiver.{shift, and-then, Packet, Hold, Satisfies, Satisfies-all, embed, over, Receiver, empty, fresh, advance-by, insert-all, rise, receive, Placed}
 use Rattle.decoder.specs.Receiver.{Accepted, Log, opened, answered, called, run}
-use Rattle.decoder.specs.Linear as lin
-use Rattle.decoder.specs.Elimination as elimination
+use Rattle.decoder.specs.Promises.{Follows, Faithful, Demand-3, Locates}
+use Rattle.decoder.proofs.Linear as lin
+use Rattle.decoder.proofs.Elimination as elimination
 
 shift-add : {A : Type 0} (b d : ℕ) (x : ℕ → A) → shift (b + d) x ≡ shift d (shift b x)
 shift-add zero d x = rw zero-add
@@ -66,7 +67,7 @@ module _ {O : Ops} (L : Laws O) where
       go none h ih = λ x s q. h x s (q .0)
       go (some S′) h ih = rest S S′ (h .1) (insert-all es S′) (ih S′ (h .0))
 
-  advance-by-sat : {n : ℕ} (d : ℕ) (S : State O n) (y : Filling O) → Sat (advance-by d S) y ↔ ((x : Filling O) × Sat S x × (shift d x ≡ y))
+  pub advance-by-sat : {n : ℕ} (d : ℕ) (S : State O n) (y : Filling O) → Sat (advance-by d S) y ↔ ((x : Filling O) × Sat S x × (shift d x ≡ y))
   unfolding advance-by
   advance-by-sat zero S y = ((λ s. (y, s, refl)), (λ t. subst (λ z. Sat S z) (t .2) (t .1)))
   advance-by-sat (suc d) S y =
@@ -83,13 +84,7 @@ module _ {O : Ops} (L : Laws O) where
   advance-by-rref zero S f = f
   advance-by-rref (suc d) S f = advance-by-rref d (advance S) (elimination.advance-rref L S f)
 
-  -- The window's system describes exactly what the accepted packets say of the positions from the base on.
-  pub record Follows {w : ℕ} (A : List (Packet O)) (r : Receiver O w) : Type 0 where
-    pub rref : Rref (r .window)
-    pub sound : (f : Filling O) → Satisfies-all O A f → Sat (r .window) (shift (r .base) f)
-    pub complete : (x : Filling O) → Sat (r .window) x → (f : Filling O) × Satisfies-all O A f × (shift (r .base) f ≡ x)
-
-  -- It still does when the window has moved on.
+  -- The system still describes the history when the window has moved on.
   advance-follows : {w : ℕ} (A : List (Packet O)) (r : Receiver O w) (d : ℕ) → Follows A r
       → Follows A (record { base = r .base + d; window = advance-by d (r .window) })
   advance-follows A r d h = record {
@@ -156,16 +151,6 @@ module _ {O : Ops} (L : Laws O) where
     sound = λ f _. empty-sat w f;
     complete = λ x _. (x, tt, refl);
   }
-
-  -- What a receiver that follows its accepted packets answers.
-  pub record Faithful {w : ℕ} (A : List (Packet O)) (r : Receiver O w) : Type 0 where
-    -- Some filling satisfies all accepted packets.
-    pub filling : (f : Filling O) × Satisfies-all O A f
-    -- What is shown is what every such filling has there, a sender's among them.
-    pub shown : (i : ℕ) (v : Sym) → known (r .window) i ≡ some v → (f : Filling O) → Satisfies-all O A f → f (r .base + i) ≡ v
-    -- Where nothing is shown, two such fillings differ.
-    pub hidden : (i : ℕ) → known (r .window) i ≡ none
-        → (f g : Filling O) × Satisfies-all O A f × Satisfies-all O A g × (f (r .base + i) ≢ g (r .base + i))
 
   pub faithful : {w : ℕ} (A : List (Packet O)) (r : Receiver O w) → Follows A r → Faithful A r
   faithful A r h = record {
@@ -249,18 +234,12 @@ module _ {O : Ops} (L : Laws O) where
   known-advance-by zero S i = rw zero-add
   known-advance-by (suc d) S i = known-advance-by d (advance S) i ∙ known-advance S (d + i) ∙ ap (known S) (sym (suc-add d i))
 
-  -- Demand 3 of a receiver and its accepted packets: what is shown is right and all that can be,
-  -- and the next packet is accepted exactly if some filling satisfies it and all accepted before.
-  pub record Demand-3 {w : ℕ} (l : Log O w) : Type 0 where
-    pub answers : Faithful (l .accepted) (l .receiver)
-    pub verdict : (p : Packet O) → Placed (l .receiver) p
-        → Accepted (receive (l .receiver) p) ↔ ((f : Filling O) × Satisfies O p f × Satisfies-all O (l .accepted) f)
-
   abbrev Kept : {w : ℕ} → Log O w → Type 0
   Kept l = Follows (l .accepted) (l .receiver)
 
   kept-demand : {w : ℕ} (l : Log O w) → Kept l → Demand-3 l
   kept-demand {w} l h = record {
+    follows = h;
     answers = faithful (l .accepted) (l .receiver) h;
     verdict = λ p d. go p (receive (l .receiver) p) (receive-follows (l .accepted) (l .receiver) p h d);
   }
@@ -280,9 +259,8 @@ module _ {O : Ops} (L : Laws O) where
       go none _ = h
       go (some r) k = k
 
-  -- A list of calls. Every packet that a call locates lies ahead of the base and is no longer than the window.
-  module _ {w : ℕ} {Call : Type 0} (locate : Call → ℕ → Option (Packet O))
-      (placed : (c : Call) (b : ℕ) (p : Packet O) → locate c b ≡ some p → (b ≤ p .first) × (p .count ≤ w)) where
+  -- A list of calls.
+  module _ {w : ℕ} {Call : Type 0} (locate : Call → ℕ → Option (Packet O)) (placed : Locates w locate) where
     run-kept : (cs : List Call) (l : Log O w) → Kept l → Kept (run locate l cs)
     run-kept [] l h = h
     run-kept (c ∷ cs) l h =

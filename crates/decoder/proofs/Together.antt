@@ -1,22 +1,22 @@
 -- A packet's equations, gathered in a system of their own until all are known to agree with the receiver's.
 use mathlib.Core.Path.{_≡_, refl, sym, ap, ap₂, _∙_, subst}
-use mathlib.Core.Logic.{_≢_, _↔_, Iff·rfl, Iff·trans, Iff·and}
+use mathlib.Core.Logic.{_↔_}
 use mathlib.Core.Bool.{Bool, true, false, true≢false}
-use mathlib.Core.Option.{Option, none, some, Option·none-ne-some, Option·some-injective}
+use mathlib.Core.Option.{Option, none, some}
 use mathlib.Core.List.{List, [], _∷_, _++_}
 use Prim.Native.Nat.{ℕ, zero, suc, _+_ as _+ₙ_, _≤_, _<_}
 use native.Mathlib.Nat.{zero-add, suc-add, add-zero}
 use native.Mathlib.Decide.{ℕ-discrete}
 use native.Mathlib.Omega.{arith}
 use Rattle.decoder.specs.Field.{Ops, Laws}
-use Rattle.decoder.specs.Model.{tail, Filling, Row, State, end, free, pivot, Sat, Reduced, Rref, eval, reduce, insert}
+use Rattle.decoder.specs.Model.{tail, Filling, Row, State, Sat, Rref, eval, reduce, insert}
 use Rattle.decoder.specs.Receiver.{shift, Hold, empty, insert-all}
 use Rattle.decoder.specs.Table.{Line, Table, read, slot, view, Echelon}
-use Rattle.decoder.specs.Linear as lin
-use Rattle.decoder.specs.Elimination as elimination
-use Rattle.decoder.specs.History as history
-use Rattle.decoder.specs.Canonical.{Apart}
-use Rattle.decoder.specs.Canonical as canonical
+use Rattle.decoder.proofs.Linear as lin
+use Rattle.decoder.proofs.Elimination as elimination
+use Rattle.decoder.proofs.History as history
+use Rattle.decoder.proofs.Canonical.{Apart}
+use Rattle.decoder.proofs.Canonical as canonical
 
 module _ {O : Ops} where
   -- The system `G` has been gathered from the equations `es` beside the system `S`.
@@ -91,14 +91,14 @@ module _ {O : Ops} (L : Laws O) where
     common-second = canonical.apart-sat L S G (elimination.solution L G) (g .apart) (elimination.solution-sat L G)
 
     -- A reduced system with just the fillings of both is what the model makes of the equations.
-    pub gathered-all : ((a b : K) → a + b ≡ 𝟘 → a ≡ b) → (S′ : State O n) → Rref S′ → ((x : Filling O) → Sat S′ x ↔ (Sat S x × Sat G x))
+    pub gathered-all : (S′ : State O n) → Rref S′ → ((x : Filling O) → Sat S′ x ↔ (Sat S x × Sat G x))
         → insert-all es S ≡ some S′
-    gathered-all same S′ r s = go (insert-all es S) (history.insert-all-added L es S f)
+    gathered-all S′ r s = go (insert-all es S) (history.insert-all-added L es S f)
       where
         go : (o : Option (State O n)) → history.Added-all L S es o → o ≡ some S′
         go none h = absurd (h common common-first (g .fillings common common-first .0 common-second))
         go (some S″) h =
-            ap some (canonical.canonical L same S″ S′ (h .0) r
+            ap some (canonical.canonical L S″ S′ (h .0) r
             (λ x. (
               (λ t. let u = h .1 x .0 t in s x .1 (u .0, g .fillings x (u .0) .1 (u .1))),
               (λ t. let u = s x .0 t in h .1 x .1 (u .0, g .fillings x (u .0) .0 (u .1))),

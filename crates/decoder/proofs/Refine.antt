@@ -7,7 +7,8 @@ use native.Mathlib.Decide.{ℕ-discrete}
 use native.Mathlib.Omega.{arith}
 use Rattle.decoder.specs.Field.{Ops, Laws}
 use Rattle.decoder.specs.Model.{Row, State, end, free, pivot, axpy, scale, lead, at, push, reduce, place, place-free, extend, advance}
-use Rattle.decoder.specs.Table.{Line, Table, add-line, scale-line, read, slot, view, Echelon, step-by, sweep, Leads, Places, Moves}
+use Rattle.decoder.specs.Table.{Line, Table, read, slot, view, Echelon}
+use Rattle.decoder.specs.TableSteps.{add-line, scale-line, step-by, sweep, Leads, Places, Moves}
 
 module _ {O : Ops} (L : Laws O) where
   open Ops O using (K, Sym, 𝟘, 𝟙, _+_, _*_, inv, zero?, _⊕_, _•_)

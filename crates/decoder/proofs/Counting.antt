@@ -1,16 +1,15 @@
 -- How many positions have become known: the difference of two counts.
 use mathlib.Core.Path.{_≡_, refl, sym, ap, ap₂, _∙_, subst}
-use mathlib.Core.Logic.{_≢_, _↔_}
 use mathlib.Core.Option.{Option, none, some, Option·some-ne-none}
 use mathlib.Core.List.{List}
-use Prim.Native.Nat.{ℕ, zero, suc, _+_, _-_, _≤_}
-use native.Mathlib.Nat.{suc-add, zero-add, add-assoc, add-zero}
+use Prim.Native.Nat.{ℕ, zero, suc, _+_, _-_}
+use native.Mathlib.Nat.{add-assoc}
 use native.Mathlib.Omega.{arith}
 use Rattle.decoder.specs.Field.{Ops, Laws}
 use Rattle.decoder.specs.Model.{tail, Filling, Row, State, Sat, Rref, known}
-use Rattle.decoder.specs.Receiver.{is-new, count-new, Receiver, advance-by, insert-all, newly, Hold}
-use Rattle.decoder.specs.Elimination.{known-sound, known-complete}
-use Rattle.decoder.specs.History as history
+use Rattle.decoder.specs.Receiver.{is-new, count-new, advance-by, insert-all, newly}
+use Rattle.decoder.proofs.Elimination.{known-sound, known-complete}
+use Rattle.decoder.proofs.History as history
 
 module _ {A : Type 0} where
   -- How many of the first `m` are there.

@@ -1,18 +1,23 @@
 -- The linear algebra of the affine form: row operations, and what they do to its value.
-use mathlib.Core.Path.{_≡_, refl, sym, ap, ap₂, _∙_}
-use mathlib.Core.Logic.{_≢_, _↔_, ite, if-pos}
+use mathlib.Core.Path.{_≡_, refl, sym, ap, _∙_}
+use mathlib.Core.Logic.{_↔_, ite, if-pos}
 use Prim.Native.Nat.{ℕ, zero, suc}
 use Rattle.decoder.specs.Field.{Ops, Laws}
-use Rattle.decoder.specs.Model.{tail, Filling, Row, eval, axpy, scale, lead, at, symbol, push}
+use Rattle.decoder.specs.Model.{tail, Filling, Row, eval, axpy, scale, lead, symbol, push}
 
 module _ (O : Ops) (L : Laws O) where
   open Ops O using (K, Sym, 𝟘, 𝟙, _+_, _*_, inv, zero?, null, _⊕_, _•_, null?)
-  open Laws L using (⊕-comm, ⊕-assoc, ⊕-null, ⊕-self, •-⊕, +-•, *-•, 𝟙-•, 𝟘-•, +-self, *-𝟘, *-𝟙, *-inv, 𝟙≢𝟘, unit, unit≢null)
+  open Laws L using (+-comm, +-assoc, +-𝟘, ⊕-comm, ⊕-assoc, ⊕-null, ⊕-self, •-⊕, +-•, *-•, 𝟙-•, 𝟘-•, +-self, *-𝟘, *-𝟙, *-inv, 𝟙≢𝟘, unit, unit≢null)
 
   infixl 50 _+_
   infixl 60 _*_
   infixl 50 _⊕_
   infixr 60 _•_
+  -- Two coefficients whose sum is zero are the same.
+  pub same : (a b : K) → a + b ≡ 𝟘 → a ≡ b
+  same a b z =
+      sym (+-𝟘 a) ∙ ap (λ c. a + c) (sym (+-self b)) ∙ sym (+-assoc a b b) ∙ ap (λ c. c + b) z ∙ +-comm 𝟘 b ∙ +-𝟘 b
+
   pub null-⊕ : (v : Sym) → null ⊕ v ≡ v
   null-⊕ v = ⊕-comm null v ∙ ⊕-null v
 

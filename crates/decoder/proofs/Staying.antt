@@ -1,17 +1,18 @@
 -- The rows that stay when the window moves on, read where they stand: the system moved on, though no row has been dropped yet.
 use mathlib.Core.Path.{_≡_, refl, sym, ap, ap₂, _∙_, subst}
-use mathlib.Core.Bool.{Bool, true, false, true≢false}
+use mathlib.Core.Bool.{Bool, false}
 use Prim.Native.Nat.{ℕ, zero, suc, _+_ as _+ₙ_, _-_, _≤_, _<_}
 use native.Mathlib.Nat.{add-zero}
 use native.Mathlib.Decide.{decLt}
 use native.Mathlib.Omega.{arith}
 use Rattle.decoder.specs.Field.{Ops, Laws}
-use Rattle.decoder.specs.Model.{Row, State, reduce, advance}
+use Rattle.decoder.specs.Model.{reduce, advance}
 use Rattle.decoder.specs.Receiver.{advance-by}
-use Rattle.decoder.specs.Table.{Line, Table, read, slot, view, Echelon, Moves, step-by, sweep}
-use Rattle.decoder.specs.Refine as refine
-use Rattle.decoder.specs.Steps as steps
-use Rattle.decoder.specs.Jump.{advance-by-suc}
+use Rattle.decoder.specs.Table.{Line, Table, read, slot, view, Echelon}
+use Rattle.decoder.specs.TableSteps.{Moves, step-by, sweep}
+use Rattle.decoder.proofs.Refine as refine
+use Rattle.decoder.proofs.Steps as steps
+use Rattle.decoder.proofs.Jump.{advance-by-suc}
 
 abbrev if-below : {p c : ℕ} → Dec (p < c) → Bool → Bool
 if-below (yes _) t = t

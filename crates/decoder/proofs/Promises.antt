@@ -1,0 +1,69 @@
+-- The promises of the decoder, for any field and at the field of bytes.
+use mathlib.Core.Path.{_≡_, refl, sym, ap, _∙_, subst}
+use mathlib.Core.Logic.{_≢_, _↔_}
+use mathlib.Core.Option.{Option, none, some, Option·some-ne-none}
+use Prim.Native.Nat.{ℕ}
+use native.Mathlib.Omega.{arith}
+use Rattle.field.specs.Gf256.{inverse}
+use Rattle.field.proofs.Fields.{product-binary}
+use Rattle.field.proofs.Laws.{inverse-is, product-one}
+use Rattle.decoder.specs.Field.{Ops, Laws}
+use Rattle.decoder.specs.Model.{Filling, Row, eval, State, Sat, Rref, insert, known}
+use Rattle.decoder.specs.Receiver.{Accepted}
+use Rattle.decoder.specs.Bytes.{byte, bytes}
+use Rattle.decoder.specs.Promises.{Decoder, Byte-decoder, Scheme-9}
+use Rattle.decoder.proofs.Symbols as symbols
+use Rattle.decoder.proofs.Bytes.{bytes-laws, laws}
+use Rattle.decoder.proofs.Elimination as elimination
+use Rattle.decoder.proofs.Canonical as canonical
+use Rattle.decoder.proofs.History as history
+
+module _ {O : Ops} (L : Laws O) where
+  open Ops O using (Sym, null)
+
+  -- A system has a filling, so an equation that some filling satisfies is not refused.
+  contradiction : {n : ℕ} (S : State O n) (e : Row O n) → Rref S
+      → (insert S e ≡ none) ↔ ((x : Filling O) → Sat S x → eval O n e x ≢ null)
+  contradiction {n} S e f = go (insert S e) (elimination.insert-added L S e f)
+    where
+      go : (o : Option (State O n)) → elimination.Added L S e o → (o ≡ none) ↔ ((x : Filling O) → Sat S x → eval O n e x ≢ null)
+      go none h = ((λ _. h), (λ _. refl))
+      go (some S′) h = (
+        (λ i. absurd (Option·some-ne-none S′ i)),
+        (λ no.
+            let x = elimination.solution L S′ in
+            let (s, z) = h .1 x .0 (elimination.solution-sat L S′) in
+            absurd (no x s z)),
+      )
+
+  known-exactly : {n : ℕ} (S : State O n) → Rref S → (i : ℕ)
+      → Accepted (known S i) ↔ ((x y : Filling O) → Sat S x → Sat S y → x i ≡ y i)
+  known-exactly {n} S f i = go (known S i) refl
+    where
+      go : (o : Option Sym) → known S i ≡ o → Accepted o ↔ ((x y : Filling O) → Sat S x → Sat S y → x i ≡ y i)
+      go none k = ((λ a. absurd a), (λ all. let (x, y, s, t, q) = elimination.known-complete L S i f k in q (all x y s t)))
+      go (some v) k = ((λ _ x y s t. elimination.known-sound L S i v k x s ∙ sym (elimination.known-sound L S i v k y t)), (λ _. tt))
+
+  pub decoder : Decoder O
+  decoder = record {
+    filling = λ S. (elimination.solution L S, elimination.solution-sat L S);
+    contradiction = contradiction;
+    addition = λ S S′ e f i. subst (λ o. elimination.Added L S e o) i (elimination.insert-added L S e f);
+    projection = history.advance-by-sat L;
+    known-exactly = known-exactly;
+    known-right = elimination.known-sound L;
+    canonical = canonical.canonical L;
+    demand-3 = history.demand-3 L;
+  }
+
+-- At bytes: demand 3 among them.
+pub byte-decoder : Byte-decoder
+byte-decoder E h = decoder (laws E h)
+
+pub scheme-9 : Scheme-9
+scheme-9 = record {
+  product = λ E c d x y. ap byte (product-binary (c .0) (d .0) x y);
+  inverse = λ E. ap byte (inverse-is 1 1 (omega arith) (product-one 1 (omega arith)));
+  keeps = λ E v. symbols.one-times bytes bytes-laws E v;
+  drops = λ E v. symbols.zero-times bytes bytes-laws E v;
+}
