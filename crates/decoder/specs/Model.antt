@@ -13,6 +13,11 @@ abbrev pub ext : {A : Type 0} → A → (ℕ → A) → ℕ → A
 ext a x zero = a
 ext a x (suc i) = x i
 
+-- A value, if a condition holds.
+abbrev pub only-if : {P A : Type 0} → Dec P → A → Option A
+only-if (yes _) a = some a
+only-if (no _) a = none
+
 module _ (O : Ops) where
   open Ops O using (K, Sym, 𝟘, 𝟙, _+_, _*_, inv, zero?, null, _⊕_, _•_, null?)
 
@@ -108,13 +113,17 @@ module _ {O : Ops} where
   place (free S) e = place-free (zero? (e .0)) (place S (e .1)) (e .1) S
   place (pivot {n} r S) e = pivot (axpy O n (at O n (e .1) r) (e .1) r) (place S (e .1))
 
-  -- Add an equation: `none` is a contradiction.
-  unfoldable pub settle : {n : ℕ} → State O n → Row O n → Option (State O n)
-  settle {n} S e =
-      ite (zero? (lead O n e))
-      (ite (null? (symbol O n e)) (some S) none)
-      (some (place S (scale O n (inv (lead O n e)) e)))
+  -- What becomes of a reduced equation: implied where nothing is left of it, a contradiction, `none`, where only a symbol is left,
+  -- else a new row, scaled to lead with one.
+  unfoldable pub settle-by : {n : ℕ} {a : K} {v : Sym} → Dec (a ≡ 𝟘) → Dec (v ≡ null) → State O n → Row O n → Option (State O n)
+  settle-by (yes _) (yes _) S e = some S
+  settle-by (yes _) (no _) S e = none
+  settle-by {n} (no _) _ S e = some (place S (scale O n (inv (lead O n e)) e))
 
+  unfoldable pub settle : {n : ℕ} → State O n → Row O n → Option (State O n)
+  settle {n} S e = settle-by (zero? (lead O n e)) (null? (symbol O n e)) S e
+
+  -- Add an equation.
   unfoldable pub insert : {n : ℕ} → State O n → Row O n → Option (State O n)
   insert S e = settle S (reduce S e)
 
@@ -123,7 +132,7 @@ module _ {O : Ops} where
   known end i = none
   known (free S) zero = none
   known (free S) (suc i) = known S i
-  known (pivot {n} r S) zero = ite (zero? (lead O n r)) (some (symbol O n r)) none
+  known (pivot {n} r S) zero = only-if (zero? (lead O n r)) (symbol O n r)
   known (pivot r S) (suc i) = known S i
 
   -- The window moves on by one position: the oldest leaves with its row, which alone can mention it, and a free one joins.
