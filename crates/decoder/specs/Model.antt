@@ -6,6 +6,7 @@ use mathlib.Core.Logic.{ite}
 use Prim.Native.Nat.{ℕ, zero, suc}
 use Rattle.decoder.specs.Field.{Ops}
 
+-- Of what each position has: without the first, and with one more before it.
 abbrev pub tail : {A : Type 0} → (ℕ → A) → ℕ → A
 tail x i = x (suc i)
 
@@ -25,7 +26,7 @@ module _ (O : Ops) where
   infixl 60 _*_
   infixl 50 _⊕_
   infixr 60 _•_
-  -- A filling gives a symbol to every position; here positions count from the window's base.
+  -- A filling gives a symbol to every position. Positions count from the window's base, or from the session's start.
   abbrev pub Filling : Type 0
   Filling = ℕ → Sym
 
@@ -34,7 +35,7 @@ module _ (O : Ops) where
   Row zero = Sym
   Row (suc n) = K × Row n
 
-  -- The affine form `c · x + s`. As an equation a row says that this is null, which is `c · x ≡ s`.
+  -- The value `c · x + s` at a filling `x`. As an equation a row says that it is null, which is `c · x ≡ s`.
   unfoldable pub eval : (n : ℕ) → Row n → Filling → Sym
   eval zero e x = e
   eval (suc n) e x = e .0 • x 0 ⊕ eval n (e .1) (tail x)
@@ -66,7 +67,7 @@ module _ (O : Ops) where
   push zero e = (𝟘, e)
   push (suc n) e = (e .0, push n (e .1))
 
-  -- A window of `n` positions. At a pivot the symbol is the row's form of the positions after it.
+  -- A system over a window of `n` positions, the oldest first. At a pivot the symbol is the row's value at the positions after it.
   pub data State : ℕ → Type 0 where
     end : State 0
     free : {n : ℕ} → State n → State (suc n)
@@ -85,13 +86,13 @@ module _ {O : Ops} where
   Sat (free S) x = Sat S (tail x)
   Sat (pivot {n} r S) x = (x 0 ≡ eval O n r (tail x)) × Sat S (tail x)
 
-  -- The coefficients are zero at every pivot.
+  -- The row's coefficients are zero at every pivot.
   abbrev pub Reduced : {n : ℕ} → State O n → Row O n → Type 0
   Reduced end e = Unit {0}
   Reduced (free S) e = Reduced S (e .1)
   Reduced (pivot r S) e = (e .0 ≡ 𝟘) × Reduced S (e .1)
 
-  -- Reduced row echelon form.
+  -- Reduced row echelon form: every row's coefficients are zero at every other pivot.
   abbrev pub Rref : {n : ℕ} → State O n → Type 0
   Rref end = Unit {0}
   Rref (free S) = Rref S

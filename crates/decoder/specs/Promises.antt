@@ -9,6 +9,7 @@ use lib.Bits.{bitAnd}
 use Rattle.decoder.specs.Field.{Ops}
 use Rattle.decoder.specs.Model.{Filling, Row, eval, State, Sat, Rref, insert, known}
 use Rattle.decoder.specs.Receiver.{shift, Accepted, Packet, Satisfies, Satisfies-all, Receiver, advance-by, receive, Placed, Log, opened, run}
+use Rattle.decoder.specs.Packets.{source, Repair, repair, Combined}
 use Rattle.decoder.specs.Bytes.{Byte, byte, Coded}
 
 module _ {O : Ops} where
@@ -62,11 +63,17 @@ pub record Decoder (O : Ops) : Type 1 where
   pub known-right : {n : ℕ} (S : State O n) (i : ℕ) (v : O.Sym) → known S i ≡ some v → (x : Filling O) → Sat S x → x i ≡ v
   -- Canonical form: two reduced systems with the same fillings are equal.
   pub canonical : {n : ℕ} (S T : State O n) → Rref S → Rref T → ((x : Filling O) → Sat S x ↔ Sat T x) → S ≡ T
+  -- A source packet is satisfied exactly if its positions hold its symbols, a repair packet if each repair symbol is its combination.
+  pub source-says : (p n : ℕ) (s : ℕ → O.Sym) (f : Filling O) → Satisfies O (source O p n s) f ↔ ((i : ℕ) → i < n → f (p + i) ≡ s i)
+  pub repair-says : (p n : ℕ) (es : List (Repair O)) (f : Filling O) → Satisfies O (repair O p n es) f ↔ Combined O n es (shift p f)
+  -- Two receivers with one base whose accepted packets have the same fillings, in whatever order they came, know the same.
+  pub order : {w : ℕ} (A B : List (Packet O)) (r s : Receiver O w) → Faithful A r → Faithful B s → r .base ≡ s .base
+      → ((f : Filling O) → Satisfies-all O A f ↔ Satisfies-all O B f) → (i : ℕ) → known (r .window) i ≡ known (s .window) i
   -- Demand 3, after every list of calls.
   pub demand-3 : {w : ℕ} {Call : Type 0} (locate : Call → ℕ → Option (Packet O)) → Locates w locate
       → (cs : List Call) → Demand-3 (run locate (opened O w) cs)
 
--- At the field of bytes, for symbols of any length but zero and windows of any width.
+-- All this at the field of bytes, for symbols of any length but zero and windows of any width.
 abbrev pub Byte-decoder : Type 1
 Byte-decoder = (E : ℕ) → 0 < E → Decoder (Coded E)
 
