@@ -5,7 +5,7 @@ use mathlib.Core.Option.{Option, none, some, Option·some-ne-none}
 use mathlib.Core.List.{List}
 use Prim.Native.Nat.{ℕ, _<_}
 use native.Mathlib.Omega.{arith}
-use Rattle.field.specs.Gf256.{inverse}
+use lib.Bits.{xor-lt, and-lt}
 use Rattle.field.proofs.Fields.{product-binary}
 use Rattle.field.proofs.Laws.{inverse-is, product-one}
 use Rattle.decoder.specs.Field.{Ops, Laws}
@@ -14,7 +14,7 @@ use Rattle.decoder.specs.Receiver.{Accepted, Packet, opened, run}
 use Rattle.decoder.specs.Bytes.{byte, bytes, Coded}
 use Rattle.decoder.specs.Promises.{Locates, Demand-3, Decoder, Byte-decoder, Scheme-9}
 use Rattle.decoder.proofs.Symbols as symbols
-use Rattle.decoder.proofs.Bytes.{bytes-laws, laws}
+use Rattle.decoder.proofs.Bytes.{bytes-laws, laws, byte-sum-number, byte-product-number}
 use Rattle.decoder.proofs.Elimination as elimination
 use Rattle.decoder.proofs.Canonical as canonical
 use Rattle.decoder.proofs.History as history
@@ -69,10 +69,11 @@ pub byte-demand-3 : (E : ℕ) → 0 < E → {w : ℕ} {Call : Type 0} (locate : 
     → (cs : List Call) → Demand-3 (run locate (opened (Coded E) w) cs)
 byte-demand-3 E h = byte-decoder E h .demand-3
 
-pub scheme-9 : Scheme-9
-scheme-9 = record {
-  product = λ E c d x y. ap byte (product-binary (c .0) (d .0) x y);
-  inverse = λ E. ap byte (inverse-is 1 1 (omega arith) (product-one 1 (omega arith)));
-  keeps = λ E v. symbols.one-times bytes bytes-laws E v;
-  drops = λ E v. symbols.zero-times bytes bytes-laws E v;
+pub scheme-9 : (E : ℕ) → Scheme-9 E
+scheme-9 E = record {
+  sum = λ c d x y. (byte-sum-number c d, xor-lt 1 (c .0) (d .0) x y);
+  product = λ c d x y. (byte-product-number c d ∙ product-binary (c .0) (d .0) x y, and-lt 1 (c .0) (d .0) x y);
+  inverse = ap byte (inverse-is 1 1 (omega arith) (product-one 1 (omega arith)));
+  keeps = symbols.one-times bytes bytes-laws E;
+  drops = symbols.zero-times bytes bytes-laws E;
 }

@@ -5,7 +5,7 @@ use mathlib.Core.Logic.{_≢_, _↔_}
 use mathlib.Core.Option.{Option, none, some}
 use mathlib.Core.List.{List}
 use Prim.Native.Nat.{ℕ, _+_, _≤_, _<_}
-use lib.Bits.{bitAnd}
+use lib.Bits.{bitXor, bitAnd}
 use Rattle.decoder.specs.Field.{Ops}
 use Rattle.decoder.specs.Model.{Filling, Row, eval, State, Sat, Rref, insert, known}
 use Rattle.decoder.specs.Receiver.{shift, Accepted, Packet, Satisfies, Satisfies-all, Receiver, advance-by, receive, Placed, Log, opened, run}
@@ -77,9 +77,11 @@ pub record Decoder (O : Ops) : Type 1 where
 abbrev pub Byte-decoder : Type 1
 Byte-decoder = (E : ℕ) → 0 < E → Decoder (Coded E)
 
--- Scheme 9 in the field of bytes: products of the coefficients 0 and 1 are AND, the inverse of 1 is 1, and a coefficient keeps a whole symbol or drops it.
-pub record Scheme-9 : Type 0 where
-  pub product : (E : ℕ) (c d : Byte) → c .0 < 2 → d .0 < 2 → Coded E ._*_ c d ≡ byte (bitAnd (c .0) (d .0))
-  pub inverse : (E : ℕ) → Coded E .inv (byte 1) ≡ byte 1
-  pub keeps : (E : ℕ) (v : Coded E .Sym) → Coded E ._•_ (byte 1) v ≡ v
-  pub drops : (E : ℕ) (v : Coded E .Sym) → Coded E ._•_ (byte 0) v ≡ Coded E .null
+-- Scheme 9 in the field of bytes: sums of the coefficients 0 and 1 are XOR and products AND, so 0 or 1 again, the inverse of 1 is 1,
+-- and a coefficient keeps a whole symbol or drops it.
+pub record Scheme-9 (E : ℕ) : Type 0 where
+  pub sum : (c d : Byte) → c .0 < 2 → d .0 < 2 → (Coded E ._+_ c d .0 ≡ bitXor (c .0) (d .0)) × (bitXor (c .0) (d .0) < 2)
+  pub product : (c d : Byte) → c .0 < 2 → d .0 < 2 → (Coded E ._*_ c d .0 ≡ bitAnd (c .0) (d .0)) × (bitAnd (c .0) (d .0) < 2)
+  pub inverse : Coded E .inv (byte 1) ≡ byte 1
+  pub keeps : (v : Coded E .Sym) → Coded E ._•_ (byte 1) v ≡ v
+  pub drops : (v : Coded E .Sym) → Coded E ._•_ (byte 0) v ≡ Coded E .null
