@@ -24,8 +24,7 @@ shift-at zero i x = rw zero-add
 shift-at (suc d) i x = rw suc-add (shift-at d i (tail x))
 
 module _ {O : Ops} (L : Laws O) where
-  open Ops O using (K, Sym, 𝟘, 𝟙, _⊕_, _•_, null)
-  open Laws L using (𝟘-•)
+  open Ops O using (Sym, _⊕_, _•_, null)
 
   infixl 50 _⊕_
   infixr 60 _•_
