@@ -18,7 +18,7 @@ use Rattle.field.proofs.Derived.{product-sum-right}
 use Rattle.field.proofs.Laws.{product-inverse}
 use Rattle.memory.specs.Number.{Bytes}
 use Rattle.memory.proofs.Parts.{row-fits, length-part}
-use Rattle.rows.specs.Rows.{scaled}
+use Rattle.rows.specs.Rows.{addScaled, scaled}
 use Rattle.rows.specs.Combination.{dot, combined, coefficient, shifted, digit, rowAt}
 use Rattle.rows.proofs.Sums.{length-addScaled, getD-addScaled, length-scaled, getD-scaled, addScaled-zero, scaled-scaled, scaled-one}
 use Rattle.rows.proofs.Dot.{dot-halves}
@@ -29,6 +29,12 @@ pub length-combined : (row : ℕ → List ℕ) (c : ℕ → ℕ) (n : ℕ) (d : 
 unfolding combined
 length-combined row c zero d = refl
 length-combined row c (suc n) d = length-addScaled (c n) (combined c row n d) (row n) ∙ length-combined row c n d
+
+-- one more row of a memory: a turn of a loop that adds them in order
+pub row-added : (c : ℕ → ℕ) (m : List ℕ) (a s k : ℕ) (d₀ d r : List ℕ) → d ≡ combined c (rowAt m a s (length d₀)) k d₀ → length d ≡ length d₀
+    → r ≡ addScaled (c k) d (rowAt m a s (length d) k) → r ≡ combined c (rowAt m a s (length d₀)) (k + 1) d₀
+unfolding combined
+row-added c m a s k d₀ d r p q e = rw (e, q, p, add-one)
 
 -- no row is added
 combined-none : (row : ℕ → List ℕ) (c : ℕ → ℕ) (n : ℕ) (d : List ℕ) → ((k : ℕ) → c k ≡ 0) → combined c row n d ≡ d
