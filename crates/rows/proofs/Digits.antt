@@ -12,10 +12,7 @@ use lib.Seq.{ext-getD}
 use lib.Dec.{lit<}
 use Rattle.field.specs.Gf256.{product, power, inverse}
 use Rattle.field.proofs.Xor.{xor-assoc}
-use Rattle.field.specs.Field.{gf256}
-use Rattle.field.proofs.Fields.{gf256-laws}
-use Rattle.field.proofs.Derived.{product-sum-right}
-use Rattle.field.proofs.Laws.{product-inverse}
+use Rattle.field.proofs.Laws.{product-sum-right, product-inverse}
 use Rattle.memory.specs.Number.{Bytes}
 use Rattle.memory.proofs.Parts.{row-fits, length-part}
 use Rattle.rows.specs.Rows.{addScaled, scaled}
@@ -83,7 +80,7 @@ module _ (row : ℕ → List ℕ) (l n : ℕ) (long : (k : ℕ) → k < n → l 
       let half-dot : ℕ = dot (λ k. c k / 2) x n in
       getD-combined row l (λ k. c k % 2) n long (scaled 2 half) ls i g
       ∙ ap (λ (z : ℕ). bitXor z odd)
-      (getD-scaled 2 half i (omega arith) ∙ ap (product 2) (getD-combined row l (λ k. c k / 2) n long d e i g) ∙ product-sum-right gf256 gf256-laws 2 y half-dot)
+      (getD-scaled 2 half i (omega arith) ∙ ap (product 2) (getD-combined row l (λ k. c k / 2) n long d e i g) ∙ product-sum-right 2 y half-dot)
       ∙ xor-assoc (product 2 y) (product 2 half-dot) odd
       ∙ ap₂ bitXor (sym (getD-scaled 2 d i (omega arith))) (xor-comm (product 2 half-dot) odd ∙ dot-halves c x n)
       ∙ sym (getD-combined row l c n long (scaled 2 d) ld i g))
@@ -117,10 +114,12 @@ pub scaled-start : (d : List ℕ) → Bytes d → scaled (power 0) d ≡ d
 unfolding power
 scaled-start d h = scaled-one d h
 
-pub power-8 : power 8 ≡ 29
-unfolding power product
-power-8 = refl
-
--- what was divided by 2^8 comes back
-pub scaled-back : (d : List ℕ) → Bytes d → scaled (power 8) (scaled (inverse 29) d) ≡ d
-scaled-back d h = scaled-scaled (power 8) (inverse 29) d ∙ ap (λ (k : ℕ). scaled k d) (ap (λ (x : ℕ). product x (inverse 29)) power-8 ∙ product-inverse 29 (lit< tt) (lit< tt)) ∙ scaled-one d h
+-- what was divided by 2^8 = 2 * 128 comes back
+pub scaled-back : (d : List ℕ) → Bytes d → scaled (power 8) (scaled (inverse (product 2 128)) d) ≡ d
+scaled-back d h =
+    let e : product 2 128 ≡ 29 = unfold product in refl in
+    let p : power 8 ≡ product 2 128 = unfold power product in refl in
+    scaled-scaled (power 8) (inverse (product 2 128)) d
+    ∙ ap (λ (k : ℕ). scaled k d)
+    (ap (λ (x : ℕ). product x (inverse (product 2 128))) p ∙ product-inverse (product 2 128) (omega arith) (omega arith))
+    ∙ scaled-one d h

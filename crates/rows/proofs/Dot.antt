@@ -6,12 +6,9 @@ use native.Mathlib.Omega.{arith}
 use lib.Bits.{bitXor, xor-zero-r, xor-comm}
 use Rattle.field.specs.Gf256.{product}
 use Rattle.field.proofs.Xor.{xor-swap, xor-assoc, split-digit}
-use Rattle.field.specs.Field.{gf256}
-use Rattle.field.proofs.Fields.{gf256-laws}
-use Rattle.field.proofs.Derived.{product-zero-right, product-sum-right}
-use Rattle.field.proofs.Laws.{product-comm, product-assoc, product-sum}
+use Rattle.field.proofs.Laws.{product-comm, product-assoc, product-sum, product-zero-right, product-sum-right}
 use Rattle.rows.specs.Combination.{dot}
-use Rattle.rows.proofs.Product.{product-double}
+use Rattle.field.proofs.Linear.{product-double}
 
 -- it depends on the terms alone
 pub dot-same : (c x d y : ℕ → ℕ) (n : ℕ) → ((k : ℕ) → k < n → c k ≡ d k) → ((k : ℕ) → k < n → x k ≡ y k) → dot c x n ≡ dot d y n
@@ -54,11 +51,11 @@ halves c x =
 
 -- the same of all terms
 pub dot-halves : (c x : ℕ → ℕ) (n : ℕ) → bitXor (dot (λ k. c k % 2) x n) (product 2 (dot (λ k. c k / 2) x n)) ≡ dot c x n
-dot-halves c x zero = product-zero-right gf256 gf256-laws 2
+dot-halves c x zero = product-zero-right 2
 dot-halves c x (suc n) =
     let o = dot (λ k. c k % 2) x n in
     let h = dot (λ k. c k / 2) x n in
     let a = product (c n % 2) (x n) in
     let b = product (c n / 2) (x n) in
-    ap (bitXor (bitXor o a)) (product-sum-right gf256 gf256-laws 2 h b) ∙ xor-swap o a (product 2 h) (product 2 b)
+    ap (bitXor (bitXor o a)) (product-sum-right 2 h b) ∙ xor-swap o a (product 2 h) (product 2 b)
     ∙ ap₂ bitXor (dot-halves c x n) (halves (c n) (x n))

@@ -1,4 +1,4 @@
--- A loop that adds one stretch of a memory, times c, to another: after i turns the first i bytes of it are those of the sum.
+-- The loops of the row operations, one turn at a time: after i turns the first i bytes are those of the result.
 use mathlib.Core.Path.{_≡_, refl, sym, ap, ap₂, _∙_}
 use Prim.Native.Nat.{ℕ, _+_, _≤_, _<_}
 use native.Mathlib.Omega.{arith}
@@ -9,8 +9,43 @@ use Rattle.field.specs.Gf256.{product}
 use Rattle.memory.specs.Part.{part, splice, Apart}
 use Rattle.memory.proofs.Parts.{length-part, length-splice, splice-part, getD-part, getD-within, getD-apart, set-splice}
 use Rattle.memory.proofs.Loop.{turned, turned-length, turned-rest, turn, turned-all}
-use Rattle.rows.specs.Rows.{addScaled}
-use Rattle.rows.proofs.Sums.{length-addScaled, getD-addScaled, addScaled-zero}
+use Rattle.rows.specs.Rows.{addScaled, scaled}
+use Rattle.rows.proofs.Sums.{length-addScaled, getD-addScaled, addScaled-zero, length-scaled, getD-scaled}
+
+-- ---- a row times c, added to a row
+
+abbrev pub summed : (c : ℕ) (d s : List ℕ) → ℕ → List ℕ
+summed c d s = turned d (addScaled c d s)
+
+-- a turn's store
+pub summed-turn : (c : ℕ) (d s : List ℕ) (i : ℕ) → i < length d → length d ≡ length s
+    → set (summed c d s i) i (bitXor (getD (summed c d s i) i 0) (product c (getD s i 0))) ≡ summed c d s (i + 1)
+summed-turn c d s i h e =
+    let r = addScaled c d s in
+    ap (λ (x : ℕ). set (turned d r i) i (bitXor x (product c (getD s i 0)))) (turned-rest d r i)
+    ∙ ap (set (turned d r i) i) (sym (getD-addScaled c d s i h (omega arith)))
+    ∙ turn d r i h (omega (arith, length-addScaled c d s))
+
+pub summed-end : (c : ℕ) (d s : List ℕ) (i : ℕ) → length d ≤ i → summed c d s i ≡ addScaled c d s
+summed-end c d s i h = turned-all d (addScaled c d s) i (length-addScaled c d s) h
+
+-- ---- a row times c
+
+abbrev pub multiplied : (c : ℕ) (d : List ℕ) → ℕ → List ℕ
+multiplied c d = turned d (scaled c d)
+
+-- a turn's store
+pub multiplied-turn : (c : ℕ) (d : List ℕ) (i : ℕ) → i < length d
+    → set (multiplied c d i) i (product c (getD (multiplied c d i) i 0)) ≡ multiplied c d (i + 1)
+multiplied-turn c d i h =
+    let r = scaled c d in
+    ap (λ (x : ℕ). set (turned d r i) i (product c x)) (turned-rest d r i) ∙ ap (set (turned d r i) i) (sym (getD-scaled c d i h))
+    ∙ turn d r i h (omega (arith, length-scaled c d))
+
+pub multiplied-end : (c : ℕ) (d : List ℕ) (i : ℕ) → length d ≤ i → multiplied c d i ≡ scaled c d
+multiplied-end c d i h = turned-all d (scaled c d) i (length-scaled c d) h
+
+-- ---- one stretch of a memory times c, added to another
 
 -- the memory after i turns
 abbrev pub within : (c a b n : ℕ) (m : List ℕ) → ℕ → List ℕ
