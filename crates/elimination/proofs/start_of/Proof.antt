@@ -9,31 +9,29 @@ use Rattle.elimination.proofs.start_of.Tie as tie
 use Rattle.elimination.proofs.start_of.Reads as reads
 use Rattle.elimination.proofs.start_of.Lts as lts
 
--- src/lib.rt:16:15
 add-result : tie.Need-add-result
 add-result c = search needs
 
--- src/lib.rt:16:15
 add-result-2 : tie.Need-add-result-2
 add-result-2 c = search needs
 
--- src/lib.rt:16:10
 mul-result : tie.Need-mul-result
 mul-result c =
-    let a = c .args in
-    omega (arith, row-fits (a .w) (stride (a .w) (a .e)) (a .r) (omega arith), rows-small (a .w) (a .e) (omega arith) (omega arith))
+    let a = c .before .args in
+    let s = a .shape in
+    omega (arith, row-fits (s .width) (stride (s .width) (s .size)) (a .r) (omega arith), rows-small (s .width) (s .size) (omega arith) (omega arith))
 
--- src/lib.rt:16:5
 add-result-3 : tie.Need-add-result-3
 add-result-3 c =
-    let a = c .args in
-    omega (arith, row-fits (a .w) (stride (a .w) (a .e)) (a .r) (omega arith), rows-small (a .w) (a .e) (omega arith) (omega arith))
+    let a = c .before .args in
+    let s = a .shape in
+    omega (arith, row-fits (s .width) (stride (s .width) (s .size)) (a .r) (omega arith), rows-small (s .width) (s .size) (omega arith) (omega arith))
 
--- src/lib.rt:12:1
 returns : tie.Need-returns
 returns c =
-    let a = c .args in
-    omega (arith, row-fits (a .w) (stride (a .w) (a .e)) (a .r) (omega arith), rows-small (a .w) (a .e) (omega arith) (omega arith))
+    let a = c .before .args in
+    let s = a .shape in
+    record { start = omega arith; end = omega (arith, row-fits (s .width) (stride (s .width) (s .size)) (a .r) (omega arith)) }
 
 pub start-of-spec : {M : Type 1} → statement M
 start-of-spec = tie.close (tie.spec add-result add-result-2 mul-result add-result-3 returns)
