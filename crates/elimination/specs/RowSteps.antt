@@ -15,10 +15,11 @@ use Rattle.elimination.specs.Bytes.{Coded}
 use Rattle.elimination.specs.Window.{stride, place, row, flag, inUse, line, Alone, Flagged, Flags, flagged, Window, Kept}
 use Rattle.elimination.specs.Packet.{spelled, PivotMarked}
 
--- The row `r` begins at `at`, and ends within the rows.
+-- The row `r` of `w + 1` begins at `at`.
 pub record RowAt (w E r at : ℕ) : Type 0 where
   pub start : at ≡ place w E r
-  pub end : at + stride w E ≤ place w E w
+  pub end : at + stride w E ≤ place w E (w + 1)
+  pub small : at ≤ place 255 1500 255
 
 -- Every byte from `a` on and before `z` is zero.
 abbrev pub Zero-from : (a z : ℕ) → List ℕ → Type 0

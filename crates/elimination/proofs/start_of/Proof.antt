@@ -1,8 +1,9 @@
 -- `elimination::start_of` meets its contract.
+use Prim.Native.Nat.{_+_}
 use native.Mathlib.Omega.{arith}
 use Rattle.memory.proofs.Parts.{row-fits}
 use Rattle.elimination.specs.Window.{stride}
-use Rattle.elimination.proofs.Rows.{rows-small}
+use Rattle.elimination.proofs.Rows.{small-row}
 use borrow.Author.Needs.{needs}
 use Rattle.elimination.proofs.start_of.Statement.{statement}
 use Rattle.elimination.proofs.start_of.Tie as tie
@@ -16,22 +17,20 @@ add-result-2 : tie.Need-add-result-2
 add-result-2 c = search needs
 
 mul-result : tie.Need-mul-result
-mul-result c =
-    let a = c .before .args in
-    let s = a .shape in
-    omega (arith, row-fits (s .width) (stride (s .width) (s .size)) (a .r) (omega arith), rows-small (s .width) (s .size) (omega arith) (omega arith))
+mul-result c = let a = c .before .args in omega (arith, small-row (a .shape .width) (a .shape .size) (a .r) (omega arith) (omega arith))
 
 add-result-3 : tie.Need-add-result-3
-add-result-3 c =
-    let a = c .before .args in
-    let s = a .shape in
-    omega (arith, row-fits (s .width) (stride (s .width) (s .size)) (a .r) (omega arith), rows-small (s .width) (s .size) (omega arith) (omega arith))
+add-result-3 c = let a = c .before .args in omega (arith, small-row (a .shape .width) (a .shape .size) (a .r) (omega arith) (omega arith))
 
 returns : tie.Need-returns
 returns c =
     let a = c .before .args in
     let s = a .shape in
-    record { start = omega arith; end = omega (arith, row-fits (s .width) (stride (s .width) (s .size)) (a .r) (omega arith)) }
+    record {
+      start = omega arith;
+      end = omega (arith, row-fits (s .width + 1) (stride (s .width) (s .size)) (a .r) (omega arith));
+      small = omega (arith, small-row (s .width) (s .size) (a .r) (omega arith) (omega arith));
+    }
 
 pub start-of-spec : {M : Type 1} → statement M
 start-of-spec = tie.close (tie.spec add-result add-result-2 mul-result add-result-3 returns)

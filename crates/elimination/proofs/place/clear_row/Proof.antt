@@ -1,5 +1,6 @@
 use native.Mathlib.Omega.{arith}
 use Rattle.elimination.proofs.Placing.{cleared-zero, cleared-unused, cleared-row}
+use Rattle.elimination.proofs.Rows.{row-end}
 use borrow.Author.Needs.{needs}
 use Rattle.elimination.proofs.place.clear_row.Statement.{statement}
 use Rattle.elimination.proofs.place.clear_row.Tie as tie
@@ -15,11 +16,15 @@ start-of-requires c κs = search needs
 
 -- src/place.rt:99:17
 add-c : tie.Need-add-c
-add-c c = search needs
+add-c c =
+    let a = c .before .before .before .args in
+    omega (arith, row-end (a .shape .width) (a .shape .size) (a .q) (omega arith))
 
 -- src/place.rt:99:13
 slice-read-c : tie.Need-slice-read-c
-slice-read-c c = search needs
+slice-read-c c =
+    let a = c .before .before .before .before .args in
+    omega (arith, row-end (a .shape .width) (a .shape .size) (a .q) (omega arith))
 
 -- src/place.rt:101:9
 returns : tie.Need-returns
@@ -36,11 +41,15 @@ add-n c = search needs
 
 -- src/place.rt:104:12
 add-if2 : tie.Need-add-if2
-add-if2 c = search needs
+add-if2 c =
+    let a = c .before .before .before .before .before .before .args in
+    omega (arith, row-end (a .shape .width) (a .shape .size) (a .q) (omega arith))
 
 -- src/place.rt:104:8
 slice-read-if2 : tie.Need-slice-read-if2
-slice-read-if2 c = search needs
+slice-read-if2 c =
+    let a = c .before .before .before .before .before .before .before .args in
+    omega (arith, row-end (a .shape .width) (a .shape .size) (a .q) (omega arith))
 
 -- src/place.rt:105:9
 returns-2 : tie.Need-returns-2
@@ -52,7 +61,9 @@ returns-2 c =
 
 -- src/place.rt:107:5
 add-part-requires : tie.Need-add-part-requires
-add-part-requires c κs = search needs
+add-part-requires c κs =
+    let a = c .before .before .before .before .before .before .before .before .before .args in
+    (omega (arith, row-end (a .shape .width) (a .shape .size) (a .q) (omega arith)), search needs)
 
 -- src/place.rt:108:5
 mark-requires : tie.Need-mark-requires

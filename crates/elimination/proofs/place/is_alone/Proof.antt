@@ -1,5 +1,6 @@
 use native.Mathlib.Omega.{arith}
 use Rattle.elimination.proofs.Marking.{tested-alone, tested-other}
+use Rattle.elimination.proofs.Rows.{row-end}
 use borrow.Author.Needs.{needs}
 use Rattle.elimination.proofs.place.is_alone.Statement.{statement}
 use Rattle.elimination.proofs.place.is_alone.Tie as tie
@@ -14,11 +15,15 @@ start-of-requires c κs = search needs
 
 -- src/place.rt:78:34
 add-or-all : tie.Need-add-or-all
-add-or-all c = search needs
+add-or-all c =
+    let a = c .before .before .args in
+    omega (arith, row-end (a .shape .width) (a .shape .size) (a .r) (omega arith))
 
 -- src/place.rt:78:9
 or-all-requires : tie.Need-or-all-requires
-or-all-requires c κs = search needs
+or-all-requires c κs =
+    let a = c .before .before .args in
+    (search needs, omega (arith, row-end (a .shape .width) (a .shape .size) (a .r) (omega arith)))
 
 -- src/place.rt:79:35
 add-or-all-2 : tie.Need-add-or-all-2
@@ -26,15 +31,21 @@ add-or-all-2 c = search needs
 
 -- src/place.rt:79:29
 add-or-all-3 : tie.Need-add-or-all-3
-add-or-all-3 c = search needs
+add-or-all-3 c =
+    let a = c .before .before .before .args in
+    omega (arith, row-end (a .shape .width) (a .shape .size) (a .r) (omega arith))
 
 -- src/place.rt:79:43
 add-or-all-4 : tie.Need-add-or-all-4
-add-or-all-4 c = search needs
+add-or-all-4 c =
+    let a = c .before .before .before .before .args in
+    omega (arith, row-end (a .shape .width) (a .shape .size) (a .r) (omega arith))
 
 -- src/place.rt:79:9
 or-all-requires-2 : tie.Need-or-all-requires-2
-or-all-requires-2 c κs = search needs
+or-all-requires-2 c κs =
+    let a = c .before .before .before .before .args in
+    (search needs, omega (arith, row-end (a .shape .width) (a .shape .size) (a .r) (omega arith)))
 
 -- src/place.rt:73:1
 returns : tie.Need-returns

@@ -6,6 +6,7 @@ use lib.ListN.{getD}
 use lib.Dec.{eqb}
 use Rattle.elimination.proofs.Flags.{flag-at}
 use Rattle.elimination.proofs.Showing.{flag-known}
+use Rattle.elimination.proofs.Rows.{row-end}
 use borrow.Author.Needs.{needs}
 use Rattle.elimination.proofs.place.is_known.Statement.{statement}
 use Rattle.elimination.proofs.place.is_known.Tie as tie
@@ -19,10 +20,14 @@ add-n : tie.Need-add-n
 add-n c = search needs
 
 add-result : tie.Need-add-result
-add-result c = search needs
+add-result c =
+    let a = c .before .before .before .args in
+    omega (arith, row-end (a .shape .width) (a .shape .size) (a .r) (omega arith))
 
 shared-slice-read-result : tie.Need-shared-slice-read-result
-shared-slice-read-result c = search needs
+shared-slice-read-result c =
+    let a = c .before .before .before .before .args in
+    omega (arith, row-end (a .shape .width) (a .shape .size) (a .r) (omega arith))
 
 returns : tie.Need-returns
 returns c =

@@ -7,6 +7,7 @@ use Rattle.elimination.specs.Window.{row}
 use Rattle.elimination.specs.RowSteps.{Settled}
 use Rattle.elimination.proofs.Flags.{flag-at}
 use Rattle.elimination.proofs.Joining.{settled-line, without-flags}
+use Rattle.elimination.proofs.Rows.{row-end}
 use borrow.Author.Needs.{needs}
 use Rattle.elimination.proofs.place.place_kept.Statement.{statement}
 use Rattle.elimination.proofs.place.place_kept.Tie as tie
@@ -26,11 +27,15 @@ add-n c = search needs
 
 -- src/place.rt:143:18
 add-r : tie.Need-add-r
-add-r c = search needs
+add-r c =
+    let a = c .before .before .before .before .args in
+    omega (arith, row-end (a .shape .width) (a .shape .size) (a .k) (omega arith))
 
 -- src/place.rt:143:13
 shared-slice-read-r : tie.Need-shared-slice-read-r
-shared-slice-read-r c = search needs
+shared-slice-read-r c =
+    let a = c .before .before .before .before .before .args in
+    omega (arith, row-end (a .shape .width) (a .shape .size) (a .k) (omega arith))
 
 -- src/place.rt:143:13
 cast-r : tie.Need-cast-r
@@ -40,7 +45,9 @@ cast-r c =
 
 -- src/place.rt:144:16
 part-requires : tie.Need-part-requires
-part-requires c κs = search needs
+part-requires c κs =
+    let a = c .before .before .before .before .before .before .args in
+    omega (arith, row-end (a .shape .width) (a .shape .size) (a .k) (omega arith))
 
 -- src/place.rt:144:5
 place-requires : tie.Need-place-requires
@@ -52,7 +59,7 @@ place-requires c κs =
     let at = c .before .before .before .before .start-of in
     let column = flag-at w E (a .k) (a .work .now) ∙ ap (λ k. getD (a .work .now) (k + (w + E)) 0) (sym (at .ensures .start)) in (
       start .pre .0,
-      ap length (c .part .ensures .bytes) ∙ length-part (at .result) (w + E) (a .work .now) (omega arith),
+      ap length (c .part .ensures .bytes) ∙ length-part (at .result) (w + E) (a .work .now) (omega (arith, row-end w E (a .k) (omega arith))),
       subst (λ f. f < w) column (start .pre .1 .column),
     )
 

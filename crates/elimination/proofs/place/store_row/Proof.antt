@@ -4,6 +4,7 @@ use native.Mathlib.Omega.{arith}
 use Rattle.memory.specs.Part.{splice}
 use Rattle.memory.proofs.Parts.{whole}
 use Rattle.elimination.proofs.Placing.{stored}
+use Rattle.elimination.proofs.Rows.{row-end}
 use borrow.Author.Needs.{needs}
 use Rattle.elimination.proofs.place.store_row.Statement.{statement}
 use Rattle.elimination.proofs.place.store_row.Tie as tie
@@ -23,7 +24,9 @@ add-n c = search needs
 
 -- src/place.rt:118:5
 copy-part-requires : tie.Need-copy-part-requires
-copy-part-requires c κs = search needs
+copy-part-requires c κs =
+    let a = c .before .before .before .before .before .args in
+    (omega (arith, row-end (a .shape .width) (a .shape .size) (a .r) (omega arith)), search needs)
 
 -- src/place.rt:119:5
 mark-requires : tie.Need-mark-requires
