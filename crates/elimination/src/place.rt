@@ -4,10 +4,10 @@ ghost use mathlib.Core.Path.{_≡_};
 ghost use mathlib.Core.Logic.{_↔_};
 ghost use Prim.Native.Nat.{_+_, _<_, _≤_};
 ghost use lib.ListN.{length};
-ghost use Rattle.elimination.specs.Window.{flagged, Fits};
+ghost use Rattle.elimination.specs.Window.{Fits};
 ghost use Rattle.elimination.specs.Place.{Emptied, Moved, Known, Committed};
 ghost use Rattle.elimination.specs.Packet.{Works};
-ghost use Rattle.elimination.specs.RowSteps.{Zero-from, Tested, Marked, ClearedRow, Stored, Settled, KeptRow, PlacedKept, Joined};
+ghost use Rattle.elimination.specs.RowSteps.{flagged, Zero-from, Tested, Marked, ClearedRow, Stored, Settled, KeptRow, PlacedKept, Joined};
 use super::Shape;
 use field::Gf256;
 
