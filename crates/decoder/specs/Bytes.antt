@@ -77,12 +77,15 @@ module _ (mul : ℕ → ℕ → ℕ) (inverse : ℕ → ℕ) (G : Gf mul inverse
 
   pub bytes-laws : Laws bytes
   bytes-laws = record {
+    +-comm = λ a b. byte-path (xor-comm (a .0) (b .0));
+    +-assoc = λ a b c. byte-path (G .xor-assoc (a .0) (b .0) (c .0));
     +-𝟘 = λ a. byte-path (xor-zero-r (a .0));
     +-self = λ a. byte-path (xor-self (a .0));
     *-comm = product-comm;
     *-assoc = λ a b c. byte-path (G .mul-assoc (a .0) (b .0) (c .0) (a .1) (b .1) (c .1));
     *-𝟘 = λ a. byte-path (G .mul-zero (a .0) (a .1));
     *-𝟙 = λ a. byte-path (G .mul-one (a .0) (a .1));
+    *-+ = product-plus;
     *-inv = λ a h. byte-path (G .mul-inverse (a .0) (a .1) (λ z. h (byte-path z)));
     𝟙≢𝟘 = λ e. suc-ne-zero 0 (ap (λ t. t .0) e);
     ⊕-comm = λ a b. byte-path (xor-comm (a .0) (b .0));

@@ -40,7 +40,7 @@ module _ {O : Ops} (L : Laws O) where
   -- In the field, what has the sum zero is the same.
   module _ (same : (a b : K) → a + b ≡ 𝟘 → a ≡ b) where
     -- Two reduced forms that agree on every filling are one.
-    alike : {n : ℕ} (S : State O n) (e f : Row O n) → Reduced S e → Reduced S f → ((x : Filling O) → Sat S x → eval O n e x ≡ eval O n f x) → e ≡ f
+    pub alike : {n : ℕ} (S : State O n) (e f : Row O n) → Reduced S e → Reduced S f → ((x : Filling O) → Sat S x → eval O n e x ≡ eval O n f x) → e ≡ f
     unfolding eval
     alike end e f g h s = s (λ _. null) tt
     alike (free {n} S) e f g h s =

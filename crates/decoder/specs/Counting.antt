@@ -38,7 +38,7 @@ module _ {A : Type 0} where
 
 module _ {O : Ops} (L : Laws O) where
   -- What is known stays known when equations are added.
-  known-grows : {n : ℕ} (S S′ : State O n) → Rref S′ → ((x : Filling O) → Sat S′ x → Sat S x) → (i : ℕ) → known S′ i ≡ none → known S i ≡ none
+  pub known-grows : {n : ℕ} (S S′ : State O n) → Rref S′ → ((x : Filling O) → Sat S′ x → Sat S x) → (i : ℕ) → known S′ i ≡ none → known S i ≡ none
   known-grows {n} S S′ f s i k = go (known S i) refl
     where
       go : (o : Option (O .Sym)) → known S i ≡ o → known S i ≡ none
@@ -47,7 +47,7 @@ module _ {O : Ops} (L : Laws O) where
           let (x, y, a, b, q) = known-complete L S′ i f k in
           absurd (q (known-sound L S i v e x (s x a) ∙ sym (known-sound L S i v e y (s y b))))
 
-  count-same : {A : Type 0} (m : ℕ) (f g h : ℕ → Option A) → ((i : ℕ) → g i ≡ h i) → count-new m f g ≡ count-new m f h
+  pub count-same : {A : Type 0} (m : ℕ) (f g h : ℕ → Option A) → ((i : ℕ) → g i ≡ h i) → count-new m f g ≡ count-new m f h
   unfolding count-new
   count-same zero f g h e = refl
   count-same (suc m) f g h e = ap₂ (λ o k. is-new (f 0) o + k) (e 0) (count-same m (tail f) (tail g) (tail h) (λ i. e (suc i)))

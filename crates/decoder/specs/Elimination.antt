@@ -21,11 +21,11 @@ module _ {O : Ops} (L : Laws O) where
   unfolding eval
   eval-zero n e x z = simp (eval, z, 𝟘-•, lin.null-⊕ O L)
 
-  lead-zero : (n : ℕ) (e : Row O (suc n)) → e .0 ≡ 𝟘 → lead O (suc n) e ≡ lead O n (e .1)
+  pub lead-zero : (n : ℕ) (e : Row O (suc n)) → e .0 ≡ 𝟘 → lead O (suc n) e ≡ lead O n (e .1)
   unfolding lead
   lead-zero n e z = if-pos (zero? (e .0)) z (lead O n (e .1)) (e .0)
 
-  at-zero : (n : ℕ) (e r : Row O (suc n)) → e .0 ≡ 𝟘 → at O (suc n) e r ≡ at O n (e .1) (r .1)
+  pub at-zero : (n : ℕ) (e r : Row O (suc n)) → e .0 ≡ 𝟘 → at O (suc n) e r ≡ at O n (e .1) (r .1)
   unfolding at
   at-zero n e r z = if-pos (zero? (e .0)) z (at O n (e .1) (r .1)) (r .0)
 
@@ -69,12 +69,12 @@ module _ {O : Ops} (L : Laws O) where
 
   -- Scaling by the inverse of the leading coefficient makes it one.
 
-  nonzero-cancel : (a b : K) → a ≢ 𝟘 → inv a * b ≡ 𝟘 → b ≡ 𝟘
+  pub nonzero-cancel : (a b : K) → a ≢ 𝟘 → inv a * b ≡ 𝟘 → b ≡ 𝟘
   nonzero-cancel a b h z =
       sym (*-𝟙 b) ∙ ap (λ c. b * c) (sym (*-inv a h)) ∙ sym (*-assoc b (inv a) a)
       ∙ ap (λ c. c * a) (*-comm b (inv a) ∙ z) ∙ *-comm 𝟘 a ∙ *-𝟘 a
 
-  lead-scale : (n : ℕ) (k : K) → ((b : K) → k * b ≡ 𝟘 → b ≡ 𝟘) → (e : Row O n) → lead O n (scale O n k e) ≡ k * lead O n e
+  pub lead-scale : (n : ℕ) (k : K) → ((b : K) → k * b ≡ 𝟘 → b ≡ 𝟘) → (e : Row O n) → lead O n (scale O n k e) ≡ k * lead O n e
   unfolding lead scale
   lead-scale zero k c e = sym (*-𝟘 k)
   lead-scale (suc n) k c e = go (zero? (k * e .0)) (zero? (e .0)) (lead-scale n k c (e .1))
@@ -88,7 +88,7 @@ module _ {O : Ops} (L : Laws O) where
 
   -- A reduced equation that leads with one, stored as a row.
 
-  place-sat : {n : ℕ} (S : State O n) (e : Row O n) → Reduced S e → lead O n e ≡ 𝟙 → (x : Filling O)
+  pub place-sat : {n : ℕ} (S : State O n) (e : Row O n) → Reduced S e → lead O n e ≡ 𝟙 → (x : Filling O)
       → Sat (place S e) x ↔ (Sat S x × (eval O n e x ≡ null))
   unfolding place place-free lead eval
   place-sat end e r l x = absurd (𝟙≢𝟘 (sym l))
@@ -108,7 +108,7 @@ module _ {O : Ops} (L : Laws O) where
       )
 
   -- Its column is clear in the older rows, and they stay clear of the other pivots.
-  place-reduced : {n : ℕ} (S : State O n) (e r : Row O n) → Reduced S e → lead O n e ≡ 𝟙 → Reduced S r
+  pub place-reduced : {n : ℕ} (S : State O n) (e r : Row O n) → Reduced S e → lead O n e ≡ 𝟙 → Reduced S r
       → Reduced (place S e) (axpy O n (at O n e r) e r)
   unfolding place place-free lead at axpy
   place-reduced end e r h l g = tt
@@ -125,7 +125,7 @@ module _ {O : Ops} (L : Laws O) where
         subst (λ k. Reduced (place S (e .1)) (axpy O n k (e .1) (r .1))) (sym (at-zero n e r (h .0))) ih,
       )
 
-  place-rref : {n : ℕ} (S : State O n) (e : Row O n) → Reduced S e → lead O n e ≡ 𝟙 → Rref S → Rref (place S e)
+  pub place-rref : {n : ℕ} (S : State O n) (e : Row O n) → Reduced S e → lead O n e ≡ 𝟙 → Rref S → Rref (place S e)
   unfolding place place-free lead
   place-rref end e h l f = tt
   place-rref (free {n} S) e h l f = go (zero? (e .0)) l (λ l′. place-rref S (e .1) h l′ f)

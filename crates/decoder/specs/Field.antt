@@ -19,12 +19,15 @@ pub record Ops : Type 1 where
 
 -- The laws. `unit` is some symbol that is not null: a symbol has at least one byte.
 pub record Laws (O : Ops) : Type 0 where
+  pub +-comm : (a b : O.K) → O._+_ a b ≡ O._+_ b a
+  pub +-assoc : (a b c : O.K) → O._+_ (O._+_ a b) c ≡ O._+_ a (O._+_ b c)
   pub +-𝟘 : (a : O.K) → O._+_ a O.𝟘 ≡ a
   pub +-self : (a : O.K) → O._+_ a a ≡ O.𝟘
   pub *-comm : (a b : O.K) → O._*_ a b ≡ O._*_ b a
   pub *-assoc : (a b c : O.K) → O._*_ (O._*_ a b) c ≡ O._*_ a (O._*_ b c)
   pub *-𝟘 : (a : O.K) → O._*_ a O.𝟘 ≡ O.𝟘
   pub *-𝟙 : (a : O.K) → O._*_ a O.𝟙 ≡ a
+  pub *-+ : (a b c : O.K) → O._*_ a (O._+_ b c) ≡ O._+_ (O._*_ a b) (O._*_ a c)
   pub *-inv : (a : O.K) → a ≢ O.𝟘 → O._*_ (O.inv a) a ≡ O.𝟙
   pub 𝟙≢𝟘 : O.𝟙 ≢ O.𝟘
   pub ⊕-comm : (u v : O.Sym) → O._⊕_ u v ≡ O._⊕_ v u

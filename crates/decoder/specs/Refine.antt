@@ -85,7 +85,7 @@ module _ {O : Ops} (L : Laws O) where
   lead-none e (suc n) q h =
       if-pos (zero? (e .cells q)) (h q (omega arith) (omega arith)) _ _ ∙ lead-none e n (suc q) (λ j g l. h j (omega arith) (omega arith))
 
-  at-read : (e r : Line O) (n q p : ℕ) → Leads e q p → q ≤ p → p < q +ₙ n → at O n (read e n q) (read r n q) ≡ r .cells p
+  pub at-read : (e r : Line O) (n q p : ℕ) → Leads e q p → q ≤ p → p < q +ₙ n → at O n (read e n q) (read r n q) ≡ r .cells p
   unfolding at read
   at-read e r zero q p h g l = absurd (omega arith)
   at-read e r (suc n) q p h g l = go (ℕ-discrete q p) (λ g′. at-read e r n (suc q) p (leads-on e q p h) g′ (omega arith))

@@ -86,12 +86,15 @@ module _ (O : Ops) where
 
     pub symbols-laws : (n : ℕ) → Laws (symbols (suc n))
     symbols-laws n = record {
+      +-comm = L .+-comm;
+      +-assoc = L .+-assoc;
       +-𝟘 = L .+-𝟘;
       +-self = L .+-self;
       *-comm = L .*-comm;
       *-assoc = L .*-assoc;
       *-𝟘 = L .*-𝟘;
       *-𝟙 = L .*-𝟙;
+      *-+ = L .*-+;
       *-inv = L .*-inv;
       𝟙≢𝟘 = L .𝟙≢𝟘;
       ⊕-comm = comms (suc n);
