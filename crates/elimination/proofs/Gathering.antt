@@ -30,7 +30,7 @@ use Rattle.elimination.specs.declared.Inserted.the-variants.{Placed, Imp
 use Rattle.elimination.specs.Window.{stride, place, row, inUse, line, table, unmarked, equation, Window, Fits, Kept}
 use Rattle.elimination.specs.Steps.{Moved, Swept, Outcome, Joined, JoinedRow, Counted}
 use Rattle.elimination.specs.Steps as step
-use Rattle.elimination.specs.Packet.{Emptied, Beside, Verdict, Considered, JoinedAll, Committed}
+use Rattle.elimination.specs.Beside.{Emptied, Beside, Verdict, Considered, JoinedAll, Committed}
 use Rattle.elimination.proofs.Rows.{kept-refl, kept-trans, kept-store, row-store, row-other, fits-kept}
 use Rattle.elimination.proofs.Lines.{line-same}
 use Rattle.elimination.proofs.Sweeping.{flag-free, flag-used}

@@ -4,7 +4,7 @@ use Prim.Native.Nat.{_+_}
 use native.Mathlib.Omega.{arith}
 use lib.ListN.{length}
 use lib.Seq.{length-take-le, take-at}
-use Rattle.elimination.specs.Packet.{Considered}
+use Rattle.elimination.specs.Beside.{Considered}
 use borrow.Author.Needs.{needs}
 use Rattle.elimination.proofs.admit_in.Statement.{statement}
 use Rattle.elimination.proofs.admit_in.Tie as tie

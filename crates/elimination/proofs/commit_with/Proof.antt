@@ -1,5 +1,5 @@
 -- `elimination::commit_with` meets its contract.
-use Rattle.elimination.specs.Packet.{Committed}
+use Rattle.elimination.specs.Beside.{Committed}
 use Rattle.elimination.proofs.Rows.{kept-trans}
 use mathlib.Core.Path.{_≡_, refl, sym, ap, _∙_, subst}
 use native.Mathlib.Omega.{arith}
