@@ -1,1 +1,4 @@
+pub mod Turns
 pub mod Chain
+pub mod Combining
+pub mod Gaining

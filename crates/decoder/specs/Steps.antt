@@ -189,7 +189,7 @@ module _ {O : Ops} (L : Laws O) where
 
     -- The position `p = q + i` of a window from `q` on, with `m` more after it.
     module _ (i n q p m : ℕ) (e : q +ₙ i ≡ p) (f : i +ₙ suc m ≡ n) where
-      known-slot : (t : Bool) → T .has p ≡ t → known (view T n q) i ≡ known (slot t (read (T .line p) m (suc p)) (view T m (suc p))) 0
+      pub known-slot : (t : Bool) → T .has p ≡ t → known (view T n q) i ≡ known (slot t (read (T .line p) m (suc p)) (view T m (suc p))) 0
       unfolding view
       known-slot t h = known-view i n q p m e f ∙ ap (λ y. known (slot y (read (T .line p) m (suc p)) (view T m (suc p))) 0) h
 

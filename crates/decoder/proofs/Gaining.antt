@@ -1,0 +1,132 @@
+-- How many positions become known when rows are placed, counted row by row.
+use mathlib.Core.Path.{_≡_, refl, sym, ap, ap₂, _∙_, subst}
+use mathlib.Core.Logic.{_≢_}
+use mathlib.Core.Bool.{Bool, true, false, true≢false}
+use mathlib.Core.Option.{Option, none, some}
+use Prim.Native.Nat.{ℕ, zero, suc, _+_ as _+ₙ_, _-_, _%_, _≤_, _<_}
+use native.Mathlib.Nat.{zero-add}
+use native.Mathlib.Decide.{decLt}
+use native.Mathlib.Omega.{arith}
+use Rattle.decoder.specs.Field.{Ops, Laws}
+use Rattle.decoder.specs.Model.{Filling, Row, State, Sat, Reduced, Rref, lead, place, known}
+use Rattle.decoder.specs.Receiver.{is-new, count-new, Receiver, advance-by, newly}
+use Rattle.decoder.specs.Table.{Line, Table, add-line, read, slot, view, Echelon, Leads, Places}
+use Rattle.decoder.specs.Chain.{Chain, place-rows}
+use Rattle.decoder.specs.Combination.{total}
+use Rattle.decoder.specs.Elimination as elimination
+use Rattle.decoder.specs.History as history
+use Rattle.decoder.specs.Refine as refine
+use Rattle.decoder.specs.Steps as steps
+use Rattle.decoder.specs.Counting.{count-all, count-more, count-split, count-same, known-grows}
+use Rattle.decoder.proofs.Turns.{turns, turns-last, turn-rows}
+use Rattle.decoder.proofs.Chain.{chain-rref, chain-before}
+use Rattle.decoder.proofs.Combining.{reduced-cells}
+
+-- A count over the rows 0, 1, .. is the count over the window's positions, which has another order.
+total-turns : (u : ℕ → ℕ) (n b : ℕ) → turns (λ p x. x +ₙ u p) n b 0 ≡ total (λ i. u (b +ₙ i)) n
+unfolding turns total
+total-turns u zero b = refl
+total-turns u (suc n) b = turns-last (λ p x. x +ₙ u p) n b 0 ∙ ap (λ x. x +ₙ u (b +ₙ n)) (total-turns u n b)
+
+total-same : (u v : ℕ → ℕ) (n : ℕ) → ((i : ℕ) → i < n → u i ≡ v i) → total u n ≡ total v n
+unfolding total
+total-same u v zero h = refl
+total-same u v (suc n) h = ap₂ _+ₙ_ (total-same u v n (λ i l. h i (omega arith))) (h n (omega arith))
+
+total-new : {A : Type 0} (n : ℕ) (f g : ℕ → Option A) → total (λ i. is-new (f i) (g i)) n ≡ count-new n f g
+unfolding total count-new
+total-new zero f g = refl
+total-new (suc n) f g = ap (λ x. x +ₙ is-new (f n) (g n)) (total-new n f g) ∙ sym (count-more n f g)
+
+pub total-rows : {A : Type 0} (h : ℕ → ℕ) (w b : ℕ) (f g : ℕ → Option A) → ((i : ℕ) → i < w → h ((b +ₙ i) % w) ≡ is-new (f i) (g i))
+    → total h w ≡ count-new w f g
+total-rows h w b f g s =
+    total-same h (λ i. h (0 +ₙ i)) w (λ i l. ap h (sym (zero-add i)))
+    ∙ sym (total-turns h w 0)
+    ∙ sym (turn-rows (λ r x. x +ₙ h r) (λ p q x. omega arith) w b 0)
+    ∙ total-turns (λ p. h (p % w)) w b
+    ∙ total-same (λ i. h ((b +ₙ i) % w)) (λ i. is-new (f i) (g i)) w s
+    ∙ total-new w f g
+
+-- Two gains in succession, where nothing is lost.
+pub count-steps : {A : Type 0} (m : ℕ) (f g h : ℕ → Option A) → ((i : ℕ) → f i ≡ none → g i ≡ none) → ((i : ℕ) → g i ≡ none → h i ≡ none)
+    → count-new m f h ≡ count-new m g h +ₙ count-new m f g
+count-steps m f g h p q =
+    let x = count-split m f g p in
+    let y = count-split m g h q in
+    let z = count-split m f h (λ i e. q i (p i e)) in
+    omega arith
+
+module _ {O : Ops} (L : Laws O) where
+  open Ops O using (K, 𝟘, 𝟙)
+
+  -- A row joins the table.
+  module _ (T T′ : Table O) (b w p : ℕ) (e : Line O) (h : Echelon T b w) (f : Places T T′ b w p e) (c : b ≤ p) (l : p < b +ₙ w) where
+    -- A reduced row that leads with one, at `p`: the system is the model's with the row placed.
+    pub place-line : Reduced (view T w b) (read e w b) → Leads e b p → e .cells p ≡ 𝟙
+        → Echelon T′ b w × (view T′ w b ≡ place (view T w b) (read e w b))
+    place-line r d o = (
+      steps.places-echelon L T T′ b w p e h f d o (λ q g m t. reduced-cells T e w b r q g m t) c,
+      refine.view-place L T T′ b w p e h f (free-at (T .has p) (λ t. d .here (reduced-cells T e w b r p c l t))) d c l,
+    )
+      where
+        free-at : (t : Bool) → ¬ (t ≡ true) → t ≡ false
+        free-at true n = absurd (n refl)
+        free-at false n = refl
+
+    -- The `i`th position of the window, `q`.
+    module _ (i q : ℕ) (m : i < w) (at : b +ₙ i ≡ q) where
+      -- A row that had a coefficient at `p` was not known: it had another than its own.
+      pub was-open : T .has q ≡ true → q ≢ p → T .line q .cells p ≢ 𝟘 → known (view T w b) i ≡ none
+      was-open t n z = go (decLt q p)
+        where
+          go : Dec (q < p) → known (view T w b) i ≡ none
+          go (yes k) = steps.known-open L T i w b q (w - suc i) at (omega arith) t p k l z
+          go (no k) = absurd (z (h .zero-before q (omega arith) (omega arith) t p c (omega arith)))
+
+      -- A row that had none there is as it was.
+      pub stays-known : q ≢ p → (T .has q ≡ true → T .line q .cells p ≡ 𝟘) → known (view T′ w b) i ≡ known (view T w b) i
+      unfolding slot known
+      stays-known n z =
+          let has = f .has-old q (omega arith) (omega arith) n in
+          steps.known-slot L T′ i w b q (w - suc i) at (omega arith) (T .has q) has
+          ∙ go _ _ (T .has q) (λ t. f .line-old q (omega arith) (omega arith) n t ∙ refine.add-line-zero L _ e (T .line q) (z t))
+          ∙ sym (steps.known-slot L T i w b q (w - suc i) at (omega arith) (T .has q) refl)
+        where
+          go : (S S′ : State O (w - suc i)) (t : Bool) → (t ≡ true → T′ .line q ≡ T .line q)
+              → known (slot t (read (T′ .line q) (w - suc i) (suc q)) S′) 0 ≡ known (slot t (read (T .line q) (w - suc i) (suc q)) S) 0
+          go S S′ true s = ap (λ x. known (slot true (read x (w - suc i) (suc q)) S) 0) (s refl)
+          go S S′ false s = refl
+
+  -- A chain of rows.
+  module _ {n : ℕ} (S : State O n) (g : ℕ → Row O n) (f : Rref S) where
+    chain-step : (k : ℕ) → Chain S g (suc k) → (i : ℕ) → known (place-rows g (suc k) S) i ≡ none → known (place-rows g k S) i ≡ none
+    unfolding place-rows
+    chain-step k c i =
+        known-grows L (place-rows g k S) (place-rows g (suc k) S) (chain-rref L S g (suc k) f c)
+        (λ x s. elimination.place-sat L (place-rows g k S) (g k) (c .reduced k (omega arith)) (c .leads k (omega arith)) x .0 s .0) i
+
+    -- What is known stays known.
+    pub chain-known : (k : ℕ) → Chain S g k → (i : ℕ) → known (place-rows g k S) i ≡ none → known S i ≡ none
+    unfolding place-rows
+    chain-known zero c i e = e
+    chain-known (suc k) c i e = chain-known k (chain-before L S g k c) i (chain-step k c i e)
+
+    -- The gains of the rows add up.
+    pub chain-gain : (k : ℕ) → Chain S g (suc k)
+        → count-new n (known (place-rows g (suc k) S)) (known S)
+        ≡ count-new n (known (place-rows g k S)) (known S) +ₙ count-new n (known (place-rows g (suc k) S)) (known (place-rows g k S))
+    chain-gain k c =
+        count-steps n (known (place-rows g (suc k) S)) (known (place-rows g k S)) (known S) (chain-step k c) (chain-known k (chain-before L S g k c))
+
+  pub no-gain : {n : ℕ} (S : State O n) → count-new n (known S) (known S) ≡ 0
+  no-gain {n} S = let x = count-split n (known S) (known S) (λ i e. e) in omega arith
+
+  -- The count of a call is the gain over the window moved on.
+  pub newly-gain : {w : ℕ} (b d : ℕ) (S T : State O w)
+      → newly (record { base = b; window = S }) (record { base = b +ₙ d; window = T }) ≡ count-new w (known T) (known (advance-by d S))
+  unfolding newly
+  newly-gain {w} b d S T =
+      let rise : (b +ₙ d) - b ≡ d = omega arith in
+      ap (λ k. count-new w (known T) (λ j. known S (k +ₙ j))) rise
+      ∙ count-same L w (known T) (λ j. known S (d +ₙ j)) (known (advance-by d S)) (λ j. sym (history.known-advance-by L d S j))
