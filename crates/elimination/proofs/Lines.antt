@@ -21,6 +21,14 @@ use Rattle.decoder.specs.Memory as flat
 use Rattle.elimination.specs.Bytes.{gf}
 use Rattle.elimination.specs.Window.{line}
 
+-- A number that is not other than zero.
+pub else-zero : (a : ℕ) → (a ≢ 0 → ⊥) → a ≡ 0
+else-zero a h = go (ℕ-discrete a 0)
+  where
+    go : Dec (a ≡ 0) → a ≡ 0
+    go (yes z) = z
+    go (no z) = absurd (h z)
+
 -- A byte is zero as an element of the field just where it is zero.
 pub byte-zero : (n : ℕ) → n ≡ 0 → byte n ≡ null-byte
 byte-zero n z = byte-path (ap (λ k. k % 256) z)

@@ -6,7 +6,7 @@ use Rattle.elimination.proofs.place.is_alone.Statement.{statement}
 use Rattle.elimination.proofs.place.is_alone.Tie as tie
 use Rattle.elimination.proofs.place.is_alone.Reads as reads
 use Rattle.elimination.proofs.place.is_alone.Lts as lts
-use Rattle.elimination.proofs.place.or_all.Reads as or-all-reads
+use Rattle.elimination.proofs.or_all.Reads as or-all-reads
 use Rattle.elimination.proofs.start_of.Reads as start-of-reads
 
 -- src/place.rt:77:9

@@ -9,7 +9,7 @@ use Rattle.elimination.proofs.place.move_on.Statement.{statement}
 use Rattle.elimination.proofs.place.move_on.Tie as tie
 use Rattle.elimination.proofs.place.move_on.Reads as reads
 use Rattle.elimination.proofs.place.move_on.Lts as lts
-use Rattle.elimination.proofs.next_row.Reads as next-row-reads
+use Rattle.elimination.proofs.next.Reads as next-reads
 use Rattle.elimination.proofs.place.set_flag.Reads as set-flag-reads
 
 abbrev Inv-loop : tie.InvT-loop
@@ -37,8 +37,8 @@ set-flag-requires c κs =
     (fits-kept (c .before .before .before .before .before .pre .0) (leaving .moved .kept), leaving .within)
 
 -- src/place.rt:46:9
-next-row-requires : tie.Need-next-row-requires Inv-loop μ-loop
-next-row-requires c κs = search needs
+next-requires : tie.Need-next-requires Inv-loop μ-loop
+next-requires c κs = search needs
 
 -- src/place.rt:41:9
 add-i : tie.Need-add-i Inv-loop μ-loop
@@ -55,7 +55,7 @@ loop-again c =
     let turn = c .before .before .before .before .before .before .before .loop in (
       search needs,
       search needs,
-      leaving-more _ _ _ (turn .i) (turn .oldest) _ _ (turn .mem) _ (start .pre .0) (turn .inv .2) (c .before .before .before .set-flag .ensures) (c .next-row .ensures),
+      leaving-more _ _ _ (turn .i) (turn .oldest) _ _ (turn .mem) _ (start .pre .0) (turn .inv .2) (c .before .before .before .set-flag .ensures) (c .next .ensures),
     )
 
 -- src/place.rt:35:1
@@ -79,7 +79,7 @@ move-on-spec =
     same-length
     returns
     set-flag-requires
-    next-row-requires
+    next-requires
     add-i
     loop-less
     loop-again

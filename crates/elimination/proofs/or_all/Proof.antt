@@ -1,4 +1,4 @@
--- `elimination::place::or_all` meets its contract. The loop: x is zero just where every byte before i is.
+-- `elimination::or_all` meets its contract. The loop: x is zero just where every byte before i is.
 use mathlib.Core.Path.{_≡_}
 use mathlib.Core.Logic.{_↔_}
 use Prim.Native.Nat.{_≤_, _-_}
@@ -6,10 +6,10 @@ use native.Mathlib.Omega.{arith}
 use Rattle.elimination.specs.RowSteps.{Zero-from}
 use Rattle.elimination.proofs.Marking.{or-none, or-more, or-done}
 use borrow.Author.Needs.{needs}
-use Rattle.elimination.proofs.place.or_all.Statement.{statement}
-use Rattle.elimination.proofs.place.or_all.Tie as tie
-use Rattle.elimination.proofs.place.or_all.Reads as reads
-use Rattle.elimination.proofs.place.or_all.Lts as lts
+use Rattle.elimination.proofs.or_all.Statement.{statement}
+use Rattle.elimination.proofs.or_all.Tie as tie
+use Rattle.elimination.proofs.or_all.Reads as reads
+use Rattle.elimination.proofs.or_all.Lts as lts
 
 abbrev Inv-loop : tie.InvT-loop
 Inv-loop bytes from to x₀ i₀ x i = (from ≤ i) × (i ≤ to) × ((x ≡ 0) ↔ Zero-from from i bytes)
