@@ -1,10 +1,8 @@
 -- A reduced equation settled, and what that says of the packet's equations.
-use mathlib.Core.Path.{_≡_, refl, sym, ap, ap₂, _∙_, subst}
-use mathlib.Core.Logic.{_≢_}
-use mathlib.Core.Bool.{Bool, true, false}
+use mathlib.Core.Path.{_≡_, sym, ap, _∙_, subst}
 use mathlib.Core.List.{List, [], _∷_, _++_}
-use mathlib.Core.Option.{Option, none, some}
-use Prim.Native.Nat.{ℕ, zero, suc, _+_, _*_, _-_, _%_, _≤_, _<_}
+use mathlib.Core.Option.{some}
+use Prim.Native.Nat.{ℕ, _+_, _-_, _%_, _≤_, _<_}
 use native.Mathlib.Nat.{mod-lt, mod-add-mod, mod-eq-of-lt}
 use native.Mathlib.Numerals.{add-one}
 use native.Mathlib.Decide.{ℕ-discrete, decLt}
@@ -17,11 +15,11 @@ use Rattle.memory.specs.Number.{Bytes}
 use Rattle.memory.proofs.Parts.{length-part, length-splice, getD-part, getD-before, getD-within}
 use Rattle.rows.specs.Rows.{scaled}
 use Rattle.rows.proofs.Sums.{length-scaled, getD-scaled}
-use Rattle.decoder.specs.Field.{Ops, Laws}
+use Rattle.decoder.specs.Field.{Laws}
 use Rattle.decoder.specs.Bytes.{byte, byte-path}
 use Rattle.decoder.specs.Model.{Row, State, Rref, scale, lead, symbol, reduce}
-use Rattle.decoder.specs.Receiver.{advance-by, insert-all}
-use Rattle.decoder.specs.Table.{Line, Leads, scale-line, read}
+use Rattle.decoder.specs.Receiver.{advance-by}
+use Rattle.decoder.specs.Table.{Leads, scale-line, read}
 use Rattle.decoder.specs.Chain.{Chain, place-rows, eliminate}
 use Rattle.decoder.specs.Refine.{lead-read, lead-none}
 use Rattle.decoder.specs.Steps.{symbol-read, leads-scaled}
@@ -31,7 +29,7 @@ use Rattle.elimination.specs.Bytes.{Coded, laws}
 use Rattle.elimination.specs.Window.{stride, place, row, line, equation, Window, Fits}
 use Rattle.elimination.specs.Packet.{Works, spelled, PivotMarked, Gathered}
 use Rattle.elimination.specs.RowSteps.{Zero-from}
-use Rattle.elimination.specs.Gather.{Only, Spans, count-kept, Agrees, Admitted}
+use Rattle.elimination.specs.Gather.{Only, Spans, Agrees, Admitted}
 use Rattle.elimination.specs.GatherSteps.{Leading, Normalised, Outcome, Settled, StateReduced, PacketReduced, Staying}
 use Rattle.elimination.specs.declared.gather.Verdict.{Verdict}
 use Rattle.elimination.specs.declared.gather.Verdict.the-variants.{Kept, Implied, Contradiction}
@@ -39,7 +37,7 @@ use Rattle.elimination.proofs.Rows.{set-splice}
 use Rattle.elimination.proofs.Lines.{else-zero, byte-zero, byte-nonzero, line-scale, symbol-null, symbol-nonnull}
 use Rattle.memory.proofs.Number.{bytes-part}
 use Rattle.elimination.proofs.Framing.{only-refl, only-trans, only-wider, only-splice, only-row, works-only, row-room}
-use Rattle.elimination.proofs.Reducing.{new-cell, part-row, state-only, state-reduced}
+use Rattle.elimination.proofs.Reducing.{part-row, state-only, state-reduced}
 use Rattle.elimination.proofs.Rank.{full-lead}
 
 -- ---- a row divided by its coefficient in a column

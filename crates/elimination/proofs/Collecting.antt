@@ -1,17 +1,16 @@
 -- The multipliers of the state's rows, collected by column.
-use mathlib.Core.Path.{_≡_, refl, sym, ap, _∙_, subst}
+use mathlib.Core.Path.{_≡_, refl, sym, ap, _∙_}
 use mathlib.Core.Logic.{_≢_}
 use mathlib.Core.Bool.{Bool, true, false}
 use mathlib.Core.List.{List}
-use Prim.Native.Nat.{ℕ, zero, suc, _+_, _-_, _%_, _≤_, _<_}
-use native.Mathlib.Nat.{mod-lt, mod-add-mod, mod-eq-of-lt, add-mod-right}
+use Prim.Native.Nat.{ℕ, suc, _+_, _-_, _%_, _≤_, _<_}
+use native.Mathlib.Nat.{mod-lt, mod-add-mod}
 use native.Mathlib.Decide.{ℕ-discrete}
 use native.Mathlib.Omega.{arith}
 use lib.ListN.{length, getD, set, length-set}
 use lib.Seq.{getD-set-same, getD-set-other}
-use lib.Bits.{bitOr, bitAnd, or-add-and, and-le-l, and-le-r}
+use lib.Bits.{bitOr, or-add-and, and-le-l, and-le-r}
 use Rattle.decoder.specs.Stretch.{remainders}
-use Rattle.elimination.specs.Window.{stride, place, row, inUse}
 use Rattle.elimination.specs.GatherSteps.{if-used, multiplier, Collected, Staying}
 
 -- The column after the `i`th from `first` on.

@@ -1,8 +1,8 @@
 -- An equation's coefficients laid in a row of working memory: they stand in their columns, around the end of the window.
 use mathlib.Core.Path.{_≡_, refl, sym, ap, _∙_, subst}
 use mathlib.Core.Logic.{_≢_}
-use mathlib.Core.List.{List, [], _∷_}
-use Prim.Native.Nat.{ℕ, zero, suc, _+_, _*_, _-_, _%_, _≤_, _<_}
+use mathlib.Core.List.{List}
+use Prim.Native.Nat.{ℕ, zero, _+_, _-_, _%_, _≤_, _<_}
 use native.Mathlib.Nat.{zero-add, mod-lt, mod-eq-of-lt, mod-eq-sub-mod}
 use native.Mathlib.Decide.{decLt}
 use native.Mathlib.Omega.{arith}
@@ -11,7 +11,7 @@ use Rattle.memory.specs.Part.{part, splice}
 use Rattle.memory.proofs.Parts.{length-part, length-splice, getD-part, getD-before, getD-within, getD-past}
 use Rattle.elimination.specs.Window.{stride, place, row}
 use Rattle.elimination.specs.Packet.{Works}
-use Rattle.elimination.specs.Gather.{Only, Spans, Laid, LaidIn}
+use Rattle.elimination.specs.Gather.{Only, LaidIn}
 use Rattle.elimination.proofs.Framing.{only-splice, only-trans, row-room}
 
 -- A column past the last is one from the first on.

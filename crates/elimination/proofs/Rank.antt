@@ -1,7 +1,7 @@
 -- How many rows a system has: each row that is placed is one more, and there are no more than positions.
 use mathlib.Core.Path.{_≡_, refl, sym, ap, _∙_}
-use mathlib.Core.Logic.{_≢_, ite, if-pos}
-use Prim.Native.Nat.{ℕ, zero, suc, _≤_, _<_}
+use mathlib.Core.Logic.{ite}
+use Prim.Native.Nat.{ℕ, zero, suc, _≤_}
 use native.Mathlib.Omega.{arith}
 use Rattle.decoder.specs.Field.{Ops, Laws}
 use Rattle.decoder.specs.Model.{Row, State, end, free, pivot, Reduced, lead, reduce, place, place-free}

@@ -1,9 +1,9 @@
 -- A row of working memory reduced: by the state's rows that stay, all at once, and by the packet's rows before it, one after the other.
 use mathlib.Core.Path.{_≡_, refl, sym, ap, ap₂, _∙_, subst}
 use mathlib.Core.Logic.{_≢_}
-use mathlib.Core.Bool.{Bool, true, false}
+use mathlib.Core.Bool.{true, false}
 use mathlib.Core.List.{List, [], _∷_, _++_}
-use Prim.Native.Nat.{ℕ, zero, suc, _+_, _*_, _-_, _%_, _≤_, _<_}
+use Prim.Native.Nat.{ℕ, zero, suc, _+_, _-_, _%_, _≤_, _<_}
 use native.Mathlib.Nat.{mod-lt, mod-add-mod, add-mod-right}
 use native.Mathlib.Numerals.{add-one}
 use native.Mathlib.Decide.{decLt, decLe}
@@ -12,7 +12,7 @@ use lib.ListN.{length, getD, take, drop, replicate}
 use lib.Seq.{getD-take, length-take-le}
 use lib.Bits.{bitXor, xor-lt}
 use lib.Dec.{lit<}
-use Rattle.field.specs.Gf256.{product, inverse}
+use Rattle.field.specs.Gf256.{product}
 use Rattle.field.proofs.Laws.{product-lt}
 use Rattle.memory.specs.Part.{part, splice}
 use Rattle.memory.specs.Number.{Bytes}
@@ -21,11 +21,10 @@ use Rattle.rows.specs.Rows.{addScaled}
 use Rattle.rows.specs.Combination.{combined, coefficient, rowAt}
 use Rattle.rows.proofs.Sums.{length-addScaled, getD-addScaled, addScaled-zero}
 use Rattle.rows.proofs.Digits.{length-combined}
-use Rattle.decoder.specs.Field.{Ops}
 use Rattle.decoder.specs.Bytes.{byte}
-use Rattle.decoder.specs.Model.{Row, State, Rref, axpy, at, reduce}
+use Rattle.decoder.specs.Model.{State, Rref, axpy, at, reduce}
 use Rattle.decoder.specs.Receiver.{advance-by}
-use Rattle.decoder.specs.Table.{Line, Table, Leads, add-line, read, view}
+use Rattle.decoder.specs.Table.{add-line, read}
 use Rattle.decoder.specs.Chain.{eliminate}
 use Rattle.decoder.specs.Combination.{add-lines}
 use Rattle.decoder.specs.Stretch.{remainders}

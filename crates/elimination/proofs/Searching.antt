@@ -1,13 +1,11 @@
 -- The search for a pivot, row by row and in a row from the window's base on.
-use mathlib.Core.Path.{_≡_, refl, sym, ap, _∙_, subst}
+use mathlib.Core.Path.{_≡_, sym, ap, _∙_, subst}
 use mathlib.Core.Logic.{_≢_}
 use mathlib.Core.List.{List}
-use Prim.Native.Nat.{ℕ, _+_, _*_, _%_, _≤_, _<_}
-use native.Mathlib.Nat.{mod-lt}
+use Prim.Native.Nat.{ℕ, _+_, _%_, _≤_, _<_}
 use native.Mathlib.Decide.{ℕ-discrete}
 use native.Mathlib.Omega.{arith}
-use lib.ListN.{length, getD}
-use Rattle.memory.specs.Part.{part}
+use lib.ListN.{getD}
 use Rattle.memory.proofs.Parts.{getD-part}
 use Rattle.elimination.specs.Window.{stride, place, row}
 use Rattle.elimination.specs.GatherSteps.{Leading}

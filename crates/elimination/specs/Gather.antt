@@ -9,7 +9,7 @@ use lib.ListN.{length, take, drop, getD}
 use Rattle.decoder.specs.Model.{Row, State, Rref}
 use Rattle.decoder.specs.Receiver.{advance-by, insert-all}
 use Rattle.elimination.specs.Bytes.{Coded}
-use Rattle.elimination.specs.Window.{stride, place, row, equation, Window}
+use Rattle.elimination.specs.Window.{place, row, equation, Window}
 use Rattle.elimination.specs.Packet.{Works, Gathered}
 use Rattle.elimination.specs.declared.gather.Verdict.{Verdict}
 use Rattle.elimination.specs.declared.gather.Verdict.the-variants.{Kept, Implied, Contradiction}

@@ -4,8 +4,8 @@ use mathlib.Core.Path.{_≡_}
 use mathlib.Core.Logic.{_≢_}
 use mathlib.Core.Bool.{Bool, true, false}
 use mathlib.Core.List.{List}
-use Prim.Native.Nat.{ℕ, zero, suc, _+_, _-_, _*_, _%_, _≤_, _<_}
-use lib.ListN.{length, getD, set}
+use Prim.Native.Nat.{ℕ, zero, _+_, _%_, _≤_, _<_}
+use lib.ListN.{length, getD}
 use Rattle.field.specs.Gf256.{inverse}
 use Rattle.memory.specs.Part.{part, splice}
 use Rattle.memory.specs.Number.{Bytes}

@@ -10,7 +10,7 @@ use Rattle.decoder.specs.Receiver.{insert-all}
 use Rattle.decoder.specs.Chain.{Chain, place-rows}
 use Rattle.decoder.specs.Table.{Leads}
 use Rattle.elimination.specs.Bytes.{Coded}
-use Rattle.elimination.specs.Window.{stride, place, row, line, equation}
+use Rattle.elimination.specs.Window.{place, row, line, equation}
 
 -- Sizes for which working memory has room. Each of its first `kept` rows has a column of the window in its flag.
 pub record Works (w E kept : ℕ) (work : List ℕ) : Type 0 where

@@ -1,7 +1,7 @@
 // An equation of a packet in working memory. It is laid in a row, reduced there by the state's rows that stay and by the packet's rows before
 // it, and kept as the packet's next row, unless it is implied by these or contradicts them. The state is only read.
 ghost use mathlib.Core.Path.{_≡_};
-ghost use Prim.Native.Nat.{ℕ, _+_, _*_, _%_, _≤_, _<_};
+ghost use Prim.Native.Nat.{ℕ, _+_, _%_, _≤_, _<_};
 ghost use lib.ListN.{length, take};
 ghost use Rattle.memory.specs.Part.{part, splice};
 ghost use Rattle.rows.specs.Combination.{combined, coefficient, rowAt};

@@ -1,7 +1,7 @@
 // What changes the window's equations: no rows at all, the window moves on, and a packet's rows join those of the window.
 // And whether a position is known, which its row's first flag says.
 ghost use mathlib.Core.Path.{_≡_};
-ghost use Prim.Native.Nat.{_+_, _<_, _≤_};
+ghost use Prim.Native.Nat.{_+_, _<_};
 ghost use lib.ListN.{length};
 ghost use Rattle.elimination.specs.Window.{Fits};
 ghost use Rattle.elimination.specs.Place.{Emptied, Moved, Known, Committed};

@@ -1,10 +1,9 @@
 -- `elimination::gather::find_pivot` meets its contract. The loops: no coefficient in the rows before, and none in the columns before.
 use mathlib.Core.Path.{_≡_, refl, sym, ap, _∙_}
-use Prim.Native.Nat.{ℕ, _+_, _-_, _%_, _≤_, _<_}
+use Prim.Native.Nat.{_+_, _-_, _%_, _≤_, _<_}
 use native.Mathlib.Omega.{arith}
 use native.Mathlib.Nat.{add-zero, mod-eq-of-lt}
-use lib.ListN.{length}
-use Rattle.elimination.specs.Window.{place, row}
+use Rattle.elimination.specs.Window.{row}
 use Rattle.elimination.proofs.Collecting.{next-column}
 use Rattle.elimination.proofs.Searching.{Blank, BlankRows, blank-none, blank-more, blank-all, rows-none, rows-more, read-cell, leading-here}
 use borrow.Author.Needs.{needs}

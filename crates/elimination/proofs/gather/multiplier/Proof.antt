@@ -1,10 +1,10 @@
 -- `elimination::gather::multiplier` meets its contract.
-use mathlib.Core.Path.{_≡_, refl, sym, ap, _∙_}
+use mathlib.Core.Path.{sym, ap, _∙_}
 use Prim.Native.Nat.{_+_}
 use native.Mathlib.Omega.{arith}
 use lib.ListN.{getD}
 use Rattle.memory.proofs.Parts.{row-fits}
-use Rattle.elimination.specs.Window.{stride, place, row, inUse}
+use Rattle.elimination.specs.Window.{stride, row, inUse}
 use Rattle.elimination.specs.GatherSteps.{if-used}
 use Rattle.elimination.proofs.Flags.{flag-at, unused, used}
 use Rattle.elimination.proofs.Collecting.{used-zero}

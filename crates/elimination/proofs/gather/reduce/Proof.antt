@@ -1,5 +1,4 @@
 -- `elimination::gather::reduce` meets its contract.
-use lib.ListN.{replicate}
 use Rattle.elimination.proofs.Reducing.{zeros}
 use borrow.Author.Needs.{needs}
 use Rattle.elimination.proofs.gather.reduce.Statement.{statement}

@@ -1,5 +1,5 @@
 -- `elimination::gather::reduce_with` meets its contract.
-use mathlib.Core.Path.{_≡_, sym, subst}
+use mathlib.Core.Path.{subst}
 use native.Mathlib.Omega.{arith}
 use Rattle.memory.proofs.Parts.{cut}
 use Rattle.elimination.specs.GatherSteps.{Collected}

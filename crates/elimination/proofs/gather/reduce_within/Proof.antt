@@ -1,10 +1,9 @@
 -- `elimination::gather::reduce_within` meets its contract. The loop: the pivots of the rows so far are eliminated.
 use mathlib.Core.Path.{_≡_, refl, subst}
-use Prim.Native.Nat.{ℕ, _+_, _-_, _≤_, _<_}
+use Prim.Native.Nat.{_-_, _≤_}
 use native.Mathlib.Omega.{arith}
 use lib.ListN.{length}
 use Rattle.memory.specs.Number.{Bytes}
-use Rattle.elimination.specs.Window.{place, stride}
 use Rattle.elimination.specs.Packet.{Works}
 use Rattle.elimination.specs.GatherSteps.{PacketReduced}
 use Rattle.elimination.proofs.Framing.{works-only}
