@@ -1,26 +1,33 @@
 -- Bytes of a row as a line of the model's table: sums, multiples, zeros.
 use mathlib.Core.Path.{_≡_, refl, sym, ap, ap₂, _∙_}
 use mathlib.Core.Logic.{_≢_}
-use mathlib.Core.List.{List, [], _∷_}
+use mathlib.Core.List.{List}
 use Prim.Native.Nat.{ℕ, zero, suc, _+_, _%_, _≤_, _<_}
 use native.Mathlib.Nat.{mod-lt, mod-eq-of-lt}
-use native.Mathlib.Decide.{decLt, ℕ-discrete}
+use native.Mathlib.Decide.{ℕ-discrete}
 use native.Mathlib.Omega.{arith}
-use lib.ListN.{length, getD, take, drop}
+use lib.ListN.{getD}
 use lib.Bits.{bitXor}
 use Rattle.field.specs.Gf256.{product, inverse}
 use Rattle.field.proofs.Laws.{product-lt}
 use Rattle.memory.specs.Number.{Bytes}
-use Rattle.decoder.specs.Field.{Ops}
-use Rattle.decoder.specs.Symbols.{Tuple, nulls, times}
-use Rattle.decoder.specs.Bytes.{Byte, byte, byte-path, null-byte, bytes}
+use Rattle.decoder.specs.Symbols.{nulls, times}
+use Rattle.decoder.specs.Bytes.{byte, byte-path, null-byte, bytes}
 use Rattle.decoder.specs.Bytes as gf-bytes
-use Rattle.decoder.specs.Table.{Line, add-line, scale-line}
+use Rattle.decoder.specs.Table.{add-line, scale-line}
 use Rattle.decoder.specs.Stretch.{symbol-at}
 use Rattle.decoder.specs.Stretch as stretch
 use Rattle.decoder.specs.Memory as flat
-use Rattle.elimination.specs.Bytes.{gf, Coded}
+use Rattle.elimination.specs.Bytes.{gf}
 use Rattle.elimination.specs.Window.{line}
+
+-- A number that is not other than zero.
+pub else-zero : (a : ℕ) → (a ≢ 0 → ⊥) → a ≡ 0
+else-zero a h = go (ℕ-discrete a 0)
+  where
+    go : Dec (a ≡ 0) → a ≡ 0
+    go (yes z) = z
+    go (no z) = absurd (h z)
 
 -- A byte is zero as an element of the field just where it is zero.
 pub byte-zero : (n : ℕ) → n ≡ 0 → byte n ≡ null-byte
@@ -28,9 +35,6 @@ byte-zero n z = byte-path (ap (λ k. k % 256) z)
 
 pub byte-nonzero : (n : ℕ) → n < 256 → n ≢ 0 → byte n ≢ null-byte
 byte-nonzero n l z e = z (sym (mod-eq-of-lt l) ∙ ap (λ t. t .0) e)
-
-pub byte-number : (n : ℕ) → n < 256 → byte n .0 ≡ n
-byte-number n l = mod-eq-of-lt l
 
 cell-times : (k a : ℕ) → k < 256 → a < 256 → byte (product k a) ≡ gf-bytes.product product inverse gf (byte k) (byte a)
 cell-times k a x y = byte-path (mod-eq-of-lt (product-lt k a) ∙ simp (mod-eq-of-lt x, mod-eq-of-lt y))
