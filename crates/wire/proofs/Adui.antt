@@ -2,7 +2,7 @@
 use mathlib.Core.Path.{_≡_, refl, sym, ap, _∙_}
 use mathlib.Core.Bool.{Bool, true, false}
 use Prim.Native.Nat.{ℕ, zero, suc, _+_, _-_, _*_, _≤_, _<_, min}
-use native.Mathlib.Nat.{lt-div-mul-add, div-mul-le-self, not-suc-le-zero, le-of-suc-le-suc, suc-mul, zero-mul, zero-add}
+use native.Mathlib.Nat.{lt-div-mul-add, div-mul-le-self, not-suc-le-zero, le-of-suc-le-suc, le-of-eq, suc-mul, zero-mul, zero-add}
 use native.Mathlib.Omega.{arith}
 use mathlib.Core.List.{List, [], _∷_, _++_, append-nil}
 use lib.ListN.{length, take, drop, getD, set, length-append, length-take, length-drop, length-set, length-replicate}
@@ -12,7 +12,7 @@ use borrow.Author.Tests.{leb-true, leb-false}
 use Rattle.memory.specs.Part.{part, splice}
 use Rattle.memory.specs.Number.{bytes}
 use Rattle.memory.proofs.Parts.{length-part, length-splice, splice-next, row-fits}
-use Rattle.wire.specs.Packets.{zeros, chunks, symbolCount, adui, sourceSymbols}
+use Rattle.wire.specs.Packets.{zeros, chunks, Sized, symbolCount, adui, sourceSymbols, symbolAt}
 use Rattle.wire.specs.Inner.{padded}
 
 -- the padding of a stretch that ends in the zeros after l
@@ -85,15 +85,16 @@ module _ (flow : ℕ) (adu : List ℕ) (E : ℕ) where
   symbol-start z i h = omega (arith, row-fits (symbolCount E (length adu)) E i h, least E (length adu))
 
   -- the first symbol: flow, length, and the ADU's first bytes
-  pub symbol-first : 3 ≤ E → 0 < symbolCount E (length adu) → part (0 * E) E (adui flow adu E) ≡ flow ∷ bytes 2 (length adu) ++ padded (E - 3) adu
+  pub symbol-first : 3 ≤ E → 0 < symbolCount E (length adu) → symbolAt flow adu E 0 ≡ flow ∷ bytes 2 (length adu) ++ padded (E - 3) adu
   unfolding adui part
   symbol-first z h =
       let e : E ≡ suc (suc (suc (E - 3))) = omega arith in
-      let p = take-padded (E - 3) (symbolCount E (length adu) * E - (3 + length adu)) adu (omega (arith, room E (length adu) (omega arith), row-fits (symbolCount E (length adu)) E 0 h)) in
+      let r = row-fits (symbolCount E (length adu)) E 0 h in
+      let p = take-padded (E - 3) (symbolCount E (length adu) * E - (3 + length adu)) adu (omega (arith, room E (length adu) (omega arith))) in
       rw zero-mul (ap (λ (n : ℕ). take n (adui flow adu E)) e ∙ ap (λ (l : List ℕ). flow ∷ bytes 2 (length adu) ++ l) p)
 
   -- a later one: the ADU's bytes from there on
-  pub symbol-later : 3 ≤ E → (i : ℕ) → 0 < i → i < symbolCount E (length adu) → part (i * E) E (adui flow adu E) ≡ padded E (drop (i * E - 3) adu)
+  pub symbol-later : 3 ≤ E → (i : ℕ) → 0 < i → i < symbolCount E (length adu) → symbolAt flow adu E i ≡ padded E (drop (i * E - 3) adu)
   unfolding adui part
   symbol-later z i n h =
       let g : E ≤ i * E = omega (arith, row-fits i E 0 n) in
@@ -120,14 +121,15 @@ stored-length dst flow n m h e = ap length e ∙ length-splice 1 (bytes 2 n) (se
 
 module _ (dst adu : List ℕ) (flow i : ℕ) (z : 4 ≤ length dst) (h : i < symbolCount (length dst) (length adu)) where
   pub first-written : (m r : List ℕ) → i ≡ 0 → m ≡ splice 1 (bytes 2 (length adu)) (set dst 0 flow) → r ≡ splice 3 (padded (length m - 3) (drop 0 adu)) m
-      → r ≡ part (i * length dst) (length dst) (adui flow adu (length dst))
+      → r ≡ symbolAt flow adu (length dst) i
   first-written m r e em er =
       let n = stored-length dst flow (length adu) m z em in
       let p : length (padded (length dst - 3) adu) ≡ length dst - 3 = length-padded (length dst - 3) adu in
-      er ∙ rw (n, em, e) (first-stored dst flow (length adu) (padded (length dst - 3) adu) (omega arith) ∙ sym (symbol-first flow adu (length dst) (omega arith) (rw e at h)))
+      let s = symbol-first flow adu (length dst) (omega arith) (rw e at h) in
+      er ∙ rw (n, em, e) (first-stored dst flow (length adu) (padded (length dst - 3) adu) (omega arith) ∙ sym s)
 
   pub later-written : (r : List ℕ) → (i ≡ 0 → ⊥) → r ≡ splice 0 (padded (length dst - 0) (drop (i * length dst - 3) adu)) dst
-      → r ≡ part (i * length dst) (length dst) (adui flow adu (length dst))
+      → r ≡ symbolAt flow adu (length dst) i
   later-written r n er =
       let e : length dst - 0 ≡ length dst = omega arith in
       let x = padded (length dst) (drop (i * length dst - 3) adu) in
@@ -147,6 +149,12 @@ getD-chunks (suc n) s m (suc i) h =
     let e : suc i * s ≡ s + i * s = omega (arith, suc-mul i s) in
     rw e (getD-chunks n s (drop s m) i (le-of-suc-le-suc h) ∙ rw drop-drop)
 
+chunks-sized : (n s : ℕ) (m : List ℕ) → n * s ≤ length m → Sized s (chunks n s m)
+chunks-sized zero s m h = tt
+chunks-sized (suc n) s m h =
+    let e = suc-mul n s in
+    (simp length-take (omega arith), chunks-sized n s (drop s m) (simp length-drop (omega arith)))
+
 -- ---- the symbols of an ADU
 
 module _ (flow : ℕ) (adu : List ℕ) (E : ℕ) where
@@ -154,12 +162,16 @@ module _ (flow : ℕ) (adu : List ℕ) (E : ℕ) where
   unfolding sourceSymbols
   symbols-count = length-chunks _ E _
 
-  pub symbol-at : (i : ℕ) → i < symbolCount E (length adu) → getD (sourceSymbols flow adu E) i [] ≡ part (i * E) E (adui flow adu E)
+  pub symbol-at : (i : ℕ) → i < symbolCount E (length adu) → getD (sourceSymbols flow adu E) i [] ≡ symbolAt flow adu E i
   unfolding sourceSymbols
   symbol-at i h = getD-chunks _ E _ i h
 
   pub symbol-length : 0 < E → (i : ℕ) → i < symbolCount E (length adu) → length (getD (sourceSymbols flow adu E) i []) ≡ E
   symbol-length z i h = rw (symbol-at i h) (length-part (i * E) E (adui flow adu E) (before-end flow adu E z i h))
+
+  pub symbols-sized : 0 < E → Sized E (sourceSymbols flow adu E)
+  unfolding sourceSymbols
+  symbols-sized z = chunks-sized (symbolCount E (length adu)) E (adui flow adu E) (le-of-eq (sym (length-adui flow adu E z)))
 
 -- ---- a packet written at the front of the output, piece by piece
 

@@ -7,8 +7,9 @@ use Rattle.wire.proofs.copy_padded.Tie as tie
 
 returns : tie.Need-returns
 returns c =
-    let a = c .before .before .before .before .before .before .before .before .before .before .before .args in
-    cc (copied (a .at) (a .from) (c .before .before .before .before .before .before .before .before .smaller .result) (a .dst .now) (a .adu .now) (omega arith) (omega arith) (c .before .before .before .before .before .before .before .before .smaller .ensures))
+    let p = c .before .before .before .before .before .before .before .before in
+    let a = p .before .before .before .args in
+    cc (copied (a .at) (a .from) (p .smaller .result) (a .dst .now) (a .adu .now) (omega arith) (omega arith) (p .smaller .ensures))
 
 pub copy-padded-spec : {M : Type 1} → statement M
 copy-padded-spec =

@@ -19,7 +19,10 @@ returns : tie.Need-returns
 returns c =
     let p = c .before .before .before .before .before .before in
     let a = p .before .before .before .before .before .args in
-    first-written (a .dst .now) (a .adu .now) (a .flow) (a .i) (omega arith) (omega arith) _ _ (p .before .before .if1 .taken) (p .store-u16 .ensures) (c .before .before .copy-padded .ensures)
+    first-written (a .dst .now) (a .adu .now) (a .flow) (a .i) (omega arith) (omega arith) _ _
+    (p .before .before .if1 .taken)
+    (p .store-u16 .ensures)
+    (c .before .before .copy-padded .ensures)
 
 -- what is known past the first symbol
 module _ (p : tie.Else1) where
@@ -32,7 +35,9 @@ module _ (p : tie.Else1) where
 returns-2 : tie.Need-returns-2
 returns-2 c =
     let a = c .before .before .before .before .before .before .before .args in
-    later-written (a .dst .now) (a .adu .now) (a .flow) (a .i) (omega arith) (omega arith) _ (c .before .before .before .before .if1 .left) (c .before .before .copy-padded2 .ensures)
+    later-written (a .dst .now) (a .adu .now) (a .flow) (a .i) (omega arith) (omega arith) _
+    (c .before .before .before .before .if1 .left)
+    (c .before .before .copy-padded2 .ensures)
 
 pub write-symbol-spec : {M : Type 1} → statement M
 write-symbol-spec =
