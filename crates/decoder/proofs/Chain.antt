@@ -1,44 +1,38 @@
 -- Reducing and placing one row after the other: what it does to an equation, to the reduced form and to the packet's equations.
 use mathlib.Core.Path.{_≡_, refl, sym, ap, ap₂, _∙_, subst}
-use mathlib.Core.Logic.{_≢_, ite, if-pos, if-neg}
+use mathlib.Core.Logic.{_≢_}
 use mathlib.Core.Option.{Option, none, some}
 use mathlib.Core.List.{List, [], _∷_, _++_}
-use Prim.Native.Nat.{ℕ, zero, suc, _≤_, _<_}
+use Prim.Native.Nat.{ℕ, zero, suc, _<_}
 use native.Mathlib.Decide.{decLt}
 use native.Mathlib.Omega.{arith}
 use Rattle.decoder.specs.Field.{Ops, Laws}
-use Rattle.decoder.specs.Model.{Filling, Row, State, Sat, Reduced, Rref, eval, axpy, scale, lead, at, symbol, reduce, place, settle, insert}
+use Rattle.decoder.specs.Model.{Row, State, Reduced, Rref, eval, axpy, scale, lead, at, symbol, reduce, place, settle-by, settle, insert}
 use Rattle.decoder.specs.Receiver.{and-then, insert-all}
 use Rattle.decoder.specs.Chain.{Chain, place-rows, eliminate}
-use Rattle.decoder.specs.Linear as lin
-use Rattle.decoder.specs.Elimination as elimination
-use Rattle.decoder.specs.Canonical as canonical
-use Rattle.decoder.specs.Jump.{insert-all-append}
+use Rattle.decoder.proofs.Linear as lin
+use Rattle.decoder.proofs.Elimination as elimination
+use Rattle.decoder.proofs.Canonical as canonical
+use Rattle.decoder.proofs.Jump.{insert-all-append}
 
 module _ {O : Ops} (L : Laws O) where
-  open Ops O using (K, Sym, 𝟘, 𝟙, _+_, _*_, inv, zero?, null, _⊕_, _•_, null?)
-  open Laws L using (+-comm, +-assoc, +-𝟘, +-self, *-comm, *-𝟙, *-inv, 𝟙≢𝟘, ⊕-null, 𝟙-•)
+  open Ops O using (K, 𝟘, 𝟙, _*_, inv, zero?, null, _⊕_, _•_, null?)
+  open Laws L using (*-comm, *-𝟙, *-inv, 𝟙≢𝟘, ⊕-null, 𝟙-•)
 
-  infixl 50 _+_
   infixl 60 _*_
   infixl 50 _⊕_
   infixr 60 _•_
-  -- Two coefficients whose sum is zero are the same.
-  pub same : (a b : K) → a + b ≡ 𝟘 → a ≡ b
-  same a b z =
-      sym (+-𝟘 a) ∙ ap (λ c. a + c) (sym (+-self b)) ∙ sym (+-assoc a b b) ∙ ap (λ c. c + b) z ∙ +-comm 𝟘 b ∙ +-𝟘 b
-
   -- A reduced row is its own reduction.
   pub reduce-fixed : {n : ℕ} (T : State O n) (e : Row O n) → Reduced T e → reduce T e ≡ e
   reduce-fixed T e r =
-      canonical.alike L same T (reduce T e) e (elimination.reduce-reduced L T e) r (λ x s. elimination.reduce-eval L T e x s)
+      canonical.alike L T (reduce T e) e (elimination.reduce-reduced L T e) r (λ x s. elimination.reduce-eval L T e x s)
 
   -- To reduce by a system with one more row is to reduce by the system, and then to eliminate the row.
   pub reduce-place : {n : ℕ} (T : State O n) (g e : Row O n) → Reduced T g → lead O n g ≡ 𝟙
       → reduce (place T g) e ≡ axpy O n (at O n g (reduce T e)) g (reduce T e)
   reduce-place {n} T g e r l =
       let d = reduce T e in
-      canonical.alike L same (place T g) (reduce (place T g) e) (axpy O n (at O n g d) g d)
+      canonical.alike L (place T g) (reduce (place T g) e) (axpy O n (at O n g d) g d)
       (elimination.reduce-reduced L (place T g) e)
       (elimination.place-reduced L T g d r l (elimination.reduce-reduced L T e))
       (λ x s.
@@ -57,12 +51,22 @@ module _ {O : Ops} (L : Laws O) where
   -- What becomes of an equation, told by its reduction: implied, a contradiction, or a new row.
   module _ {n : ℕ} (T : State O n) (e : Row O n) where
     pub reduced-implied : lead O n (reduce T e) ≡ 𝟘 → symbol O n (reduce T e) ≡ null → insert T e ≡ some T
-    unfolding insert settle
-    reduced-implied z y = if-pos (zero? (lead O n (reduce T e))) z _ _ ∙ if-pos (null? (symbol O n (reduce T e))) y _ _
+    unfolding insert settle settle-by
+    reduced-implied z y = go (zero? (lead O n (reduce T e))) (null? (symbol O n (reduce T e)))
+      where
+        go : (d : Dec (lead O n (reduce T e) ≡ 𝟘)) (d′ : Dec (symbol O n (reduce T e) ≡ null)) → settle-by d d′ T (reduce T e) ≡ some T
+        go (yes _) (yes _) = refl
+        go (yes _) (no q) = absurd (q y)
+        go (no p) _ = absurd (p z)
 
     pub reduced-contradicts : lead O n (reduce T e) ≡ 𝟘 → symbol O n (reduce T e) ≢ null → insert T e ≡ none
-    unfolding insert settle
-    reduced-contradicts z y = if-pos (zero? (lead O n (reduce T e))) z _ _ ∙ if-neg (null? (symbol O n (reduce T e))) y _ _
+    unfolding insert settle settle-by
+    reduced-contradicts z y = go (zero? (lead O n (reduce T e))) (null? (symbol O n (reduce T e)))
+      where
+        go : (d : Dec (lead O n (reduce T e) ≡ 𝟘)) (d′ : Dec (symbol O n (reduce T e) ≡ null)) → settle-by d d′ T (reduce T e) ≡ none
+        go (yes _) (yes q) = absurd (y q)
+        go (yes _) (no _) = refl
+        go (no p) _ = absurd (p z)
 
     -- The reduction scaled so that it leads with one.
     unfoldable pub normal : Row O n
@@ -80,8 +84,12 @@ module _ {O : Ops} (L : Laws O) where
           elimination.lead-scale L n (inv a) (λ b. elimination.nonzero-cancel L a b z) (reduce T e) ∙ *-inv a z
 
       pub reduced-places : insert T e ≡ some (place T normal)
-      unfolding insert settle normal
-      reduced-places = if-neg (zero? (lead O n (reduce T e))) z _ _
+      unfolding insert settle settle-by normal
+      reduced-places = go (zero? (lead O n (reduce T e)))
+        where
+          go : (d : Dec (lead O n (reduce T e) ≡ 𝟘)) → settle-by d (null? (symbol O n (reduce T e))) T (reduce T e) ≡ some (place T normal)
+          go (yes p) = absurd (z p)
+          go (no _) = refl
 
   -- A reduced row that leads with one is placed as it is.
   pub insert-reduced : {n : ℕ} (T : State O n) (g : Row O n) → Reduced T g → lead O n g ≡ 𝟙 → insert T g ≡ some (place T g)

@@ -1,18 +1,19 @@
 -- The rows of a reduced system can be added to an equation all at once: no row changes the coefficient at another's pivot,
 -- so each multiplier is the coefficient that the equation has at the start, and the order is free.
-use mathlib.Core.Path.{_≡_, refl, sym, ap, ap₂, _∙_, subst}
+use mathlib.Core.Path.{_≡_, refl, sym, ap, _∙_}
 use mathlib.Core.Bool.{Bool, true, false, true≢false}
 use Prim.Native.Nat.{ℕ, zero, suc, _+_ as _+ₙ_, _-_, _%_, _≤_, _<_}
 use native.Mathlib.Nat.{zero-add}
-use native.Mathlib.Decide.{ℕ-discrete, decLt}
+use native.Mathlib.Decide.{ℕ-discrete}
 use native.Mathlib.Omega.{arith}
 use Rattle.decoder.specs.Field.{Ops, Laws}
-use Rattle.decoder.specs.Model.{Row, State, end, free, pivot, Reduced, Rref, axpy, scale, lead, at, reduce}
+use Rattle.decoder.specs.Model.{Reduced, Rref, axpy, scale, lead, at, reduce}
 use Rattle.decoder.specs.Receiver.{advance-by}
-use Rattle.decoder.specs.Table.{Line, Table, add-line, scale-line, read, slot, view, Echelon, step-by, sweep, Leads}
-use Rattle.decoder.specs.Combination.{add-lines}
-use Rattle.decoder.specs.Refine as refine
-use Rattle.decoder.specs.Staying as staying
+use Rattle.decoder.specs.Table.{Line, Table, read, slot, view, Echelon}
+use Rattle.decoder.specs.TableSteps.{add-line, scale-line, step-by, sweep, Leads}
+use Rattle.decoder.specs.TableSteps.{add-lines}
+use Rattle.decoder.proofs.Refine as refine
+use Rattle.decoder.proofs.Staying as staying
 use Rattle.decoder.proofs.Turns.{turns, turns-last, turns-same, turns-idle, turn-rows}
 
 module _ {O : Ops} where
@@ -60,7 +61,7 @@ module _ {O : Ops} where
       go false u f (no x) ih = ih f (omega arith)
 
 module _ {O : Ops} (L : Laws O) where
-  open Ops O using (K, Sym, 𝟘, 𝟙, _+_, _*_, inv, _⊕_, _•_)
+  open Ops O using (K, Sym, 𝟘, _+_, _*_, inv, _⊕_, _•_)
   open Laws L using (+-comm, +-assoc, ⊕-comm, ⊕-assoc)
 
   infixl 50 _+_

@@ -1,23 +1,24 @@
 -- How many positions become known when rows are placed, counted row by row.
-use mathlib.Core.Path.{_≡_, refl, sym, ap, ap₂, _∙_, subst}
+use mathlib.Core.Path.{_≡_, refl, sym, ap, ap₂, _∙_}
 use mathlib.Core.Logic.{_≢_}
-use mathlib.Core.Bool.{Bool, true, false, true≢false}
-use mathlib.Core.Option.{Option, none, some}
+use mathlib.Core.Bool.{Bool, true, false}
+use mathlib.Core.Option.{Option, none}
 use Prim.Native.Nat.{ℕ, zero, suc, _+_ as _+ₙ_, _-_, _%_, _≤_, _<_}
 use native.Mathlib.Nat.{zero-add}
 use native.Mathlib.Decide.{decLt}
 use native.Mathlib.Omega.{arith}
 use Rattle.decoder.specs.Field.{Ops, Laws}
-use Rattle.decoder.specs.Model.{Filling, Row, State, Sat, Reduced, Rref, lead, place, known}
-use Rattle.decoder.specs.Receiver.{is-new, count-new, Receiver, advance-by, newly}
-use Rattle.decoder.specs.Table.{Line, Table, add-line, read, slot, view, Echelon, Leads, Places}
+use Rattle.decoder.specs.Model.{Row, State, Reduced, Rref, place, known}
+use Rattle.decoder.specs.Receiver.{is-new, count-new, advance-by, newly}
+use Rattle.decoder.specs.Table.{Line, Table, read, slot, view, Echelon}
+use Rattle.decoder.specs.TableSteps.{Leads, Places}
 use Rattle.decoder.specs.Chain.{Chain, place-rows}
-use Rattle.decoder.specs.Combination.{total}
-use Rattle.decoder.specs.Elimination as elimination
-use Rattle.decoder.specs.History as history
-use Rattle.decoder.specs.Refine as refine
-use Rattle.decoder.specs.Steps as steps
-use Rattle.decoder.specs.Counting.{count-all, count-more, count-split, count-same, known-grows}
+use Rattle.decoder.specs.TableSteps.{total}
+use Rattle.decoder.proofs.Elimination as elimination
+use Rattle.decoder.proofs.History as history
+use Rattle.decoder.proofs.Refine as refine
+use Rattle.decoder.proofs.Steps as steps
+use Rattle.decoder.proofs.Counting.{count-more, count-split, count-same, known-grows}
 use Rattle.decoder.proofs.Turns.{turns, turns-last, turn-rows}
 use Rattle.decoder.proofs.Chain.{chain-rref, chain-before}
 use Rattle.decoder.proofs.Combining.{reduced-cells}
@@ -58,7 +59,7 @@ count-steps m f g h p q =
     omega arith
 
 module _ {O : Ops} (L : Laws O) where
-  open Ops O using (K, 𝟘, 𝟙)
+  open Ops O using (𝟘, 𝟙)
 
   -- A row joins the table.
   module _ (T T′ : Table O) (b w p : ℕ) (e : Line O) (h : Echelon T b w) (f : Places T T′ b w p e) (c : b ≤ p) (l : p < b +ₙ w) where

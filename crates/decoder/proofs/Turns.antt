@@ -2,7 +2,7 @@
 -- a turn around the window may begin anywhere: at the oldest position, or at row 0.
 use mathlib.Core.Path.{_≡_, refl, sym, ap, _∙_}
 use Prim.Native.Nat.{ℕ, zero, suc, _+_, _%_, _≤_, _<_}
-use native.Mathlib.Nat.{add-zero, zero-add, add-mod-right, mod-eq-of-lt}
+use native.Mathlib.Nat.{add-zero, add-mod-right, mod-eq-of-lt}
 use native.Mathlib.Omega.{arith}
 
 module _ {A : Type 0} where

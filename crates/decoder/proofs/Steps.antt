@@ -1,0 +1,208 @@
+-- What each step of the receiver does to the table, as a whole: add an equation, move the base on, look a symbol up.
+use mathlib.Core.Path.{_≡_, refl, sym, ap, ap₂, _∙_}
+use mathlib.Core.Logic.{_≢_}
+use mathlib.Core.Bool.{Bool, true, false, true≢false}
+use mathlib.Core.Option.{none, some}
+use Prim.Native.Nat.{ℕ, zero, suc, _+_ as _+ₙ_, _≤_, _<_}
+use native.Mathlib.Decide.{ℕ-discrete, decLt}
+use native.Mathlib.Omega.{arith}
+use native.Mathlib.Nat.{add-zero}
+use Rattle.decoder.specs.Field.{Ops, Laws}
+use Rattle.decoder.specs.Model.{Row, State, scale, lead, symbol, reduce, place, insert, known}
+use Rattle.decoder.specs.Table.{Line, Table, read, slot, view, Echelon}
+use Rattle.decoder.specs.TableSteps.{add-line, scale-line, step-by, sweep, Leads, Places, Moves}
+use Rattle.decoder.proofs.Linear as lin
+use Rattle.decoder.proofs.Refine as refine
+use Rattle.decoder.proofs.Chain as chain
+
+module _ {O : Ops} (L : Laws O) where
+  open Ops O using (𝟘, 𝟙, _+_, _*_, inv, zero?, null)
+  open Laws L using (+-𝟘, +-self, *-comm, *-𝟘, *-𝟙, *-inv, 𝟙≢𝟘)
+
+  infixl 50 _+_
+  infixl 60 _*_
+  pub symbol-read : (e : Line O) (n q : ℕ) → symbol O n (read e n q) ≡ e .sym
+  unfolding symbol read
+  symbol-read e zero q = refl
+  symbol-read e (suc n) q = symbol-read e n (suc q)
+
+  -- A swept line is zero at every pivot.
+  pub sweep-zero : (T : Table O) (b w : ℕ) → Echelon T b w → (n q : ℕ) (e : Line O) (j : ℕ) → b ≤ q → q ≤ j → j < q +ₙ n → q +ₙ n ≤ b +ₙ w
+      → T .has j ≡ true → sweep T n q e .cells j ≡ 𝟘
+  unfolding sweep step-by add-line
+  sweep-zero T b w h zero q e j c g l m t = absurd (omega arith)
+  sweep-zero T b w h (suc n) q e j c g l m t =
+      go (ℕ-discrete q j)
+      (λ g′. sweep-zero T b w h n (suc q) (step-by (T .has q) (e .cells q) (T .line q) e) j (omega arith) g′ (omega arith) (omega arith) t)
+    where
+      at-pivot : (u : Bool) → u ≡ true → step-by u (e .cells q) (T .line q) e .cells q ≡ e .cells q + e .cells q * T .line q .cells q
+      at-pivot true x = refl
+      at-pivot false x = absurd (true≢false (sym x))
+
+      go : Dec (q ≡ j) → (suc q ≤ j → sweep T n (suc q) (step-by (T .has q) (e .cells q) (T .line q) e) .cells j ≡ 𝟘)
+          → sweep T n (suc q) (step-by (T .has q) (e .cells q) (T .line q) e) .cells j ≡ 𝟘
+      go (yes x) ih =
+          let u : T .has q ≡ true = ap (T .has) x ∙ t in
+          ap (sweep T n (suc q) (step-by (T .has q) (e .cells q) (T .line q) e) .cells) (sym x)
+          ∙ refine.sweep-before L T b w h n (suc q) _ q c (omega arith) (omega arith)
+          ∙ at-pivot (T .has q) u
+          ∙ ap (λ a. e .cells q + e .cells q * a) (h .one-at q c (omega arith) u)
+          ∙ simp (*-𝟙, +-self)
+      go (no x) ih = ih (omega arith)
+
+  -- The leading coefficient of a swept line stands where there is no row yet.
+  free-at : (T : Table O) (b w : ℕ) → Echelon T b w → (e : Line O) (p : ℕ) → b ≤ p → p < b +ₙ w → sweep T w b e .cells p ≢ 𝟘 → T .has p ≡ false
+  free-at T b w h e p g l z = go (T .has p) (λ t. z (sweep-zero T b w h w b e p (omega arith) g l (omega arith) t))
+    where
+      go : (t : Bool) → ¬ (t ≡ true) → t ≡ false
+      go true n = absurd (n refl)
+      go false n = refl
+
+  pub leads-scaled : (e : Line O) (q p : ℕ) → Leads e q p → Leads (scale-line (inv (e .cells p)) e) q p
+  unfolding scale-line
+  leads-scaled e q p d = record {
+    below = λ j g l. ap (λ a. inv (e .cells p) * a) (d .below j g l) ∙ *-𝟘 _;
+    here = λ z. 𝟙≢𝟘 (sym (*-inv (e .cells p) (d .here)) ∙ z);
+  }
+
+  -- Adding an equation: sweep it, find where it leads, make that one, and place it.
+
+  module _ (T : Table O) (b w : ℕ) (h : Echelon T b w) (e : Line O) where
+    reduced : reduce (view T w b) (read e w b) ≡ read (sweep T w b e) w b
+    reduced = sym (refine.sweep-reduce L T b w h e)
+
+    pub insert-implied : ((j : ℕ) → b ≤ j → j < b +ₙ w → sweep T w b e .cells j ≡ 𝟘) → sweep T w b e .sym ≡ null
+        → insert (view T w b) (read e w b) ≡ some (view T w b)
+    insert-implied z y =
+        chain.reduced-implied L (view T w b) (read e w b) (ap (lead O w) reduced ∙ refine.lead-none L (sweep T w b e) w b z)
+        (ap (symbol O w) reduced ∙ symbol-read (sweep T w b e) w b ∙ y)
+
+    pub insert-contradicts : ((j : ℕ) → b ≤ j → j < b +ₙ w → sweep T w b e .cells j ≡ 𝟘) → sweep T w b e .sym ≢ null
+        → insert (view T w b) (read e w b) ≡ none
+    insert-contradicts z y =
+        chain.reduced-contradicts L (view T w b) (read e w b) (ap (lead O w) reduced ∙ refine.lead-none L (sweep T w b e) w b z)
+        (λ x. y (sym (ap (symbol O w) reduced ∙ symbol-read (sweep T w b e) w b) ∙ x))
+
+    pub insert-places : (p : ℕ) → b ≤ p → p < b +ₙ w → Leads (sweep T w b e) b p
+        → (T′ : Table O) → Places T T′ b w p (scale-line (inv (sweep T w b e .cells p)) (sweep T w b e))
+        → insert (view T w b) (read e w b) ≡ some (view T′ w b)
+    unfolding chain.normal
+    insert-places p g l d T′ f =
+        let E = sweep T w b e in
+        let a = E .cells p in
+        let led = refine.lead-read L E w b p d g l in
+        chain.reduced-places L (view T w b) (read e w b) (λ z. d .here (sym led ∙ sym (ap (lead O w) reduced) ∙ z))
+        ∙ ap (λ r. some (place (view T w b) (scale O w (inv (lead O w r)) r))) reduced
+        ∙ ap (λ k. some (place (view T w b) (scale O w (inv k) (read E w b)))) led
+        ∙ ap (λ r. some (place (view T w b) r)) (sym (refine.read-scale L (inv a) E w b))
+        ∙ ap some (sym (refine.view-place L T T′ b w p (scale-line (inv a) E) h f (free-at T b w h e p g l (d .here)) (leads-scaled E b p d) g l))
+
+  -- The table stays in echelon form.
+
+  pub places-echelon : (T T′ : Table O) (b w p : ℕ) (e : Line O) → Echelon T b w → Places T T′ b w p e → Leads e b p → e .cells p ≡ 𝟙
+      → ((q : ℕ) → b ≤ q → q < b +ₙ w → T .has q ≡ true → e .cells q ≡ 𝟘) → b ≤ p → Echelon T′ b w
+  unfolding add-line
+  places-echelon T T′ b w p e h f d o r g = record {
+    one-at = λ q. one q (ℕ-discrete q p);
+    zero-before = λ q. before q (ℕ-discrete q p);
+  }
+    where
+      was : (q : ℕ) → b ≤ q → q < b +ₙ w → q ≢ p → T′ .has q ≡ true → T .has q ≡ true
+      was q c l x t = sym (f .has-old q c l x) ∙ t
+
+      one : (q : ℕ) → Dec (q ≡ p) → b ≤ q → q < b +ₙ w → T′ .has q ≡ true → T′ .line q .cells q ≡ 𝟙
+      one q (yes x) c l t = ap (λ y. y .cells q) (ap (T′ .line) x ∙ f .line-new) ∙ ap (e .cells) x ∙ o
+      one q (no x) c l t =
+          ap (λ y. y .cells q) (f .line-old q c l x (was q c l x t))
+          ∙ refine.add-zero L _ _ (e .cells q) (r q c l (was q c l x t)) ∙ h .one-at q c l (was q c l x t)
+
+      cleared : (q : ℕ) → b ≤ q → q < b +ₙ w → T .has q ≡ true → (j : ℕ) → b ≤ j → j < q → Dec (j < p) → T .line q .cells p * e .cells j ≡ 𝟘
+      cleared q c l t j k m (yes y) = ap (λ a. T .line q .cells p * a) (d .below j k y) ∙ *-𝟘 _
+      cleared q c l t j k m (no y) =
+          ap (λ a. a * e .cells j) (h .zero-before q c l t p g (omega arith)) ∙ *-comm 𝟘 _ ∙ *-𝟘 _
+
+      before : (q : ℕ) → Dec (q ≡ p) → b ≤ q → q < b +ₙ w → T′ .has q ≡ true → (j : ℕ) → b ≤ j → j < q → T′ .line q .cells j ≡ 𝟘
+      before q (yes x) c l t j k m = ap (λ y. y .cells j) (ap (T′ .line) x ∙ f .line-new) ∙ d .below j k (omega arith)
+      before q (no x) c l t j k m =
+          let u = was q c l x t in
+          ap (λ y. y .cells j) (f .line-old q c l x u)
+          ∙ ap₂ _+_ (h .zero-before q c l u j k m) (cleared q c l u j k m (decLt j p)) ∙ +-𝟘 𝟘
+
+  -- So it does when an equation is added as above.
+  pub insert-echelon : (T : Table O) (b w : ℕ) → Echelon T b w → (e : Line O) (p : ℕ) → b ≤ p → Leads (sweep T w b e) b p
+      → (T′ : Table O) → Places T T′ b w p (scale-line (inv (sweep T w b e .cells p)) (sweep T w b e)) → Echelon T′ b w
+  unfolding scale-line
+  insert-echelon T b w h e p g d T′ f =
+      let E = sweep T w b e in
+      places-echelon T T′ b w p (scale-line (inv (E .cells p)) E) h f (leads-scaled E b p d) (*-inv (E .cells p) (d .here))
+      (λ q c l t. ap (λ a. inv (E .cells p) * a) (sweep-zero T b w h w b e q (omega arith) c l (omega arith) t) ∙ *-𝟘 _)
+      g
+
+  pub moves-echelon : (T T′ : Table O) (b w : ℕ) → Echelon T b w → Moves T T′ b w → Echelon T′ (suc b) w
+  moves-echelon T T′ b w h f = record {
+    one-at = λ q c l t. one q (ℕ-discrete q (b +ₙ w)) c l t;
+    zero-before = λ q c l t j k m. before q (ℕ-discrete q (b +ₙ w)) c l t j k m;
+  }
+    where
+      one : (q : ℕ) → Dec (q ≡ b +ₙ w) → suc b ≤ q → q < suc b +ₙ w → T′ .has q ≡ true → T′ .line q .cells q ≡ 𝟙
+      one q (yes x) c l t = absurd (true≢false (sym t ∙ ap (T′ .has) x ∙ f .has-last))
+      one q (no x) c l t =
+          let u : T .has q ≡ true = sym (f .has-kept q c (omega arith)) ∙ t in
+          ap (λ y. y .cells q) (f .line-kept q c (omega arith) u) ∙ h .one-at q (omega arith) (omega arith) u
+
+      before : (q : ℕ) → Dec (q ≡ b +ₙ w) → suc b ≤ q → q < suc b +ₙ w → T′ .has q ≡ true
+          → (j : ℕ) → suc b ≤ j → j < q → T′ .line q .cells j ≡ 𝟘
+      before q (yes x) c l t j k m = absurd (true≢false (sym t ∙ ap (T′ .has) x ∙ f .has-last))
+      before q (no x) c l t j k m =
+          let u : T .has q ≡ true = sym (f .has-kept q c (omega arith)) ∙ t in
+          ap (λ y. y .cells j) (f .line-kept q c (omega arith) u) ∙ h .zero-before q (omega arith) (omega arith) u j (omega arith) m
+
+  -- Looking a symbol up: the row at its position has no other coefficient in the window.
+
+  lead-nonzero : (e : Line O) (n q j : ℕ) → q ≤ j → j < q +ₙ n → e .cells j ≢ 𝟘 → lead O n (read e n q) ≢ 𝟘
+  unfolding read
+  lead-nonzero e zero q j g l z = absurd (omega arith)
+  lead-nonzero e (suc n) q j g l z = go (zero? (e .cells q)) (λ g′. lead-nonzero e n (suc q) j g′ (omega arith) z)
+    where
+      go : Dec (e .cells q ≡ 𝟘) → (suc q ≤ j → lead O n (read e n (suc q)) ≢ 𝟘) → lead O (suc n) (read e (suc n) q) ≢ 𝟘
+      go (yes y) ih x =
+          ih (let c : q ≢ j = (λ c. z (ap (e .cells) (sym c) ∙ y)) in omega arith) (sym (lin.lead-later O L n (read e (suc n) q) y) ∙ x)
+      go (no y) ih x = y (sym (lin.lead-here O L n (read e (suc n) q) y) ∙ x)
+
+  module _ (T : Table O) where
+    known-later : {n : ℕ} (i : ℕ) (t : Bool) (r : Row O n) (S : State O n) → known (slot t r S) (suc i) ≡ known S i
+    unfolding slot known
+    known-later i true r S = refl
+    known-later i false r S = refl
+
+    known-view : (i n q p m : ℕ) → q +ₙ i ≡ p → i +ₙ suc m ≡ n → known (view T n q) i ≡ known (view T (suc m) p) 0
+    unfolding view
+    known-view zero n q p m e f =
+        let x : n ≡ suc m = omega arith in
+        let y : q ≡ p = omega arith in
+        ap₂ (λ n q. known (view T n q) 0) x y
+    known-view (suc i) zero q p m e f = absurd (omega arith)
+    known-view (suc i) (suc n) q p m e f =
+        known-later i (T .has q) (read (T .line q) n (suc q)) (view T n (suc q)) ∙ known-view i n (suc q) p m (omega arith) (omega arith)
+
+    -- The position `p = q + i` of a window from `q` on, with `m` more after it.
+    module _ (i n q p m : ℕ) (e : q +ₙ i ≡ p) (f : i +ₙ suc m ≡ n) where
+      pub known-slot : (t : Bool) → T .has p ≡ t → known (view T n q) i ≡ known (slot t (read (T .line p) m (suc p)) (view T m (suc p))) 0
+      unfolding view
+      known-slot t h = known-view i n q p m e f ∙ ap (λ y. known (slot y (read (T .line p) m (suc p)) (view T m (suc p))) 0) h
+
+      pub known-row : T .has p ≡ true → ((j : ℕ) → p < j → j < q +ₙ n → T .line p .cells j ≡ 𝟘) → known (view T n q) i ≡ some (T .line p .sym)
+      unfolding slot known
+      known-row h z =
+          known-slot true h
+          ∙ lin.only-if-holds (zero? _) _ (refine.lead-none L (T .line p) m (suc p) (λ j g l. z j g (omega arith)))
+          ∙ ap some (symbol-read (T .line p) m (suc p))
+
+      pub known-open : T .has p ≡ true → (j : ℕ) → p < j → j < q +ₙ n → T .line p .cells j ≢ 𝟘 → known (view T n q) i ≡ none
+      unfolding slot known
+      known-open h j g l z =
+          known-slot true h ∙ lin.only-if-fails (zero? _) _ (lead-nonzero (T .line p) m (suc p) j g (omega arith) z)
+
+      pub known-free : T .has p ≡ false → known (view T n q) i ≡ none
+      unfolding slot known
+      known-free h = known-slot false h
