@@ -49,7 +49,7 @@ repair-symbols-requires : tie.Need-repair-symbols-requires
 repair-symbols-requires c κs =
     let s = c .before .before .before .before .before .before .before .before .before .before .before .before .before .before .before .before .before .before in
     let l = c .before .before .before .before .before .before .before .before .before .before .fill-lists .kept .0 in
-    (s .pre .0, omega (arith, c .before .before .before .before .write-repair .kept .0), omega (arith, l, fits s, c .before .before .before .before .before .before .before .before .before .before .before .before .room-for-lists .ensures), omega arith)
+    (s .pre .0, record { symbols = omega (arith, c .before .before .before .before .write-repair .kept .0); lists = omega (arith, l, fits s, c .before .before .before .before .before .before .before .before .before .before .before .before .room-for-lists .ensures) }, omega arith)
 
 mul-t27 : tie.Need-mul-t27
 mul-t27 c = omega (arith, area (c .before .before .before .before .before .before .before .before .before .before .before .before .before .before .before .before .before .before .before .before .before .before))
