@@ -1,0 +1,3 @@
+pub mod SenderRun
+pub mod Unopened
+pub mod Bench

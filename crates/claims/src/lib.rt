@@ -1,0 +1,1 @@
+// No code: claims about lists of calls, from the promises of the ends.
