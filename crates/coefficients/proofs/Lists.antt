@@ -2,7 +2,8 @@
 use mathlib.Core.Path.{_≡_, refl, ap, _∙_}
 use mathlib.Core.Bool.{Bool, true, false, cond}
 use mathlib.Core.List.{List, [], _∷_, _++_}
-use Prim.Native.Nat.{ℕ, zero, suc, _+_, _≤_, _<_}
+use Prim.Native.Nat.{ℕ, zero, suc, _+_, _^_, _%_, _≤_, _<_}
+use native.Mathlib.Nat.{not-suc-le-zero, le-of-suc-le-suc}
 use native.Mathlib.Numerals.{add-one}
 use native.Mathlib.Decide.{le-ind}
 use native.Mathlib.Omega.{arith}
@@ -10,10 +11,11 @@ use lib.ListN.{length, replicate, getD, length-append, replicate-append-replicat
 use lib.Dec.{eqb, leb, lit<}
 use Rattle.tinymt.specs.Generator.{startOf, drawOf, low4, low8}
 use Rattle.memory.specs.Number.{Bytes}
+use Rattle.wire.specs.Numbers.{keyAfter}
 use Rattle.wire.specs.declared.Scheme.{Scheme}
 use Rattle.wire.specs.declared.Scheme.the-variants.{Gf2, Gf256}
 use Rattle.coefficients.specs.declared.Coefficient.{Coefficient}
-use Rattle.coefficients.specs.Coefficients.{nonzeroFrom, bitOf, byteOf, coefficientOf, Coefficients, extend, coefficientsOf, keys, allOk}
+use Rattle.coefficients.specs.Coefficients.{lastZero, nonzeroFrom, bitOf, byteOf, coefficientOf, Coefficients, extend, coefficientsOf, keys, allOk}
 
 -- one coefficient more after a list that was not refused, and after one that was
 module _ (scheme : Scheme) (dt : ℕ) (l : Coefficients) where
@@ -66,6 +68,12 @@ pub length-keys : (key count : ℕ) → length (keys key count) ≡ count
 length-keys key zero = refl
 length-keys key (suc count) = ap suc (length-keys _ count)
 
+-- key i is i after the first, modulo 65,536
+pub key-at : (key count i : ℕ) → key < 2 ^ 16 → i < count → getD (keys key count) i 0 ≡ (key + i) % 2 ^ 16
+key-at key zero i k h = absurd (not-suc-le-zero h)
+key-at key (suc count) zero k h = omega arith
+key-at key (suc count) (suc i) k h = key-at (keyAfter key) count i (omega arith) (le-of-suc-le-suc h) ∙ omega arith
+
 -- ---- what a coefficient is
 
 cond-both : {A : Type 0} (P : A → Type 0) (b : Bool) {x y : A} → P x → P y → P (cond b x y)
@@ -92,8 +100,8 @@ value-lt : (scheme : Scheme) (dt : ℕ) (s : List ℕ) → coefficientOf scheme 
 unfolding byteOf
 value-lt Gf2 dt s = omega (arith, bit-small dt s)
 value-lt Gf256 dt s =
-    cond-both (λ (c : Coefficient). c .value < 256) (eqb dt 15) (nonzero-byte-lt 16 0 s)
-    (cond-both (λ (c : Coefficient). c .value < 256) (leb (low4 (drawOf s .value)) dt) (nonzero-byte-lt 16 1 (drawOf s .state)) (lit< tt))
+    cond-both (λ (c : Coefficient). c .value < 256) (eqb dt 15) (nonzero-byte-lt lastZero 0 s)
+    (cond-both (λ (c : Coefficient). c .value < 256) (leb (low4 (drawOf s .value)) dt) (nonzero-byte-lt lastZero 1 (drawOf s .state)) (lit< tt))
 
 -- every element is below b
 abbrev pub Below : ℕ → List ℕ → Type 0
