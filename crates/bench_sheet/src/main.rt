@@ -184,24 +184,24 @@ fn print_short(mem: &mut [u8], out: &mut [u8]) {
     print_source(short, out);
 }
 
-// A sender's refusals: E = 3; output of 0 bytes for a 1-byte ADU; 100 zero bytes; DT 16; repair straight after opening.
+// Document 01's small examples of a sender's refusals, but for 4, which is C9's.
 fn refusals_case() {
     let mut mem = memory_for_two();
     let mut out = output();
     let zero = hundred_zeros();
-    print(b"refusals");
+    print(b"E 3:");
     let values = sender::open(&mut mem, 9, 3, 2);
     print_opening(values);
-    print(b";");
     sender::open(&mut mem, 9, 4, 2);
+    print(b"\noutput of 0 bytes:");
     print_short(&mut mem, &mut out);
-    print(b";");
+    print(b"\n100 zero bytes:");
     let unopened = sender::make_repair(&zero, RepairKey(1), 15, 1, &mut out);
     print_repair(unopened, &out);
-    print(b";");
+    print(b"\nDT 16:");
     let range = sender::make_repair(&mem, RepairKey(1), 16, 1, &mut out);
     print_repair(range, &out);
-    print(b";");
+    print(b"\nrepair straight after opening:");
     let empty = sender::make_repair(&mem, RepairKey(1), 15, 1, &mut out);
     print_repair(empty, &out);
     print(b"\n");

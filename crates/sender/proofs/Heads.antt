@@ -2,8 +2,8 @@
 use mathlib.Core.Path.{_≡_, refl, sym, ap, _∙_}
 use mathlib.Core.Bool.{Bool, true, false, _&&_}
 use mathlib.Core.Option.{Option, none, some, Option·none-ne-some, Option·some-injective}
-use Prim.Native.Nat.{ℕ, _+_, _*_, _^_, _≤_, _<_}
-use native.Mathlib.Nat.{zero-add, mul-le-mul}
+use Prim.Native.Nat.{ℕ, _+_, _^_, _≤_, _<_}
+use native.Mathlib.Nat.{zero-add}
 use native.Mathlib.Omega.{arith}
 use mathlib.Core.List.{List, _++_}
 use lib.ListN.{length, take, length-take}
@@ -183,7 +183,3 @@ counts-written m t held next esi e v room a b c =
     let y : number (part 10 2 m′) ≡ next = ap number (part-within 8 2 2 (countBytes held next esi) m (omega arith) (omega arith)) ∙ counts-next held next esi (omega arith) in
     let z : number (part 12 4 m′) ≡ esi = ap number (part-within 8 4 4 (countBytes held next esi) m (omega arith) (omega arith)) ∙ counts-esi held next esi c in
     rw (x, y, z) at (found m′ t s (rw (length-splice 8 (countBytes held next esi) m (omega arith)) room) (rw x a) (rw y b))
-
--- the slots of a window fit a usize
-pub area : (w e : ℕ) → w ≤ 255 → e ≤ 1500 → w * e ≤ 382500
-area w e h k = mul-le-mul h k

@@ -1,7 +1,7 @@
 -- Coefficients laid by slot, one after the other around the window.
 use mathlib.Core.Path.{_≡_, refl, sym, ap, ap₂, _∙_}
 use Prim.Native.Nat.{ℕ, zero, suc, _+_, _-_, _%_, _≤_, _<_}
-use native.Mathlib.Nat.{mod-lt, mod-add-mod}
+use native.Mathlib.Nat.{add-zero, mod-lt, mod-eq-of-lt, mod-add-mod}
 use native.Mathlib.Numerals.{add-one}
 use native.Mathlib.Decide.{ℕ-discrete}
 use native.Mathlib.Omega.{arith}
@@ -56,31 +56,41 @@ dot-set cs x (suc n) k v h l z = go (ℕ-discrete k n) (λ lt. dot-set cs x n k 
         rw (f (omega arith), getD-set-other cs k n v 0 (λ e. d (sym e)))
         (xor-last (dot (coefficient cs) x n) (product v (x k)) (product (getD cs n 0) (x n)))
 
--- the slot after the i-th from a slot on
-pub slot-next : (w first i slot next : ℕ) → slot ≡ (first + i) % w → next ≡ (slot + 1) % w → next ≡ (first + (i + 1)) % w
-slot-next w first i slot next e n = let a : first + (i + 1) ≡ first + i + 1 = omega arith in rw (n, e, mod-add-mod (first + i) w 1, a)
-
--- the first i coefficients of list were laid, and the slots of the others are zero
-pub record Laying (first : ℕ) (list cs : List ℕ) (i : ℕ) : Type 0 where
+-- the first i coefficients of list were laid, `slot` is that of the next, and from there on the slots are zero
+pub record Laying (first : ℕ) (list cs : List ℕ) (slot i : ℕ) : Type 0 where
+  pub next : slot ≡ (first + i) % length cs
+  pub inside : slot < length cs
   pub sum : (x : ℕ → ℕ) → dot (coefficient cs) x (length cs) ≡ dot (coefficient list) (λ j. x ((first + j) % length cs)) i
   pub rest : (j : ℕ) → i ≤ j → j < length cs → getD cs ((first + j) % length cs) 0 ≡ 0
 
-pub laying-none : (first : ℕ) (list cs : List ℕ) → AllZero cs → Laying first list cs 0
-laying-none first list cs z = record { sum = λ x. dot-zero cs x (length cs) z; rest = λ j h k. z _ }
+pub laying-none : (first : ℕ) (list cs : List ℕ) → first < length cs → AllZero cs → Laying first list cs first 0
+laying-none first list cs h z = record {
+  next = rw (add-zero first) (sym (mod-eq-of-lt h));
+  inside = h;
+  sum = λ x. dot-zero cs x (length cs) z;
+  rest = λ j k l. z _;
+}
 
-pub laying-more : (first : ℕ) (list cs : List ℕ) (i : ℕ) → 0 < length cs → i < length cs → Laying first list cs i
-    → Laying first list (set cs ((first + i) % length cs) (getD list i 0)) (i + 1)
-laying-more first list cs i z h l =
+pub laying-more : (first : ℕ) (list cs : List ℕ) (slot next i : ℕ) → i < length cs → next ≡ (slot + 1) % length cs → Laying first list cs slot i
+    → Laying first list (set cs slot (getD list i 0)) next (i + 1)
+laying-more first list cs slot next i h n l =
     let w = length cs in
-    let slot = (first + i) % w in
-    let s : slot < w = mod-lt (first + i) z in
+    let c = getD list i 0 in
+    let len = length-set cs slot c in
+    let zero-there : getD cs slot 0 ≡ 0 = rw (l .next) (l .rest i (omega arith) h) in
+    let apart : (j : ℕ) → i + 1 ≤ j → j < w → (first + j) % w ≡ slot → ⊥ =
+    λ j k m e. mod-apart w (first + i) (first + j) (omega arith) (omega arith) (sym (l .next) ∙ sym e) in
+    let a : first + (i + 1) ≡ first + i + 1 = omega arith in
     record {
-      sum = λ x. rw (length-set cs slot (getD list i 0), add-one i) (dot-set cs x w slot (getD list i 0) s s (l .rest i (omega arith) h) ∙ ap (λ (y : ℕ). bitXor y (product (getD list i 0) (x slot))) (l .sum x));
-      rest = λ j k n.
-          let m : j < w = rw (length-set cs slot (getD list i 0)) at n in
-          rw (length-set cs slot (getD list i 0))
-          (getD-set-other cs slot ((first + j) % w) (getD list i 0) 0 (λ e. mod-apart w (first + i) (first + j) (omega arith) (omega arith) (sym e)) ∙ l .rest j (omega arith) m);
+      next = rw (len, n, l .next, mod-add-mod (first + i) w 1, a);
+      inside = rw (len, n) (mod-lt (slot + 1) (omega arith));
+      sum = λ x.
+          rw (len, add-one i)
+          (dot-set cs x w slot c (l .inside) (l .inside) zero-there ∙ ap₂ (λ (y k : ℕ). bitXor y (product c (x k))) (l .sum x) (l .next));
+      rest = λ j k m.
+          let m′ : j < w = rw len at m in
+          rw len (getD-set-other cs slot ((first + j) % w) c 0 (apart j k m′) ∙ l .rest j (omega arith) m′);
     }
 
-pub laying-done : (first : ℕ) (list cs : List ℕ) (i : ℕ) → i ≡ length list → Laying first list cs i → Laid first list cs
-laying-done first list cs i e l = record { sum = λ x. rw e at (l .sum x) }
+pub laying-done : (first : ℕ) (list cs : List ℕ) (slot i : ℕ) → i ≡ length list → Laying first list cs slot i → Laid first list cs
+laying-done first list cs slot i e l = record { sum = λ x. rw e at (l .sum x) }

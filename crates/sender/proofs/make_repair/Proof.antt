@@ -2,7 +2,7 @@
 use mathlib.Core.Path.{_≡_, sym, _∙_}
 use mathlib.Core.Bool.{true, false, _||_, not}
 use mathlib.Core.Option.{some}
-use Prim.Native.Nat.{ℕ, _*_, _≤_}
+use Prim.Native.Nat.{_*_, _≤_}
 use native.Mathlib.Nat.{mul-le-mul}
 use native.Mathlib.Omega.{arith}
 use lib.Dec.{ltb}
@@ -37,12 +37,7 @@ ranged : (p : tie.Else2) → (ltb 15 (p .before .before .before .before .before 
 ranged p = rw (le-ltb 15 (p .before .before .before .before .before .before .before .before .before .args .dt) (p .before .before .if1 .left), counted p)
 
 area : (p : tie.Else2) → p .before .before .before .before .before .before .before .before .before .args .count * header (p .before .before .before .before) .setting .size ≤ 24000
-area p =
-    let o = says (p .before .before .before .before) in
-    product (p .before .before .before .before .before .before .before .before .before .args .count) (header (p .before .before .before .before) .setting .size) (within-bounds 1 16 _ (counted p) .1) (o .valid .size-most)
-  where
-    product : (n e : ℕ) → n ≤ 16 → e ≤ 1500 → n * e ≤ 24000
-    product n e h k = mul-le-mul h k
+area p = mul-le-mul (within-bounds 1 16 (p .before .before .before .before .before .before .before .before .before .args .count) (counted p) .1) (says (p .before .before .before .before) .valid .size-most)
 
 returns : tie.Need-returns
 returns c = promise-unopened _ _ _ (header-none _ (c .before .before .read-header .ensures) (c .enum-told .given .1)) _ (kept _ _ _)

@@ -2,13 +2,14 @@
 use mathlib.Core.Path.{_≡_, ap, _∙_}
 use mathlib.Core.Option.{some}
 use Prim.Native.Nat.{_*_, _≤_}
+use native.Mathlib.Nat.{mul-le-mul}
 use native.Mathlib.Omega.{arith}
 use Rattle.memory.specs.Part.{splice}
 use Rattle.wire.specs.declared.Setting.{Setting}
 use Rattle.wire.specs.Settings.{Valid, settingOf}
 use Rattle.wire.proofs.Settings.{setting-names}
 use Rattle.sender.specs.Inner.{countBytes}
-use Rattle.sender.proofs.Heads.{setting-good, setting-bad, area}
+use Rattle.sender.proofs.Heads.{setting-good, setting-bad}
 use Rattle.sender.proofs.Promising.{kept, opening-values, opening-short, opening-done}
 use Rattle.sender.proofs.Taking.{opens}
 use borrow.Author.Needs.{needs}
@@ -26,7 +27,7 @@ valid : (p : tie.After-setting) → Valid (setting p)
 valid p = setting-names _ _ _ (setting p) (has p) .valid
 
 fits : (p : tie.After-setting) → setting p .width * setting p .size ≤ 382500
-fits p = area (setting p .width) (setting p .size) (valid p .width-most) (valid p .size-most)
+fits p = mul-le-mul (valid p .width-most) (valid p .size-most)
 
 returns : tie.Need-returns
 returns c =

@@ -1,12 +1,13 @@
 -- `sender::front::read_header` meets its contract.
 use mathlib.Core.Path.{_≡_}
 use mathlib.Core.Option.{some}
+use native.Mathlib.Nat.{mul-le-mul}
 use native.Mathlib.Omega.{arith}
 use Prim.Native.Nat.{_*_, _≤_}
 use Rattle.wire.specs.declared.Setting.{Setting}
 use Rattle.wire.specs.Settings.{Valid, settingIn}
 use Rattle.wire.proofs.Settings.{setting-found}
-use Rattle.sender.proofs.Heads.{setting-good, setting-bad, found, none-setting, none-short, none-held, none-next, area}
+use Rattle.sender.proofs.Heads.{setting-good, setting-bad, found, none-setting, none-short, none-held, none-next}
 use borrow.Author.Needs.{needs}
 use Rattle.sender.proofs.front.read_header.Statement.{statement}
 use Rattle.sender.proofs.front.read_header.Tie as tie
@@ -22,7 +23,7 @@ valid : (p : tie.After-setting) → Valid (setting p)
 valid p = setting-found 1 _ (setting p) (has p) .named .valid
 
 fits : (p : tie.After-setting) → setting p .width * setting p .size ≤ 382500
-fits p = area (setting p .width) (setting p .size) (valid p .width-most) (valid p .size-most)
+fits p = mul-le-mul (valid p .width-most) (valid p .size-most)
 
 returns : tie.Need-returns
 returns c = rw (none-setting _ (setting-bad _ (c .before .before .setting-in .ensures) (c .enum-told .given .1)))

@@ -1,6 +1,6 @@
 -- `sender::repair::write_packet` meets its contract.
 use mathlib.Core.Path.{_∙_}
-use Prim.Native.Nat.{ℕ, _*_, _≤_}
+use Prim.Native.Nat.{_*_, _≤_}
 use native.Mathlib.Nat.{mul-le-mul}
 use native.Mathlib.Omega.{arith}
 use Rattle.coefficients.proofs.Fills.{lists-were-done, lists-were-refused}
@@ -16,17 +16,19 @@ says p = opened _ _ (p .pre .0)
 
 -- the lists fit the room for them
 fits : (p : tie.Start) → p .args .count * p .args .header .held ≤ 4080
-fits p = let o = says p in product (p .args .count) (p .args .header .held) (omega arith) (omega arith)
-  where
-    product : (a b : ℕ) → a ≤ 16 → b ≤ 255 → a * b ≤ 4080
-    product a b h k = mul-le-mul h k
+fits p =
+    let o = says p in
+    let a : p .args .count ≤ 16 = omega arith in
+    let b : p .args .header .held ≤ 255 = omega arith in
+    mul-le-mul a b
 
 -- and the packet's length a usize
 area : (p : tie.Start) → p .args .count * p .args .header .setting .size ≤ 24000
-area p = let o = says p in product (p .args .count) (p .args .header .setting .size) (omega arith) (omega arith)
-  where
-    product : (a b : ℕ) → a ≤ 16 → b ≤ 1500 → a * b ≤ 24000
-    product a b h k = mul-le-mul h k
+area p =
+    let o = says p in
+    let a : p .args .count ≤ 16 = omega arith in
+    let b : p .args .header .setting .size ≤ 1500 = omega arith in
+    mul-le-mul a b
 
 fill-lists-requires : tie.Need-fill-lists-requires
 fill-lists-requires c κs =

@@ -1,6 +1,7 @@
 -- `sender::window::place_symbols` meets its contract.
 use mathlib.Core.Path.{_≡_, sym, ap, _∙_}
 use Prim.Native.Nat.{ℕ, _+_, _-_, _*_, _≤_, _<_}
+use native.Mathlib.Nat.{mul-le-mul}
 use native.Mathlib.Omega.{arith}
 use native.Mathlib.Numerals.{add-one}
 use mathlib.Core.List.{List, []}
@@ -10,7 +11,6 @@ use Rattle.wire.specs.Packets.{symbolCount, sourceSymbols}
 use Rattle.wire.proofs.Adui.{symbols-count, symbol-at, symbol-length}
 use Rattle.memory.specs.Part.{splice}
 use Rattle.sender.specs.Inner.{Placed}
-use Rattle.sender.proofs.Heads.{area}
 use Rattle.sender.proofs.Ring.{slot-fits, placed-none, placed-more}
 use Rattle.sender.proofs.window.place_symbols.Statement.{statement}
 use Rattle.sender.proofs.window.place_symbols.Tie as tie
@@ -23,7 +23,10 @@ abbrev μ-loop : tie.MeasureT-loop
 
 -- the next slot lies in the memory
 bound : (p : tie.At-loop Inv-loop μ-loop) → p .loop .slot * p .before .before .before .args .setting .size ≤ 382500
-bound p = area (p .loop .slot) (p .before .before .before .args .setting .size) (omega (arith, p .loop .inv .1 .within)) (omega arith)
+bound p =
+    let a : p .loop .slot ≤ 255 = omega (arith, p .loop .inv .1 .within) in
+    let b : p .before .before .before .args .setting .size ≤ 1500 = omega arith in
+    mul-le-mul a b
 
 inside : (p : tie.At-loop Inv-loop μ-loop) → 32 + p .loop .slot * p .before .before .before .args .setting .size + p .before .before .before .args .setting .size ≤ length (p .loop .mem)
 inside p =
