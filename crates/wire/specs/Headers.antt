@@ -5,18 +5,29 @@ use mathlib.Core.List.{List}
 use lib.ListN.{length}
 use Rattle.wire.specs.Packets.{sourceForm, sourceEsi, repairForm, repairCount, repairKey, densityThreshold, protectedCount, firstEsi}
 use Rattle.wire.specs.declared.Refusal.the-variants.{Form}
+use Rattle.wire.specs.declared.SourceFields.{SourceFields}
+use Rattle.wire.specs.declared.RepairFields.{RepairFields}
 use Rattle.wire.specs.declared.SourceHeader.{SourceHeader}
 use Rattle.wire.specs.declared.SourceHeader.the-variants.{Source, NoSource}
 use Rattle.wire.specs.declared.RepairHeader.{RepairHeader}
 use Rattle.wire.specs.declared.RepairHeader.the-variants.{Repair, NoRepair}
 
 -- the length of the ADU, and the ESI of its first symbol
+abbrev pub sourceFields : List ℕ → SourceFields
+sourceFields p = record { len = length p - 4; first = record { 0 = sourceEsi p } }
+
 abbrev pub sourceHeaderOf : List ℕ → SourceHeader
-sourceHeaderOf p = cond (sourceForm p) (Source (length p - 4) (record { 0 = sourceEsi p })) (NoSource Form)
+sourceHeaderOf p = cond (sourceForm p) (Source (sourceFields p)) (NoSource Form)
 
 -- the fields of the header, and how many repair symbols of E bytes follow it
+abbrev pub repairFields : ℕ → List ℕ → RepairFields
+repairFields E p = record {
+  key = record { 0 = repairKey p };
+  dt = densityThreshold p;
+  nss = protectedCount p;
+  first = record { 0 = firstEsi p };
+  count = repairCount E p;
+}
+
 abbrev pub repairHeaderOf : ℕ → List ℕ → RepairHeader
-repairHeaderOf E p =
-    cond (repairForm E p)
-    (Repair (record { 0 = repairKey p }) (densityThreshold p) (protectedCount p) (record { 0 = firstEsi p }) (repairCount E p))
-    (NoRepair Form)
+repairHeaderOf E p = cond (repairForm E p) (Repair (repairFields E p)) (NoRepair Form)

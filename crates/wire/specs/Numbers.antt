@@ -1,7 +1,13 @@
 -- The two kinds of number (document 01, "Words and sizes"), and the number that document 01 gives each refusal.
+use mathlib.Core.Bool.{Bool, _&&_}
 use Prim.Native.Nat.{ℕ, _+_, _-_, _^_, _%_}
+use lib.Dec.{leb}
 use Rattle.wire.specs.declared.Refusal.{Refusal}
-use Rattle.wire.specs.declared.Refusal.the-variants.{Setting, Short, Unopened, Long, Form, Range, Empty, Behind, Ahead, Draws, Contradiction, Unknown, NoStart, Padding}
+use Rattle.wire.specs.declared.Refusal.the-variants.{Values, Short, Unopened, Long, Form, Range, Empty, Behind, Ahead, Draws, Contradiction, Unknown, NoStart, Padding}
+
+-- x lies from low to high
+abbrev pub within : ℕ → ℕ → ℕ → Bool
+within low high x = leb low x && leb x high
 
 -- how far the ESI e lies past the ESI base, modulo 2^32
 abbrev pub distanceOf : ℕ → ℕ → ℕ
@@ -11,13 +17,17 @@ distanceOf e base = (e + 2 ^ 32 - base) % 2 ^ 32
 abbrev pub esiAfter : ℕ → ℕ → ℕ
 esiAfter e n = (e + n) % 2 ^ 32
 
+-- the ESI n symbols before e, modulo 2^32
+abbrev pub esiBefore : ℕ → ℕ → ℕ
+esiBefore e n = (e + 2 ^ 32 - n) % 2 ^ 32
+
 -- the key after a key, modulo 65,536
 abbrev pub keyAfter : ℕ → ℕ
 keyAfter key = (key + 1) % 2 ^ 16
 
 -- the number of a refusal (document 01, "Why a call says no")
 abbrev pub numberOf : Refusal → ℕ
-numberOf Setting = 1
+numberOf Values = 1
 numberOf Short = 2
 numberOf Unopened = 3
 numberOf Long = 4

@@ -7,6 +7,7 @@ use lib.ListN.{length, take, drop, replicate}
 use lib.Dec.{eqb, leb}
 use Rattle.memory.specs.Part.{part}
 use Rattle.memory.specs.Number.{number, bytes}
+use Rattle.wire.specs.Numbers.{within}
 
 -- n zero bytes
 abbrev pub zeros : ℕ → List ℕ
@@ -63,7 +64,7 @@ repairCount E p = (length p - 8) / E
 
 -- a packet that has the form of a repair packet: a header of 8 bytes and 1 to 16 symbols of E bytes
 unfoldable pub repairForm : ℕ → List ℕ → Bool
-repairForm E p = leb 1 (repairCount E p) && (leb (repairCount E p) 16 && eqb (length p) (8 + repairCount E p * E))
+repairForm E p = within 1 16 (repairCount E p) && eqb (length p) (8 + repairCount E p * E)
 
 -- the fields of a repair packet, and its symbols
 unfoldable pub repairKey : List ℕ → ℕ

@@ -1,37 +1,38 @@
--- `coefficients::fill` meets its contract. The loop's invariant: the bytes before i are the run's first i coefficients (`Filling`).
+-- `coefficients::fill` meets its contract. The loop's invariant: the bytes before i are the first i coefficients (`Partly`).
 use mathlib.Core.Path.{_≡_, refl, sym, _∙_}
 use Prim.Native.Nat.{_≤_, _-_}
 use native.Mathlib.Omega.{arith}
 use lib.ListN.{length, length-set}
 use borrow.Author.Tests.{not-true, not-false}
 use borrow.Author.Needs.{needs}
-use Rattle.coefficients.proofs.Laws.{Filling, filling-none, filling-more, filling-refused, filling-done, fills-done, fills-refused}
+use Rattle.coefficients.proofs.Fills.{Partly, partly-none, partly-more, partly-refused, partly-all, fills-done, fills-refused}
 use denote.Ref.{now}
 use Rattle.coefficients.proofs.fill.Statement.{statement}
 use Rattle.coefficients.proofs.fill.Tie as tie
 
 abbrev Inv-loop : tie.InvT-loop
-Inv-loop out₀ scheme key dt state₀ n i₀ out state i = (i ≤ n) × (length out ≡ n) × Filling scheme key dt out state i
+Inv-loop out₀ scheme dt seed state₀ n i₀ out state i = (i ≤ n) × (length out ≡ n) × Partly scheme seed dt out state i
 
 abbrev μ-loop : tie.MeasureT-loop
-μ-loop out₀ scheme key dt state₀ n i₀ out state i = n - i
+μ-loop out₀ scheme dt seed state₀ n i₀ out state i = n - i
 
 loop-holds : tie.Need-loop-holds Inv-loop μ-loop
-loop-holds c = (omega arith, refl, filling-none _ _ _ _ (c .start .ensures))
+loop-holds c = (omega arith, refl, partly-none _ _ _ _ (c .start .ensures))
 
 same-length : tie.Need-same-length Inv-loop μ-loop
 same-length c = c .before .before .before .before .loop .inv .1
 
 returns : tie.Need-returns Inv-loop μ-loop
 returns c =
-    fills-refused _
-    (filling-refused (c .before .before .before .before .loop .inv .2) (c .before .before .next-coefficient .ensures) _ (c .before .before .before .loop-test .taken) (not-true _ (c .if1 .taken)))
+    fills-refused
+    (partly-refused (c .before .before .before .before .loop .inv .2) (c .before .before .next-coefficient .ensures) _ (c .before .before .before .loop-test .taken) (not-true _ (c .if1 .taken)))
+    (c .before .before .before .before .loop .inv .1)
 
 loop-again : tie.Need-loop-again Inv-loop μ-loop
 loop-again c = (
   omega arith,
   simp length-set (c .before .before .before .before .before .loop .inv .1),
-  filling-more (c .before .before .before .before .before .loop .inv .2) (c .before .before .before .next-coefficient .ensures) (omega arith) (not-false _ (c .before .if1 .left)),
+  partly-more (c .before .before .before .before .before .loop .inv .2) (c .before .before .before .next-coefficient .ensures) (omega arith) (not-false _ (c .before .if1 .left)),
 )
 
 same-length-2 : tie.Need-same-length-2 Inv-loop μ-loop
@@ -39,9 +40,9 @@ same-length-2 c = c .before .loop .inv .1
 
 returns-2 : tie.Need-returns-2 Inv-loop μ-loop
 returns-2 c =
-    let e : c .before .loop .i ≡ length (now (c .before .before .before .before .args .out)) = omega arith in
+    let e : c .before .loop .i ≡ length (now (c .before .before .before .before .before .args .out)) = omega arith in
     let f = rw e at (c .before .loop .inv .2) in
-    fills-done (f .ok) (filling-done f (sym (c .before .loop .inv .1)))
+    fills-done (f .ok) (c .before .loop .inv .1) (partly-all f (sym (c .before .loop .inv .1)))
 
 pub fill-spec : {M : Type 1} → statement M
 fill-spec =
@@ -49,6 +50,7 @@ fill-spec =
     (tie.spec
     Inv-loop
     μ-loop
+    (λ c. search needs)
     (λ c κs. search needs)
     loop-holds
     (λ c κs. search needs)

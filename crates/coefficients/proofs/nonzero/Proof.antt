@@ -6,8 +6,8 @@ use mathlib.Core.List.{List}
 use borrow.Author.Tests.{ne-eqb}
 use native.Mathlib.Omega.{arith}
 use borrow.Author.Needs.{needs}
-use Rattle.coefficients.specs.Coefficients.{drawn, nonzeroFrom}
-use Rattle.coefficients.proofs.Laws.{zero-byte, nonzero-byte}
+use Rattle.coefficients.specs.Coefficients.{found, nonzeroFrom}
+use Rattle.coefficients.proofs.Zeros.{zero-byte, nonzero-byte}
 use Rattle.coefficients.proofs.nonzero.Statement.{statement}
 use Rattle.coefficients.proofs.nonzero.Tie as tie
 
@@ -38,7 +38,7 @@ module _ (p : tie.After-rand256 Inv-loop μ-loop) where
   gave-zero e =
       p .before .before .before .loop .inv .2 ∙ zero-byte _ _ (omega arith) (p .before .before .draw .ensures) (p .rand256 .ensures) e
 
-  gave-byte : (p .rand256 .result ≡ 0 → ⊥) → nonzeroFrom 16 (args .args .before) (args .args .s) ≡ drawn (p .rand256 .result) used state
+  gave-byte : (p .rand256 .result ≡ 0 → ⊥) → nonzeroFrom 16 (args .args .before) (args .args .s) ≡ found (p .rand256 .result) used state
   gave-byte h =
       p .before .before .before .loop .inv .2 ∙ nonzero-byte _ _ {n = args .args .before + 16 - used} (omega arith) (p .before .before .draw .ensures) (p .rand256 .ensures) h
 

@@ -1,12 +1,16 @@
 -- `wire::read_repair` meets its contract.
-use mathlib.Core.Path.{_≡_}
-use Prim.Native.Nat.{_-_}
-use native.Mathlib.Nat.{div-mul-le-self, zero-div}
+use mathlib.Core.Path.{_≡_, sym, _∙_}
+use mathlib.Core.Bool.{true}
+use Prim.Native.Nat.{ℕ, _-_, _*_, _≤_, _/_}
+use native.Mathlib.Nat.{div-mul-le-self, zero-div, div-zero}
 use native.Mathlib.Omega.{arith}
-use borrow.Author.Needs.{needs}
+use borrow.Author.Tests.{not-true, not-false}
+use mathlib.Core.List.{List}
 use lib.ListN.{length}
+use Rattle.wire.specs.Numbers.{within}
 use Rattle.wire.specs.Packets.{repairCount, repairKey, densityThreshold, protectedCount, firstEsi}
-use Rattle.wire.proofs.Headers.{no-repair, few, many, uneven, repair-read}
+use Rattle.wire.proofs.Headers.{no-repair, no-count, no-symbols, uneven, even-read}
+use borrow.Author.Needs.{needs}
 use Rattle.wire.proofs.read_repair.Statement.{statement}
 use Rattle.wire.proofs.read_repair.Tie as tie
 
@@ -15,48 +19,62 @@ unfolding repairCount
 returns c =
     let a = c .before .before .args in
     let z : length (a .packet .now) - 8 ≡ 0 = omega arith in
-    no-repair (a .e) (a .packet .now) (few (a .e) (a .packet .now) (rw (z, zero-div (a .e)) (omega arith)))
+    no-repair _ _ (no-symbols (a .size) (a .packet .now) (rw z (zero-div (a .size))))
 
 returns-2 : tie.Need-returns-2
 unfolding repairCount
-returns-2 c = let a = c .before .before .before .args in no-repair _ _ (few (a .e) (a .packet .now) (c .if2 .taken))
+returns-2 c =
+    let a = c .before .before .before .args in
+    no-repair _ _ (no-symbols (a .size) (a .packet .now) (rw (c .if2 .taken) (div-zero (length (a .packet .now) - 8))))
 
 returns-3 : tie.Need-returns-3
 unfolding repairCount
-returns-3 c = let a = c .before .before .before .before .args in no-repair _ _ (many (a .e) (a .packet .now) (c .before .if2 .left) (c .if3 .taken))
+returns-3 c =
+    let a = c .before .before .before .before .before .args in
+    no-repair _ _ (no-count (a .size) (a .packet .now) (sym (c .before .between .ensures) ∙ not-true (c .before .between .result) (c .if3 .taken)))
 
-mul-if4 : tie.Need-mul-if4
-mul-if4 c = let a = c .before .before .before .before .args in omega (arith, div-mul-le-self (length (a .packet .now) - 8) (a .e))
+-- what is known once the count was asked
+module _ (p : tie.Else3) where
+  abbrev packet : List ℕ
+  packet = p .before .before .before .before .before .args .packet .now
 
-add-if4 : tie.Need-add-if4
-add-if4 c = let a = c .before .before .before .before .args in omega (arith, div-mul-le-self (length (a .packet .now) - 8) (a .e))
+  abbrev size : ℕ
+  size = p .before .before .before .before .before .args .size
+
+  counted : within 1 16 (repairCount size packet) ≡ true
+  unfolding repairCount
+  counted = sym (p .before .between .ensures) ∙ not-false (p .before .between .result) (p .if3 .left)
+
+  product : (length packet - 8) / size * size ≤ length packet - 8
+  product = div-mul-le-self (length packet - 8) size
 
 returns-4 : tie.Need-returns-4
 unfolding repairCount
-returns-4 c = let a = c .before .before .before .before .before .args in no-repair _ _ (uneven (a .e) (a .packet .now) (c .before .before .if2 .left) (c .before .if3 .left) (c .if4 .taken))
+returns-4 c = no-repair _ _ (uneven (size (c .before)) (packet (c .before)) (counted (c .before)) (c .if4 .taken))
 
 returns-5 : tie.Need-returns-5
 unfolding repairCount repairKey densityThreshold protectedCount firstEsi
 returns-5 c =
-    let a = c .before .before .before .before .before .before .before .before .args in
-    let n = c .before .before .before in
+    let p = c .before .before .before in
     rw (c .before .before .load-u16 .ensures, c .before .load-u162 .ensures, c .load-u32 .ensures)
-    (repair-read (a .e) (a .packet .now) (n .before .before .if2 .left) (n .before .if3 .left) (n .if4 .left))
+    (even-read (size (p .before)) (packet (p .before)) (counted (p .before)) (p .if4 .left))
 
 pub read-repair-spec : {M : Type 1} → statement M
 read-repair-spec =
     tie.close
     (tie.spec
     returns
-    (λ c. search needs)
-    (λ c. search needs)
     returns-2
+    (λ c. search needs)
+    (λ c. search needs)
+    (λ c κs. search needs)
     returns-3
-    mul-if4
-    add-if4
+    (λ c. omega (arith, product c))
+    (λ c. omega (arith, product c))
     returns-4
     (λ c κs. search needs)
     (λ c κs. search needs)
-    (λ c. search needs)
     (λ c κs. search needs)
+    (λ c. search needs)
+    (λ c. search needs)
     returns-5)

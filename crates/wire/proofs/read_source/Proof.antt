@@ -1,9 +1,8 @@
 -- `wire::read_source` meets its contract.
 use native.Mathlib.Omega.{arith}
-use borrow.Author.Needs.{needs}
-use Prim.Native.Nat.{_-_}
 use Rattle.wire.specs.Packets.{sourceEsi}
 use Rattle.wire.proofs.Headers.{no-source, source-read}
+use borrow.Author.Needs.{needs}
 use Rattle.wire.proofs.read_source.Statement.{statement}
 use Rattle.wire.proofs.read_source.Tie as tie
 
@@ -12,9 +11,7 @@ returns c = no-source _ (omega arith)
 
 returns-2 : tie.Need-returns-2
 unfolding sourceEsi
-returns-2 c =
-    let p = c .before .before .before .args .packet .now in
-    rw (c .load-u32 .ensures) (source-read p (omega arith))
+returns-2 c = rw (c .load-u32 .ensures) (source-read (c .before .before .before .args .packet .now) (omega arith))
 
 pub read-source-spec : {M : Type 1} → statement M
 read-source-spec = tie.close (tie.spec returns (λ c. search needs) (λ c κs. search needs) returns-2)

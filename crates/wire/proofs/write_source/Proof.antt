@@ -13,7 +13,7 @@ returns : tie.Need-returns
 unfolding sourcePacket
 returns c =
     let a = c .before .before .before .before .before .before .before .before .before .before .args in
-    cc (whole (length (a .adu .now)) (a .adu .now) refl, front-next (length (a .adu .now)) (a .adu .now) (bytes 4 (a .esi .0)) (a .out .now) refl)
+    cc (whole (length (a .adu .now)) (a .adu .now) refl, front-next (length (a .adu .now)) (a .adu .now) (bytes 4 (a .first .0)) (a .out .now) refl)
 
 pub write-source-spec : {M : Type 1} → statement M
 write-source-spec = tie.close (tie.spec (λ c κs. search needs) (λ c κs. search needs) (λ c. search needs) returns)

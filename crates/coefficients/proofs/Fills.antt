@@ -1,0 +1,180 @@
+-- How a list, and the lists of a packet, come to stand in the output: the invariants of the two loops, and what a caller learns from an answer.
+use mathlib.Core.Path.{_≡_, refl, sym, ap, _∙_}
+use mathlib.Core.Bool.{Bool, true, false, cond}
+use mathlib.Core.List.{List, [], _∷_, _++_, append-assoc, append-nil}
+use Prim.Native.Nat.{ℕ, zero, suc, _+_, _-_, _*_, _≤_, _<_}
+use native.Mathlib.Nat.{le-of-eq, le-of-suc-le-suc, not-suc-le-zero, suc-mul, zero-mul}
+use native.Mathlib.Numerals.{add-one}
+use native.Mathlib.Omega.{arith}
+use lib.ListN.{length, take, drop, getD, set, length-append, length-take, take-append-drop}
+use lib.Seq.{take-suc-set, take-all, take-at, drop-at, drop-drop}
+use Rattle.tinymt.specs.Generator.{startOf}
+use Rattle.memory.specs.Part.{part, splice}
+use Rattle.memory.proofs.Parts.{cut, put, length-part, length-splice, past-splice, row-fits}
+use Rattle.wire.specs.Numbers.{keyAfter}
+use Rattle.wire.specs.Packets.{joined}
+use Rattle.wire.proofs.Settings.{both}
+use Rattle.wire.specs.declared.Scheme.{Scheme}
+use Rattle.coefficients.specs.declared.Coefficient.{Coefficient}
+use Rattle.coefficients.specs.declared.Filled.{Filled}
+use Rattle.coefficients.specs.declared.Filled.the-variants.{Done, Refused}
+use Rattle.coefficients.specs.Coefficients.{coefficientOf, Coefficients, coefficientsOf, keys, listsOf, allOk}
+use Rattle.coefficients.specs.Promises.{filledOf, Fills, FillsLists}
+use Rattle.coefficients.proofs.Lists.{extend-ok, list-more, list-length, refused-stays, length-keys}
+
+-- the first i bytes of out are the first i coefficients, none was refused, and state are the words after them
+pub record Partly (scheme : Scheme) (key dt : ℕ) (out state : List ℕ) (i : ℕ) : Type 0 where
+  pub list : take i out ≡ coefficientsOf scheme key dt i .list
+  pub ok : coefficientsOf scheme key dt i .ok ≡ true
+  pub words : state ≡ coefficientsOf scheme key dt i .state
+
+pub partly-none : (scheme : Scheme) (key dt : ℕ) (out : List ℕ) {state : List ℕ} → state ≡ startOf key → Partly scheme key dt out state 0
+unfolding coefficientsOf
+partly-none scheme key dt out e = record { list = refl; ok = refl; words = e }
+
+module _ {scheme : Scheme} {key dt : ℕ} {out state : List ℕ} {i : ℕ} (f : Partly scheme key dt out state i) where
+  module _ {c : Coefficient} (ec : c ≡ coefficientOf scheme dt state) where
+    next : coefficientsOf scheme key dt (i + 1) ≡ record {
+      list = take i out ++ cond (c .ok) (c .value ∷ []) [];
+      ok = c .ok;
+      draws = coefficientsOf scheme key dt i .draws + c .draws;
+      state = c .state;
+    }
+    next = rw (list-more scheme key dt i, f .list, extend-ok scheme dt (coefficientsOf scheme key dt i) (f .ok) (rw (f .words) at ec))
+
+    pub partly-more : i < length out → c .ok ≡ true → Partly scheme key dt (set out i (c .value)) (c .state) (i + 1)
+    partly-more h e = record { list = rw (next, e, add-one, take-suc-set); ok = rw next e; words = rw next }
+
+    pub partly-refused : (n : ℕ) → i < n → c .ok ≡ false → coefficientsOf scheme key dt n .ok ≡ false
+    partly-refused n h e = refused-stays scheme key dt (i + 1) n (rw add-one h) (rw next e)
+
+  pub partly-all : i ≡ length out → out ≡ coefficientsOf scheme key dt i .list
+  partly-all e = sym (take-all i out (le-of-eq (sym e))) ∙ f .list
+
+-- ---- one list
+
+pub fills-done : {l : Coefficients} {out out′ : List ℕ} → l .ok ≡ true → length out′ ≡ length out → out′ ≡ l .list → Fills l out Done out′
+fills-done e s f = record { answer = rw e; size = s; bytes = λ _. f }
+
+pub fills-refused : {l : Coefficients} {out out′ : List ℕ} → l .ok ≡ false → length out′ ≡ length out → Fills l out Refused out′
+fills-refused e s = record { answer = rw e; size = s; bytes = λ f. cc }
+
+done-true : (b : Bool) → Done ≡ filledOf b → b ≡ true
+done-true true h = refl
+done-true false h = cc
+
+refused-false : (b : Bool) → Refused ≡ filledOf b → b ≡ false
+refused-false true h = cc
+refused-false false h = refl
+
+module _ {l : Coefficients} {out : List ℕ} {r : Filled} {out′ : List ℕ} (f : Fills l out r out′) where
+  pub fills-was-done : r ≡ Done → l .ok ≡ true
+  fills-was-done e = done-true (l .ok) (sym e ∙ f .answer)
+
+  pub fills-was-refused : r ≡ Refused → l .ok ≡ false
+  fills-was-refused e = refused-false (l .ok) (sym e ∙ f .answer)
+
+-- ---- the lists of a packet
+
+-- after i lists: those still to come, from the key on, and the bytes before them give all that was asked; the bytes past them are as they were
+pub record Listed (scheme : Scheme) (dt n first count : ℕ) (out₀ out : List ℕ) (key i : ℕ) : Type 0 where
+  pub size : length out ≡ length out₀
+  pub ok : allOk scheme dt n (keys first count) ≡ allOk scheme dt n (keys key (count - i))
+  pub bytes : joined (listsOf scheme dt n (keys first count)) ≡ take (i * n) out ++ joined (listsOf scheme dt n (keys key (count - i)))
+  pub past : drop (i * n) out ≡ drop (i * n) out₀
+
+pub listed-none : (scheme : Scheme) (dt n first count : ℕ) (out : List ℕ) → Listed scheme dt n first count out out first 0
+listed-none scheme dt n first count out =
+    let e : count - 0 ≡ count = omega arith in
+    record { size = refl; ok = rw e; bytes = rw (e, zero-mul); past = refl }
+
+module _ (scheme : Scheme) (dt n first count : ℕ) (out₀ out : List ℕ) (key i : ℕ) (room : count * n ≤ length out₀) (below : i < count)
+    (l : Listed scheme dt n first count out₀ out key i) where
+  -- the bytes that are lent for list i
+  abbrev lent : List ℕ
+  lent = take (i * n + n - i * n) (drop (i * n) out)
+
+  fits : i * n + n ≤ length out
+  fits = omega (arith, row-fits count n i below, l .size)
+
+  pub lent-length : length lent ≡ n
+  lent-length = rw (cut (i * n) n out) (length-part (i * n) n out fits)
+
+  left : count - i ≡ suc (count - (i + 1))
+  left = omega arith
+
+  module _ (r : Filled) (x : List ℕ) (f : Fills (coefficientsOf scheme key dt (length lent)) lent r x) where
+    lengthed : length x ≡ n
+    lengthed = f .size ∙ lent-length
+
+    spliced : take (i * n) out ++ (x ++ drop (i * n + n - i * n) (drop (i * n) out)) ≡ splice (i * n) x out
+    spliced = put (i * n) n x out fits (f .size)
+
+    resized : length (splice (i * n) x out) ≡ length out₀
+    resized = length-splice (i * n) x out (omega (arith, fits, lengthed)) ∙ l .size
+
+    -- from any place past list i on
+    passed : (k : ℕ) → i * n + n ≤ k → drop k (splice (i * n) x out) ≡ drop k out₀
+    passed k h =
+        let e : k ≡ i * n + (k - i * n) = omega arith in
+        past-splice k (i * n) x out (omega (arith, lengthed)) (omega (arith, fits))
+        ∙ rw e (sym (drop-drop (k - i * n) (i * n) out) ∙ ap (drop (k - i * n)) (l .past) ∙ drop-drop (k - i * n) (i * n) out₀)
+
+    pub listed-more : r ≡ Done
+        → Listed scheme dt n first count out₀ (take (i * n) out ++ (x ++ drop (i * n + n - i * n) (drop (i * n) out))) (keyAfter key) (i + 1)
+    listed-more d =
+        let k : coefficientsOf scheme key dt n .ok ≡ true = rw lent-length at (fills-was-done f d) in
+        let e : x ≡ coefficientsOf scheme key dt n .list = rw lent-length at (f .bytes d) in
+        let m : (i + 1) * n ≡ i * n + n = rw add-one (suc-mul i n) in
+        let o = rw (left, k) at (l .ok) in
+        let b = rw (left, ← e, ← append-assoc (take (i * n) out) x) at (l .bytes) in
+        let g : length (take (i * n) out ++ x) ≡ i * n + n = simp (length-append, length-take) (omega (arith, fits, lengthed)) in
+        let h : take (i * n + n) (take (i * n) out ++ (x ++ drop (i * n + n - i * n) (drop (i * n) out))) ≡ take (i * n) out ++ x =
+        rw (← append-assoc (take (i * n) out) x) (take-at (take (i * n) out ++ x) _ (i * n + n) g) in
+        record { size = rw spliced resized; ok = o; bytes = rw (m, h) b; past = rw (m, spliced) (passed (i * n + n) (omega arith)) }
+
+    pub lists-refused : r ≡ Refused
+        → FillsLists scheme dt n (keys first count) out₀ Refused (take (i * n) out ++ (x ++ drop (i * n + n - i * n) (drop (i * n) out)))
+    lists-refused d =
+        let k : coefficientsOf scheme key dt n .ok ≡ false = rw lent-length at (fills-was-refused f d) in
+        record {
+          answer = rw (l .ok, left, k);
+          size = rw spliced resized;
+          bytes = λ e. cc;
+          past = rw (length-keys first count, spliced) (passed (count * n) (row-fits count n i below));
+        }
+
+pub lists-done : (scheme : Scheme) (dt n first count : ℕ) (out₀ out : List ℕ) (key : ℕ) → Listed scheme dt n first count out₀ out key count
+    → FillsLists scheme dt n (keys first count) out₀ Done out
+lists-done scheme dt n first count out₀ out key l =
+    let z : count - count ≡ 0 = omega arith in
+    let b = rw (z, append-nil) at (l .bytes) in
+    record {
+      answer = rw (l .ok, z);
+      size = l .size;
+      bytes = λ e. rw (length-keys first count, b, ← l .past) (sym (take-append-drop (count * n) out));
+      past = rw (length-keys first count) (l .past);
+    }
+
+-- what a caller learns from the answer
+module _ {scheme : Scheme} {dt n : ℕ} {ks out : List ℕ} {r : Filled} {out′ : List ℕ} (f : FillsLists scheme dt n ks out r out′) where
+  pub lists-were-done : r ≡ Done → allOk scheme dt n ks ≡ true
+  lists-were-done e = done-true (allOk scheme dt n ks) (sym e ∙ f .answer)
+
+  pub lists-were-refused : r ≡ Refused → allOk scheme dt n ks ≡ false
+  lists-were-refused e = refused-false (allOk scheme dt n ks) (sym e ∙ f .answer)
+
+-- list i, where the lists stand
+pub list-at : (scheme : Scheme) (dt n : ℕ) (ks rest : List ℕ) (i : ℕ) → allOk scheme dt n ks ≡ true → i < length ks
+    → part (i * n) n (joined (listsOf scheme dt n ks) ++ rest) ≡ coefficientsOf scheme (getD ks i 0) dt n .list
+unfolding part
+list-at scheme dt n [] rest i e h = absurd (not-suc-le-zero h)
+list-at scheme dt n (key ∷ ks) rest zero e h =
+    let k = both (coefficientsOf scheme key dt n .ok) _ e in
+    rw (zero-mul, append-assoc (coefficientsOf scheme key dt n .list)) (take-at (coefficientsOf scheme key dt n .list) _ n (list-length scheme key dt n (k .0)))
+list-at scheme dt n (key ∷ ks) rest (suc i) e h =
+    let k = both (coefficientsOf scheme key dt n .ok) _ e in
+    let m : suc i * n ≡ n + i * n = omega (arith, suc-mul i n) in
+    let d = drop-at (coefficientsOf scheme key dt n .list) (joined (listsOf scheme dt n ks) ++ rest) n (list-length scheme key dt n (k .0)) in
+    rw (m, ← drop-drop (i * n) n, append-assoc (coefficientsOf scheme key dt n .list), d)
+    (list-at scheme dt n ks rest i (k .1) (le-of-suc-le-suc h))

@@ -1,0 +1,69 @@
+-- `coefficients::fill_lists` meets its contract. The loop's invariant: the lists before i stand in the output (`Listed`).
+use mathlib.Core.Path.{_≡_, refl, sym}
+use Prim.Native.Nat.{ℕ, _+_, _*_, _-_, _≤_}
+use native.Mathlib.Omega.{arith}
+use lib.ListN.{length}
+use borrow.Author.Needs.{needs}
+use Rattle.memory.proofs.Parts.{row-fits}
+use Rattle.coefficients.proofs.Fills.{Listed, listed-none, listed-more, lists-refused, lists-done}
+use Rattle.coefficients.proofs.fill_lists.Statement.{statement}
+use Rattle.coefficients.proofs.fill_lists.Tie as tie
+
+abbrev Inv-loop : tie.InvT-loop
+Inv-loop out₀ n scheme dt count key₀ i₀ out key i = (i ≤ count) × Listed scheme dt n (key₀ .0) count out₀ out (key .0) i
+
+abbrev μ-loop : tie.MeasureT-loop
+μ-loop out₀ n scheme dt count key₀ i₀ out key i = count - i
+
+-- list i ends within the output
+in-room : (p : tie.In-loop Inv-loop μ-loop) → p .before .loop .i * p .before .before .before .args .n + p .before .before .before .args .n ≤ length (p .before .loop .out)
+in-room p =
+    let a = p .before .before .before .args in
+    omega (arith, row-fits (a .count) (a .n) (p .before .loop .i) (p .loop-test .taken), p .before .loop .inv .1 .size, p .before .before .before .pre .0)
+
+loop-holds : tie.Need-loop-holds Inv-loop μ-loop
+loop-holds c = (omega arith, listed-none _ _ _ _ _ _)
+
+returns : tie.Need-returns Inv-loop μ-loop
+returns c =
+    let p = c .before .before .before .before in
+    let q = p .before .before in
+    lists-refused _ _ _ _ _ _ _ _ _ (q .before .before .before .pre .0) (q .loop-test .taken) (q .before .loop .inv .1) _ _ (p .fill .ensures) (c .enum-told .given .1)
+
+loop-again : tie.Need-loop-again Inv-loop μ-loop
+loop-again c =
+    let p = c .before .before .before .before .before in
+    let q = p .before .before in (
+      omega arith,
+      rw (c .next .ensures)
+          (listed-more _ _ _ _ _ _ _ _ _ (q .before .before .before .pre .0) (q .loop-test .taken) (q .before .loop .inv .1) _ _ (p .fill .ensures) (c .before .enum-told2 .given .1)),
+    )
+
+returns-2 : tie.Need-returns-2 Inv-loop μ-loop
+returns-2 c =
+    let e : c .before .loop .i ≡ c .before .before .before .args .count = omega arith in
+    lists-done _ _ _ _ _ _ _ _ (rw e at (c .before .loop .inv .1))
+
+pub fill-lists-spec : {M : Type 1} → statement M
+fill-lists-spec =
+    tie.close
+    (tie.spec
+    Inv-loop
+    μ-loop
+    loop-holds
+    (λ c. omega (arith, in-room c))
+    (λ c. omega (arith, in-room c))
+    (λ c. omega (arith, in-room c))
+    (λ c. omega (arith, in-room c))
+    (λ c. omega (arith, in-room c))
+    (λ c κs. search needs)
+    (λ c. search needs)
+    (λ c. search needs)
+    returns
+    (λ c. search needs)
+    (λ c κs. search needs)
+    (λ c. search needs)
+    (λ c. omega arith)
+    loop-again
+    (λ c. search needs)
+    returns-2)

@@ -1,0 +1,35 @@
+-- What the calls of this crate promise. Refusal 10 is the answer `Refused`; what the output then holds is free, but for what is said here.
+use mathlib.Core.Path.{_≡_}
+use Prim.Native.Nat.{ℕ, _*_}
+use mathlib.Core.Bool.{Bool, true, false}
+use mathlib.Core.List.{List, _++_}
+use lib.ListN.{length, drop}
+use Rattle.wire.specs.declared.Scheme.{Scheme}
+use Rattle.wire.specs.Packets.{joined}
+use Rattle.coefficients.specs.declared.Filled.{Filled}
+use Rattle.coefficients.specs.declared.Filled.the-variants.{Done, Refused}
+use Rattle.coefficients.specs.Coefficients.{Coefficients, listsOf, allOk}
+
+-- the answer: done, or refused
+abbrev pub filledOf : Bool → Filled
+filledOf true = Done
+filledOf false = Refused
+
+-- the number that document 01 gives each answer
+abbrev pub numberOf : Filled → ℕ
+numberOf Done = 0
+numberOf Refused = 10
+
+-- one list: the answer, and, where it was done, every byte of the output; refused, the output keeps its length
+pub record Fills (l : Coefficients) (out : List ℕ) (r : Filled) (out′ : List ℕ) : Type 0 where
+  pub answer : r ≡ filledOf (l .ok)
+  pub size : length out′ ≡ length out
+  pub bytes : r ≡ Done → out′ ≡ l .list
+
+-- the lists of the keys, of n coefficients each: the answer, and, where it was done, the lists one after the other, then what stood past them;
+-- refused, the output keeps its length and the bytes past the lists
+pub record FillsLists (scheme : Scheme) (dt n : ℕ) (ks out : List ℕ) (r : Filled) (out′ : List ℕ) : Type 0 where
+  pub answer : r ≡ filledOf (allOk scheme dt n ks)
+  pub size : length out′ ≡ length out
+  pub bytes : r ≡ Done → out′ ≡ joined (listsOf scheme dt n ks) ++ drop (length ks * n) out
+  pub past : drop (length ks * n) out′ ≡ drop (length ks * n) out
