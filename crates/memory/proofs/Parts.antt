@@ -1,13 +1,14 @@
 -- Laws of `part` and `splice`, at any place and size.
 use mathlib.Core.Path.{_≡_, refl, sym, ap, _∙_}
+use mathlib.Core.Logic.{_⊎_, inl, inr}
 use Prim.Native.Nat.{ℕ, zero, suc, _+_, _-_, _*_, _≤_, _<_}
 use native.Mathlib.Nat.{le-of-suc-le-suc, not-suc-le-zero, suc-add, zero-add, add-zero, suc-mul, mul-le-mul-right}
 use native.Mathlib.Numerals.{add-one}
 use native.Mathlib.Omega.{arith}
 use mathlib.Core.List.{List, [], _∷_, _++_, append-assoc}
-use lib.ListN.{length, take, drop, getD, length-append, length-take, length-drop, take-append-drop}
-use lib.Seq.{take-all, getD-take, getD-drop, take-at, take-append-le, drop-append-le, take-append-seam, drop-append-seam, drop-append-add, drop-drop, take-take, take-add, drop-cons, sets, sets-eq}
-use Rattle.memory.specs.Part.{part, splice}
+use lib.ListN.{length, take, drop, getD, set, length-set, length-append, length-take, length-drop, take-append-drop}
+use lib.Seq.{take-all, getD-take, getD-drop, take-at, take-append-le, drop-append-le, take-append-seam, drop-append-seam, drop-append-add, drop-drop, take-take, take-add, drop-cons, sets, sets-eq, set-append-left}
+use Rattle.memory.specs.Part.{part, splice, Apart}
 
 pub cons-eq : {A : Type 0} {x y : A} {l k : List A} → x ≡ y → l ≡ k → x ∷ l ≡ y ∷ k
 cons-eq p q = λ j. p j ∷ q j
@@ -93,6 +94,38 @@ part-past b n a x m h k = rw past-splice
 -- a byte past the place
 pub getD-past : (i a : ℕ) (x m : List ℕ) → a + length x ≤ i → a ≤ length m → getD (splice a x m) i 0 ≡ getD m i 0
 getD-past i a x m h k = rw (← add-zero i, ← getD-drop i (splice a x m) 0 0, ← getD-drop i m 0 0, past-splice i a x m h k)
+
+-- a byte before the place
+pub getD-before : (i a : ℕ) (x m : List ℕ) → i < a → a ≤ length m → getD (splice a x m) i 0 ≡ getD m i 0
+unfolding splice
+getD-before i zero x m h k = absurd (not-suc-le-zero h)
+getD-before i (suc a) x [] h k = absurd (not-suc-le-zero k)
+getD-before zero (suc a) x (y ∷ m) h k = refl
+getD-before (suc i) (suc a) x (y ∷ m) h k = getD-before i a x m (le-of-suc-le-suc h) (le-of-suc-le-suc k)
+
+-- a byte of a stretch that is apart from the place
+pub getD-apart : (a b n i : ℕ) (x m : List ℕ) → Apart a b n → length x ≡ n → i < n → a ≤ length m → getD (splice a x m) (b + i) 0 ≡ getD m (b + i) 0
+getD-apart a b n i x m (inl h) e l k = getD-past (b + i) a x m (omega arith) k
+getD-apart a b n i x m (inr h) e l k = getD-before (b + i) a x m (omega arith) k
+
+getD-front : (x y : List ℕ) (i : ℕ) → i < length x → getD (x ++ y) i 0 ≡ getD x i 0
+getD-front [] y i h = absurd (not-suc-le-zero h)
+getD-front (z ∷ x) y zero h = refl
+getD-front (z ∷ x) y (suc i) h = getD-front x y i (le-of-suc-le-suc h)
+
+-- a byte of the place
+pub getD-within : (a i : ℕ) (x m : List ℕ) → i < length x → a ≤ length m → getD (splice a x m) (a + i) 0 ≡ getD x i 0
+unfolding splice
+getD-within zero i x m h k = rw zero-add (getD-front x (drop (length x) m) i h)
+getD-within (suc a) i x [] h k = absurd (not-suc-le-zero k)
+getD-within (suc a) i x (y ∷ m) h k = rw suc-add (getD-within a i x m h (le-of-suc-le-suc k))
+
+-- a store of one byte of the place
+pub set-splice : (a i v : ℕ) (x m : List ℕ) → i < length x → a ≤ length m → set (splice a x m) (a + i) v ≡ splice a (set x i v) m
+unfolding splice
+set-splice zero i v x m h k = rw (zero-add, length-set) (set-append-left x (drop (length x) m) i v h)
+set-splice (suc a) i v x [] h k = absurd (not-suc-le-zero k)
+set-splice (suc a) i v x (y ∷ m) h k = rw suc-add (ap (λ (l : List ℕ). y ∷ l) (set-splice a i v x m h (le-of-suc-le-suc k)))
 
 pub whole : (n : ℕ) (x : List ℕ) → length x ≡ n → part 0 n x ≡ x
 unfolding part

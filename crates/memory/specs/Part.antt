@@ -1,7 +1,8 @@
 -- A part of a memory, and a memory with a part replaced.
 use mathlib.Core.Path.{_≡_}
+use mathlib.Core.Logic.{_⊎_}
 use denote.Ref.{RefT, now, ptr}
-use Prim.Native.Nat.{ℕ, _+_}
+use Prim.Native.Nat.{ℕ, _+_, _≤_}
 use mathlib.Core.List.{List, _++_}
 use lib.ListN.{length, take, drop}
 
@@ -12,6 +13,10 @@ part a n m = take n (drop a m)
 -- m with x in place of the bytes from a on
 unfoldable pub splice : ℕ → List ℕ → List ℕ → List ℕ
 splice a x m = take a m ++ (x ++ drop (length x) (drop a m))
+
+-- the n bytes from a on and the n bytes from b on have none in common
+abbrev pub Apart : (a b n : ℕ) → Type 0
+Apart a b n = (a + n ≤ b) ⊎ (b + n ≤ a)
 
 -- the slice r is the n bytes from a on of the slice m, and lies where they lie
 pub record LiesAt (r m : RefT (List ℕ)) (a n : ℕ) : Type 0 where

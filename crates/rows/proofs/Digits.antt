@@ -11,38 +11,17 @@ use lib.ListN.{length, getD, replicate, length-replicate, getD-replicate}
 use lib.Seq.{ext-getD}
 use lib.Dec.{lit<}
 use Rattle.field.specs.Gf256.{product, power, inverse}
-use Rattle.field.proofs.Xor.{xor-swap, xor-assoc, split-digit}
+use Rattle.field.proofs.Xor.{xor-assoc}
 use Rattle.field.specs.Field.{gf256}
 use Rattle.field.proofs.Fields.{gf256-laws}
-use Rattle.field.proofs.Derived.{product-zero-right, product-sum-right}
-use Rattle.field.proofs.Laws.{product-comm, product-assoc, product-sum, product-inverse}
+use Rattle.field.proofs.Derived.{product-sum-right}
+use Rattle.field.proofs.Laws.{product-inverse}
 use Rattle.memory.specs.Number.{Bytes}
 use Rattle.memory.proofs.Parts.{row-fits, length-part}
-use Rattle.rows.specs.Rows.{scaled}
+use Rattle.rows.specs.Rows.{addScaled, scaled}
 use Rattle.rows.specs.Combination.{dot, combined, coefficient, shifted, digit, rowAt}
 use Rattle.rows.proofs.Sums.{length-addScaled, getD-addScaled, length-scaled, getD-scaled, addScaled-zero, scaled-scaled, scaled-one}
-use Rattle.rows.proofs.Product.{product-double}
-
--- ---- a combination of numbers
-
-twice : (q x : ℕ) → product 2 (product q x) ≡ product (q * 2) x
-twice q x = ap (product 2) (product-comm q x) ∙ sym (product-assoc 2 x q) ∙ sym (product-double x q) ∙ product-comm x (q * 2)
-
--- c x = (the last digit of c) x + 2 (the half of c) x
-halves : (c x : ℕ) → bitXor (product (c % 2) x) (product 2 (product (c / 2) x)) ≡ product c x
-halves c x =
-    ap (bitXor (product (c % 2) x)) (twice (c / 2) x) ∙ sym (product-sum (c % 2) (c / 2 * 2) x) ∙ ap (λ (y : ℕ). product y x) (split-digit c)
-
--- the same of all terms
-dot-halves : (c x : ℕ → ℕ) (n : ℕ) → bitXor (dot (λ k. c k % 2) x n) (product 2 (dot (λ k. c k / 2) x n)) ≡ dot c x n
-dot-halves c x zero = product-zero-right gf256 gf256-laws 2
-dot-halves c x (suc n) =
-    let o = dot (λ k. c k % 2) x n in
-    let h = dot (λ k. c k / 2) x n in
-    let a = product (c n % 2) (x n) in
-    let b = product (c n / 2) (x n) in
-    ap (bitXor (bitXor o a)) (product-sum-right gf256 gf256-laws 2 h b) ∙ xor-swap o a (product 2 h) (product 2 b)
-    ∙ ap₂ bitXor (dot-halves c x n) (halves (c n) (x n))
+use Rattle.rows.proofs.Dot.{dot-halves}
 
 -- ---- combinations of lists
 
@@ -50,6 +29,12 @@ pub length-combined : (row : ℕ → List ℕ) (c : ℕ → ℕ) (n : ℕ) (d : 
 unfolding combined
 length-combined row c zero d = refl
 length-combined row c (suc n) d = length-addScaled (c n) (combined c row n d) (row n) ∙ length-combined row c n d
+
+-- one more row of a memory: a turn of a loop that adds them in order
+pub row-added : (c : ℕ → ℕ) (m : List ℕ) (a s k : ℕ) (d₀ d r : List ℕ) → d ≡ combined c (rowAt m a s (length d₀)) k d₀ → length d ≡ length d₀
+    → r ≡ addScaled (c k) d (rowAt m a s (length d) k) → r ≡ combined c (rowAt m a s (length d₀)) (k + 1) d₀
+unfolding combined
+row-added c m a s k d₀ d r p q e = rw (e, q, p, add-one)
 
 -- no row is added
 combined-none : (row : ℕ → List ℕ) (c : ℕ → ℕ) (n : ℕ) (d : List ℕ) → ((k : ℕ) → c k ≡ 0) → combined c row n d ≡ d

@@ -1,11 +1,11 @@
 -- `rows::scale` meets its contract. The loop: the first i elements are those of the result.
-use mathlib.Core.Path.{_≡_}
+use mathlib.Core.Path.{_≡_, sym}
 use Prim.Native.Nat.{_≤_, _<_, _-_}
 use native.Mathlib.Omega.{arith}
 use lib.ListN.{length}
 use Rattle.memory.proofs.Loop.{turned, turned-rest, turn, turned-all}
 use Rattle.rows.specs.Rows.{scaled}
-use Rattle.rows.proofs.Sums.{length-scaled, getD-scaled}
+use Rattle.rows.proofs.Sums.{length-scaled, getD-scaled, scaled-one}
 use borrow.Author.Needs.{needs}
 use Rattle.rows.proofs.scale.Statement.{statement}
 use Rattle.rows.proofs.scale.Tie as tie
@@ -16,6 +16,12 @@ Inv-loop row₀ m i₀ i-end row i =
 
 abbrev μ-loop : tie.MeasureT-loop
 μ-loop row₀ m i₀ i-end row i = i-end - i
+
+returns : tie.Need-returns Inv-loop μ-loop
+returns c =
+    let a = c .before .before .before .args in
+    let e : a .c .0 ≡ 1 = omega arith in
+    rw e (sym (scaled-one (a .row .now) (λ i. c .before .before .slice-known .given i .fits)))
 
 multiples-of-requires : tie.Need-multiples-of-requires Inv-loop μ-loop
 multiples-of-requires c κs = search needs
@@ -40,7 +46,7 @@ loop-less c = search needs
 
 loop-again : tie.Need-loop-again Inv-loop μ-loop
 loop-again c =
-    let a = c .before .before .before .before .before .before .args in
+    let a = c .before .before .before .before .before .before .before .before .args in
     let t = c .before .before .before .loop in
     let k = c .before .before .before .before .multiples-of .result .0 in
     let l : length (scaled k (a .row .now)) ≡ length (a .row .now) = length-scaled k (a .row .now) in
@@ -53,9 +59,9 @@ loop-again c =
 same-length : tie.Need-same-length Inv-loop μ-loop
 same-length c = search needs
 
-returns : tie.Need-returns Inv-loop μ-loop
-returns c =
-    let a = c .before .before .before .before .args in
+returns-2 : tie.Need-returns-2 Inv-loop μ-loop
+returns-2 c =
+    let a = c .before .before .before .before .before .before .args in
     let k = c .before .before .multiples-of .result .0 in
     cc (turned-all (a .row .now) (scaled k (a .row .now)) (c .before .loop .i) (length-scaled k (a .row .now)) (omega arith))
 
@@ -65,6 +71,7 @@ scale-spec =
     (tie.spec
     Inv-loop
     μ-loop
+    returns
     multiples-of-requires
     loop-holds
     slice-read-multiply
@@ -74,4 +81,4 @@ scale-spec =
     loop-less
     loop-again
     same-length
-    returns)
+    returns-2)

@@ -9,14 +9,38 @@ use Rattle.rows.proofs.combination.combine.Tie as tie
 fill-requires : tie.Need-fill-requires
 fill-requires c κs = search needs
 
-add-digits-requires : tie.Need-add-digits-requires
-add-digits-requires c κs = search needs
+general-requires : tie.Need-general-requires
+general-requires c κs = search needs
+
+add-rows-requires : tie.Need-add-rows-requires
+add-rows-requires c κs = search needs
 
 same-length : tie.Need-same-length
 same-length c = search needs
 
 returns : tie.Need-returns
-returns c = cc (scaled-zeros (power 8) (length (c .before .before .before .before .before .before .before .before .before .before .before .args .dst .now)))
+returns c = cc
+
+add-digits-requires : tie.Need-add-digits-requires
+add-digits-requires c κs = search needs
+
+same-length-2 : tie.Need-same-length-2
+same-length-2 c = search needs
+
+returns-2 : tie.Need-returns-2
+returns-2 c =
+    let n = length (c .before .before .before .before .before .before .before .before .before .before .before .before .before .args .dst .now) in
+    cc (scaled-zeros (power 8) n)
 
 pub combine-spec : {M : Type 1} → statement M
-combine-spec = tie.close (tie.spec fill-requires add-digits-requires same-length returns)
+combine-spec =
+    tie.close
+    (tie.spec
+    fill-requires
+    general-requires
+    add-rows-requires
+    same-length
+    returns
+    add-digits-requires
+    same-length-2
+    returns-2)

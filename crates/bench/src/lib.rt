@@ -1,0 +1,88 @@
+// The row operations under C names, for the driver bench/rows.c. A call whose lengths do not fit does nothing.
+ghost use mathlib.Core.Path.{_≡_};
+ghost use lib.ListN.{length};
+ghost use Rattle.rows.specs.Rows.{addScaled};
+use field::Gf256;
+use field::tables;
+
+// dst becomes src.
+#[no_mangle]
+pub extern "C" fn bench_copy(dst: &mut [u8], src: &[u8]) {
+    if dst.len() != src.len() {
+        return;
+    }
+    memory::copy(dst, src);
+}
+
+// dst becomes dst + c * src.
+#[no_mangle]
+pub extern "C" fn bench_add_scaled(dst: &mut [u8], src: &[u8], c: u8) {
+    if dst.len() != src.len() {
+        return;
+    }
+    rows::add_scaled(dst, src, Gf256(c));
+}
+
+// The same, each product from the two tables.
+fn add_by_tables(dst: &mut [u8], src: &[u8], c: u8)
+    requires { ⌜ length (now dst) ≡ length (now src) ⌝ }
+    ensures { λ _. ⌜ now (dst .exit) ≡ addScaled c (now (dst .entry)) (now (src .entry)) ⌝ }
+{
+    let powers = tables::powers();
+    let logarithms = tables::logarithms();
+    for i in 0..dst.len() {
+        dst[i] = dst[i] ^ tables::product(&powers, &logarithms, c, src[i]);
+    }
+}
+
+#[no_mangle]
+pub extern "C" fn bench_add_by_tables(dst: &mut [u8], src: &[u8], c: u8) {
+    if dst.len() != src.len() {
+        return;
+    }
+    add_by_tables(dst, src, c);
+}
+
+// The n bytes of mem from a on become themselves + c * (the n bytes of mem from b on).
+#[no_mangle]
+pub extern "C" fn bench_add_within(mem: &mut [u8], a: usize, b: usize, n: usize, c: u8) {
+    if mem.len() < n {
+        return;
+    }
+    if mem.len() - n < a {
+        return;
+    }
+    if a < n {
+        return;
+    }
+    if a - n < b {
+        return;
+    }
+    rows::add_within(mem, a, b, n, Gf256(c));
+}
+
+// dst becomes the sum of the rows of mem, row k times cs[k]. The rows fill mem.
+#[no_mangle]
+pub extern "C" fn bench_combine(dst: &mut [u8], cs: &[u8], mem: &[u8]) {
+    if cs.len() == 0 {
+        return;
+    }
+    let s = mem.len() / cs.len();
+    if dst.len() > s {
+        return;
+    }
+    rows::combination::combine(dst, cs, mem, 0, s);
+}
+
+// dst becomes dst + the same.
+#[no_mangle]
+pub extern "C" fn bench_add_combination(dst: &mut [u8], cs: &[u8], mem: &[u8]) {
+    if cs.len() == 0 {
+        return;
+    }
+    let s = mem.len() / cs.len();
+    if dst.len() > s {
+        return;
+    }
+    rows::combination::add_combination(dst, cs, mem, 0, s);
+}

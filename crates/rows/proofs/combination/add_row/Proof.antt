@@ -1,0 +1,52 @@
+-- `rows::combination::add_row` meets its contract.
+use lib.ListN.{length}
+use Prim.Native.Nat.{_+_, _*_}
+use Rattle.memory.proofs.Parts.{cut}
+use Rattle.rows.specs.Combination.{rowAt}
+use borrow.Author.Needs.{needs}
+use Rattle.rows.proofs.combination.add_row.Statement.{statement}
+use Rattle.rows.proofs.combination.add_row.Tie as tie
+
+mul-at : tie.Need-mul-at
+mul-at c = search needs
+
+add-at : tie.Need-add-at
+add-at c = search needs
+
+add-add-scaled : tie.Need-add-add-scaled
+add-add-scaled c = search needs
+
+sub-add-scaled : tie.Need-sub-add-scaled
+sub-add-scaled c = search needs
+
+part-add-scaled-start : tie.Need-part-add-scaled-start
+part-add-scaled-start c = search needs
+
+part-add-scaled-end : tie.Need-part-add-scaled-end
+part-add-scaled-end c = search needs
+
+add-scaled-requires : tie.Need-add-scaled-requires
+add-scaled-requires c κs = search needs
+
+same-length : tie.Need-same-length
+same-length c = search needs
+
+returns : tie.Need-returns
+unfolding rowAt
+returns c =
+    let a = c .before .before .before .before .before .before .before .args in
+    cc (cut (a .a + a .k * a .s) (length (a .dst .now)) (a .mem .now))
+
+pub add-row-spec : {M : Type 1} → statement M
+add-row-spec =
+    tie.close
+    (tie.spec
+    mul-at
+    add-at
+    add-add-scaled
+    sub-add-scaled
+    part-add-scaled-start
+    part-add-scaled-end
+    add-scaled-requires
+    same-length
+    returns)

@@ -1,0 +1,66 @@
+-- `rows::combination::add_rows` meets its contract. The loop: the first k rows have been added.
+use mathlib.Core.Path.{_≡_}
+use Prim.Native.Nat.{_≤_, _-_}
+use native.Mathlib.Omega.{arith}
+use lib.ListN.{length}
+use Rattle.memory.proofs.Parts.{row-fits}
+use Rattle.rows.specs.Combination.{combined, coefficient, rowAt}
+use Rattle.rows.proofs.Digits.{row-added}
+use borrow.Author.Needs.{needs}
+use Rattle.rows.proofs.combination.add_rows.Statement.{statement}
+use Rattle.rows.proofs.combination.add_rows.Tie as tie
+
+abbrev Inv-loop : tie.InvT-loop
+Inv-loop dst₀ cs mem a s k₀ k-end dst k =
+    (k ≤ length cs) × (dst ≡ combined (coefficient cs) (rowAt mem a s (length dst₀)) k dst₀) × (length dst ≡ length dst₀)
+
+abbrev μ-loop : tie.MeasureT-loop
+μ-loop dst₀ cs mem a s k₀ k-end dst k = k-end - k
+
+loop-holds : tie.Need-loop-holds Inv-loop μ-loop
+unfolding combined
+loop-holds c = search needs
+
+shared-slice-read-t13 : tie.Need-shared-slice-read-t13 Inv-loop μ-loop
+shared-slice-read-t13 c = search needs
+
+add-row-requires : tie.Need-add-row-requires Inv-loop μ-loop
+add-row-requires c κs =
+    let a = c .before .before .before .before .before .before .before .args in
+    let fits = row-fits (length (a .cs .now)) (a .s) (c .before .before .before .loop .k) (omega arith) in
+    (search needs, omega arith)
+
+add-k : tie.Need-add-k Inv-loop μ-loop
+add-k c = search needs
+
+loop-less : tie.Need-loop-less Inv-loop μ-loop
+loop-less c = search needs
+
+loop-again : tie.Need-loop-again Inv-loop μ-loop
+loop-again c =
+    let a = c .before .before .before .before .before .before .before .before .before .before .args in
+    let t = c .before .before .before .before .before .before .loop in
+    (search needs, row-added (coefficient (a .cs .now)) (a .mem .now) (a .a) (a .s) (t .k) (a .dst .now) (t .dst) _ (t .inv .1) (t .inv .2) (c .before .before .add-row .ensures), search needs)
+
+same-length : tie.Need-same-length Inv-loop μ-loop
+same-length c = search needs
+
+returns : tie.Need-returns Inv-loop μ-loop
+returns c =
+    let e : c .before .loop .k ≡ length (c .before .before .before .before .before .args .cs .now) = omega arith in
+    cc
+
+pub add-rows-spec : {M : Type 1} → statement M
+add-rows-spec =
+    tie.close
+    (tie.spec
+    Inv-loop
+    μ-loop
+    loop-holds
+    shared-slice-read-t13
+    add-row-requires
+    add-k
+    loop-less
+    loop-again
+    same-length
+    returns)
