@@ -40,6 +40,12 @@ pub product-zero : (a : ℕ) → product 0 a ≡ 0
 unfolding product
 product-zero a = refl
 
+pub product-zero-right : (a : ℕ) → product a 0 ≡ 0
+product-zero-right a = product-comm a 0 ∙ product-zero a
+
+pub product-sum-right : (c a b : ℕ) → product c (bitXor a b) ≡ bitXor (product c a) (product c b)
+product-sum-right c a b = product-comm c (bitXor a b) ∙ product-sum a b c ∙ ap₂ bitXor (product-comm a c) (product-comm b c)
+
 pub product-one : (a : ℕ) → a < 256 → product 1 a ≡ a
 unfolding product
 product-one a h = ap remainder (times-comm 1 a ∙ times-one a) ∙ remainder-id a h

@@ -12,56 +12,21 @@ use lib.Seq.{ext-getD}
 use lib.Dec.{lit<}
 use Rattle.field.specs.Gf256.{product, power, inverse}
 use Rattle.field.proofs.Xor.{xor-assoc}
-use Rattle.field.specs.Field.{gf256}
-use Rattle.field.proofs.Fields.{gf256-laws}
-use Rattle.field.proofs.Derived.{product-sum-right}
-use Rattle.field.proofs.Laws.{product-inverse}
+use Rattle.field.proofs.Laws.{product-sum-right, product-inverse}
 use Rattle.memory.specs.Number.{Bytes}
 use Rattle.memory.proofs.Parts.{row-fits, length-part}
 use Rattle.rows.specs.Rows.{addScaled, scaled}
-use Rattle.rows.specs.Combination.{dot, combined, coefficient, shifted, digit, rowAt}
+use Rattle.rows.specs.Combination.{dot, combined, coefficient}
+use Rattle.rows.specs.Digits.{shifted, digit}
 use Rattle.rows.proofs.Sums.{length-addScaled, getD-addScaled, length-scaled, getD-scaled, addScaled-zero, scaled-scaled, scaled-one}
 use Rattle.rows.proofs.Dot.{dot-halves}
-
--- ---- combinations of lists
-
-pub length-combined : (row : ℕ → List ℕ) (c : ℕ → ℕ) (n : ℕ) (d : List ℕ) → length (combined c row n d) ≡ length d
-unfolding combined
-length-combined row c zero d = refl
-length-combined row c (suc n) d = length-addScaled (c n) (combined c row n d) (row n) ∙ length-combined row c n d
-
--- one more row of a memory: a turn of a loop that adds them in order
-pub row-added : (c : ℕ → ℕ) (m : List ℕ) (a s k : ℕ) (d₀ d r : List ℕ) → d ≡ combined c (rowAt m a s (length d₀)) k d₀ → length d ≡ length d₀
-    → r ≡ addScaled (c k) d (rowAt m a s (length d) k) → r ≡ combined c (rowAt m a s (length d₀)) (k + 1) d₀
-unfolding combined
-row-added c m a s k d₀ d r p q e = rw (e, q, p, add-one)
+use Rattle.rows.proofs.Combinations.{length-combined, getD-combined}
 
 -- no row is added
 combined-none : (row : ℕ → List ℕ) (c : ℕ → ℕ) (n : ℕ) (d : List ℕ) → ((k : ℕ) → c k ≡ 0) → combined c row n d ≡ d
 unfolding combined
 combined-none row c zero d z = refl
 combined-none row c (suc n) d z = rw (z n, addScaled-zero) (combined-none row c n d z)
-
--- element by element
-pub getD-combined : (row : ℕ → List ℕ) (l : ℕ) (c : ℕ → ℕ) (n : ℕ) → ((k : ℕ) → k < n → l ≤ length (row k)) → (d : List ℕ) → length d ≡ l
-    → (i : ℕ) → i < l → getD (combined c row n d) i 0 ≡ bitXor (getD d i 0) (dot c (λ k. getD (row k) i 0) n)
-unfolding combined
-getD-combined row l c zero long d e i h = sym (xor-zero-r (getD d i 0))
-getD-combined row l c (suc n) long d e i h =
-    getD-addScaled (c n) (combined c row n d) (row n) i (omega (arith, length-combined row c n d)) (omega (arith, long n (omega arith)))
-    ∙ ap (λ (x : ℕ). bitXor x (product (c n) (getD (row n) i 0))) (getD-combined row l c n (λ k g. long k (omega arith)) d e i h)
-    ∙ xor-assoc (getD d i 0) (dot c (λ k. getD (row k) i 0) n) (product (c n) (getD (row n) i 0))
-
-pub getD-alone : (row : ℕ → List ℕ) (l : ℕ) (c : ℕ → ℕ) (n : ℕ) → ((k : ℕ) → k < n → l ≤ length (row k)) → (i : ℕ) → i < l
-    → getD (combined c row n (replicate l 0)) i 0 ≡ dot c (λ k. getD (row k) i 0) n
-getD-alone row l c n long i h =
-    getD-combined row l c n long (replicate l 0) (length-replicate l 0) i h
-    ∙ ap (λ (z : ℕ). bitXor z (dot c (λ k. getD (row k) i 0) n)) (getD-replicate l i 0 0 h)
-
--- the rows of a memory that has room for them
-pub long-rows : (m : List ℕ) (a s l n : ℕ) → l ≤ s → a + n * s ≤ length m → (k : ℕ) → k < n → l ≤ length (rowAt m a s l k)
-unfolding rowAt
-long-rows m a s l n h g k lt = let f = row-fits n s k lt in omega (arith, length-part (a + k * s) l m (omega arith))
 
 module _ (row : ℕ → List ℕ) (l n : ℕ) (long : (k : ℕ) → k < n → l ≤ length (row k)) where
   -- by the last digits and the halves of the coefficients
@@ -83,7 +48,7 @@ module _ (row : ℕ → List ℕ) (l n : ℕ) (long : (k : ℕ) → k < n → l 
       let half-dot : ℕ = dot (λ k. c k / 2) x n in
       getD-combined row l (λ k. c k % 2) n long (scaled 2 half) ls i g
       ∙ ap (λ (z : ℕ). bitXor z odd)
-      (getD-scaled 2 half i (omega arith) ∙ ap (product 2) (getD-combined row l (λ k. c k / 2) n long d e i g) ∙ product-sum-right gf256 gf256-laws 2 y half-dot)
+      (getD-scaled 2 half i (omega arith) ∙ ap (product 2) (getD-combined row l (λ k. c k / 2) n long d e i g) ∙ product-sum-right 2 y half-dot)
       ∙ xor-assoc (product 2 y) (product 2 half-dot) odd
       ∙ ap₂ bitXor (sym (getD-scaled 2 d i (omega arith))) (xor-comm (product 2 half-dot) odd ∙ dot-halves c x n)
       ∙ sym (getD-combined row l c n long (scaled 2 d) ld i g))
@@ -117,10 +82,12 @@ pub scaled-start : (d : List ℕ) → Bytes d → scaled (power 0) d ≡ d
 unfolding power
 scaled-start d h = scaled-one d h
 
-pub power-8 : power 8 ≡ 29
-unfolding power product
-power-8 = refl
-
--- what was divided by 2^8 comes back
-pub scaled-back : (d : List ℕ) → Bytes d → scaled (power 8) (scaled (inverse 29) d) ≡ d
-scaled-back d h = scaled-scaled (power 8) (inverse 29) d ∙ ap (λ (k : ℕ). scaled k d) (ap (λ (x : ℕ). product x (inverse 29)) power-8 ∙ product-inverse 29 (lit< tt) (lit< tt)) ∙ scaled-one d h
+-- what was divided by 2^8 = 2 * 128 comes back
+pub scaled-back : (d : List ℕ) → Bytes d → scaled (power 8) (scaled (inverse (product 2 128)) d) ≡ d
+scaled-back d h =
+    let e : product 2 128 ≡ 29 = unfold product in refl in
+    let p : power 8 ≡ product 2 128 = unfold power product in refl in
+    scaled-scaled (power 8) (inverse (product 2 128)) d
+    ∙ ap (λ (k : ℕ). scaled k d)
+    (ap (λ (x : ℕ). product x (inverse (product 2 128))) p ∙ product-inverse (product 2 128) (omega arith) (omega arith))
+    ∙ scaled-one d h

@@ -6,10 +6,7 @@ use mathlib.Core.List.{List, [], _∷_}
 use lib.Bits.{bitXor, xor-zero-r}
 use lib.ListN.{length, take, drop, getD, replicate, length-map}
 use Rattle.field.specs.Gf256.{product}
-use Rattle.field.proofs.Laws.{product-zero, product-one, product-assoc}
-use Rattle.field.specs.Field.{gf256}
-use Rattle.field.proofs.Fields.{gf256-laws}
-use Rattle.field.proofs.Derived.{product-zero-right}
+use Rattle.field.proofs.Laws.{product-zero, product-zero-right, product-one, product-assoc}
 use Rattle.memory.specs.Number.{Bytes}
 use Rattle.memory.specs.Part.{part}
 use Rattle.memory.proofs.Parts.{cons-eq}
@@ -102,4 +99,4 @@ scaled-one (x ∷ row) h = cons-eq (product-one x (h 0)) (scaled-one row (λ i. 
 pub scaled-zeros : (a n : ℕ) → scaled a (replicate n 0) ≡ replicate n 0
 unfolding scaled
 scaled-zeros a zero = refl
-scaled-zeros a (suc n) = cons-eq (product-zero-right gf256 gf256-laws a) (scaled-zeros a n)
+scaled-zeros a (suc n) = cons-eq (product-zero-right a) (scaled-zeros a n)

@@ -1,19 +1,17 @@
 -- `rows::add` meets its contract. The loop: the first i elements are those of the result.
 use mathlib.Core.Path.{_≡_}
-use Prim.Native.Nat.{_≤_, _<_, _-_}
+use Prim.Native.Nat.{_≤_, _-_}
 use native.Mathlib.Omega.{arith}
 use lib.ListN.{length, getD}
-use Rattle.memory.proofs.Loop.{turned, turned-rest, turn, turned-all}
 use Rattle.field.proofs.Laws.{product-one}
-use Rattle.rows.specs.Rows.{addScaled}
-use Rattle.rows.proofs.Sums.{length-addScaled, getD-addScaled}
+use Rattle.rows.proofs.Turns.{summed, summed-turn, summed-end}
 use borrow.Author.Needs.{needs}
 use Rattle.rows.proofs.add.Statement.{statement}
 use Rattle.rows.proofs.add.Tie as tie
 
 abbrev Inv-loop : tie.InvT-loop
 Inv-loop dst₀ src i₀ i-end dst i =
-    (i ≤ length dst₀) × (dst ≡ turned dst₀ (addScaled 1 dst₀ src) i) × (length dst ≡ length dst₀)
+    (i ≤ length dst₀) × (dst ≡ summed 1 dst₀ src i) × (length dst ≡ length dst₀)
 
 abbrev μ-loop : tie.MeasureT-loop
 μ-loop dst₀ src i₀ i-end dst i = i-end - i
@@ -21,11 +19,14 @@ abbrev μ-loop : tie.MeasureT-loop
 loop-holds : tie.Need-loop-holds Inv-loop μ-loop
 loop-holds c = search needs
 
-slice-read-dst : tie.Need-slice-read-dst Inv-loop μ-loop
-slice-read-dst c = search needs
+slice-read-t8 : tie.Need-slice-read-t8 Inv-loop μ-loop
+slice-read-t8 c = search needs
 
-shared-slice-read-dst : tie.Need-shared-slice-read-dst Inv-loop μ-loop
-shared-slice-read-dst c = search needs
+shared-slice-read-t11 : tie.Need-shared-slice-read-t11 Inv-loop μ-loop
+shared-slice-read-t11 c = search needs
+
+sum-requires : tie.Need-sum-requires Inv-loop μ-loop
+sum-requires c κs = search needs
 
 slice-write-dst : tie.Need-slice-write-dst Inv-loop μ-loop
 slice-write-dst c = search needs
@@ -38,17 +39,12 @@ loop-less c = search needs
 
 loop-again : tie.Need-loop-again Inv-loop μ-loop
 loop-again c =
-    let a = c .before .before .before .before .args in
-    let i = c .before .before .before .loop .i in
-    let r = addScaled 1 (a .dst .now) (a .src .now) in
-    let l : length r ≡ length (a .dst .now) = length-addScaled 1 (a .dst .now) (a .src .now) in
-    let h : i < length (a .dst .now) = omega arith in (
+    let a = c .before .before .before .before .before .before .before .args in
+    let i = c .before .before .before .before .loop .i in (
       search needs,
       cc (
-        turn (a .dst .now) r i h (omega arith),
-        turned-rest (a .dst .now) r i,
-        getD-addScaled 1 (a .dst .now) (a .src .now) i h (omega arith),
-        product-one (getD (a .src .now) i 0) (c .shared-slice-known .given i .fits),
+        summed-turn 1 (a .dst .now) (a .src .now) i (omega arith) (omega arith),
+        product-one (getD (a .src .now) i 0) (c .before .shared-slice-known2 .given i .fits),
       ),
       search needs,
     )
@@ -58,9 +54,8 @@ same-length c = search needs
 
 returns : tie.Need-returns Inv-loop μ-loop
 returns c =
-    let a = c .before .before .args in
-    let r = addScaled 1 (a .dst .now) (a .src .now) in
-    cc (turned-all (a .dst .now) r (c .before .loop .i) (length-addScaled 1 (a .dst .now) (a .src .now)) (omega arith))
+    let a = c .before .before .before .before .args in
+    cc (summed-end 1 (a .dst .now) (a .src .now) (c .before .loop .i) (omega arith))
 
 pub add-spec : {M : Type 1} → statement M
 add-spec =
@@ -69,8 +64,9 @@ add-spec =
     Inv-loop
     μ-loop
     loop-holds
-    slice-read-dst
-    shared-slice-read-dst
+    slice-read-t8
+    shared-slice-read-t11
+    sum-requires
     slice-write-dst
     add-i
     loop-less

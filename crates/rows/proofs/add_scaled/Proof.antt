@@ -1,18 +1,17 @@
 -- `rows::add_scaled` meets its contract. The loop: the first i elements are those of the result.
 use mathlib.Core.Path.{_≡_, sym}
-use Prim.Native.Nat.{_≤_, _<_, _-_}
+use Prim.Native.Nat.{_≤_, _-_}
 use native.Mathlib.Omega.{arith}
 use lib.ListN.{length}
-use Rattle.memory.proofs.Loop.{turned, turned-rest, turn, turned-all}
-use Rattle.rows.specs.Rows.{addScaled}
-use Rattle.rows.proofs.Sums.{length-addScaled, getD-addScaled, addScaled-zero}
+use Rattle.rows.proofs.Sums.{addScaled-zero}
+use Rattle.rows.proofs.Turns.{summed, summed-turn, summed-end}
 use borrow.Author.Needs.{needs}
 use Rattle.rows.proofs.add_scaled.Statement.{statement}
 use Rattle.rows.proofs.add_scaled.Tie as tie
 
 abbrev Inv-loop : tie.InvT-loop
 Inv-loop dst₀ src m i₀ i-end dst i =
-    (i ≤ length dst₀) × (dst ≡ turned dst₀ (addScaled (m .0) dst₀ src) i) × (length dst ≡ length dst₀)
+    (i ≤ length dst₀) × (dst ≡ summed (m .0) dst₀ src i) × (length dst ≡ length dst₀)
 
 abbrev μ-loop : tie.MeasureT-loop
 μ-loop dst₀ src m i₀ i-end dst i = i-end - i
@@ -31,24 +30,26 @@ same-length c = search needs
 
 returns-2 : tie.Need-returns-2 Inv-loop μ-loop
 returns-2 c =
-    let a = c .before .before .before .before .before .before .before .before .before .before .args in
-    let e : a .c .0 ≡ 1 = omega arith in
+    let e : c .before .before .before .before .before .before .before .before .before .before .args .c .0 ≡ 1 = omega arith in
     rw e (c .before .before .add .ensures)
 
-multiples-of-requires : tie.Need-multiples-of-requires Inv-loop μ-loop
-multiples-of-requires c κs = search needs
+multiples-requires : tie.Need-multiples-requires Inv-loop μ-loop
+multiples-requires c κs = search needs
 
 loop-holds : tie.Need-loop-holds Inv-loop μ-loop
 loop-holds c = search needs
 
-slice-read-dst : tie.Need-slice-read-dst Inv-loop μ-loop
-slice-read-dst c = search needs
+slice-read-t14 : tie.Need-slice-read-t14 Inv-loop μ-loop
+slice-read-t14 c = search needs
 
-shared-slice-read-multiply : tie.Need-shared-slice-read-multiply Inv-loop μ-loop
-shared-slice-read-multiply c = search needs
+shared-slice-read-t18 : tie.Need-shared-slice-read-t18 Inv-loop μ-loop
+shared-slice-read-t18 c = search needs
 
-multiply-requires : tie.Need-multiply-requires Inv-loop μ-loop
-multiply-requires c κs = search needs
+times-requires : tie.Need-times-requires Inv-loop μ-loop
+times-requires c κs = search needs
+
+sum-requires : tie.Need-sum-requires Inv-loop μ-loop
+sum-requires c κs = search needs
 
 slice-write-dst : tie.Need-slice-write-dst Inv-loop μ-loop
 slice-write-dst c = search needs
@@ -61,16 +62,9 @@ loop-less c = search needs
 
 loop-again : tie.Need-loop-again Inv-loop μ-loop
 loop-again c =
-    let a = c .before .before .before .before .before .before .before .before .before .before .before .before .args in
-    let t = c .before .before .before .before .loop in
-    let k = c .before .before .before .before .before .multiples-of .result .0 in
-    let r = addScaled k (a .dst .now) (a .src .now) in
-    let l : length r ≡ length (a .dst .now) = length-addScaled k (a .dst .now) (a .src .now) in
-    let h : t .i < length (a .dst .now) = omega arith in (
-      search needs,
-      cc (turn (a .dst .now) r (t .i) h (omega arith), turned-rest (a .dst .now) r (t .i), getD-addScaled k (a .dst .now) (a .src .now) (t .i) h (omega arith)),
-      search needs,
-    )
+    let a = c .before .before .before .before .before .before .before .before .before .before .before .before .before .args in
+    let k = c .before .before .before .before .before .before .multiples .result .0 in
+    (search needs, cc (summed-turn k (a .dst .now) (a .src .now) (c .before .before .before .before .before .loop .i) (omega arith) (omega arith)), search needs)
 
 same-length-2 : tie.Need-same-length-2 Inv-loop μ-loop
 same-length-2 c = search needs
@@ -78,8 +72,7 @@ same-length-2 c = search needs
 returns-3 : tie.Need-returns-3 Inv-loop μ-loop
 returns-3 c =
     let a = c .before .before .before .before .before .before .before .before .before .args in
-    let k = c .before .before .multiples-of .result .0 in
-    cc (turned-all (a .dst .now) (addScaled k (a .dst .now) (a .src .now)) (c .before .loop .i) (length-addScaled k (a .dst .now) (a .src .now)) (omega arith))
+    cc (summed-end (c .before .before .multiples .result .0) (a .dst .now) (a .src .now) (c .before .loop .i) (omega arith))
 
 pub add-scaled-spec : {M : Type 1} → statement M
 add-scaled-spec =
@@ -91,11 +84,12 @@ add-scaled-spec =
     add-requires
     same-length
     returns-2
-    multiples-of-requires
+    multiples-requires
     loop-holds
-    slice-read-dst
-    shared-slice-read-multiply
-    multiply-requires
+    slice-read-t14
+    shared-slice-read-t18
+    times-requires
+    sum-requires
     slice-write-dst
     add-i
     loop-less

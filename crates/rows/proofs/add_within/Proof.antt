@@ -3,7 +3,7 @@ use mathlib.Core.Path.{_≡_, refl}
 use Prim.Native.Nat.{_≤_, _-_}
 use native.Mathlib.Omega.{arith}
 use lib.ListN.{length}
-use Rattle.rows.proofs.Within.{within, within-zero, within-start, within-turn, within-end}
+use Rattle.rows.proofs.Turns.{within, within-zero, within-start, within-turn, within-end}
 use borrow.Author.Needs.{needs}
 use Rattle.rows.proofs.add_within.Statement.{statement}
 use Rattle.rows.proofs.add_within.Tie as tie
@@ -32,31 +32,34 @@ returns-2 c =
     let e : c .before .before .before .before .before .before .before .before .before .args .c .0 ≡ 1 = omega arith in
     rw e (c .before .before .xor-within .ensures)
 
-multiples-of-requires : tie.Need-multiples-of-requires Inv-loop μ-loop
-multiples-of-requires c κs = search needs
+multiples-requires : tie.Need-multiples-requires Inv-loop μ-loop
+multiples-requires c κs = search needs
 
 loop-holds : tie.Need-loop-holds Inv-loop μ-loop
 loop-holds c =
     let a = c .before .before .before .before .before .before .args in
-    (omega arith, within-start (c .multiples-of .result .0) (a .a) (a .b) (a .n) (a .mem .now) (omega arith), refl)
+    (omega arith, within-start (c .multiples .result .0) (a .a) (a .b) (a .n) (a .mem .now) (omega arith), refl)
+
+add-t14 : tie.Need-add-t14 Inv-loop μ-loop
+add-t14 c = search needs
+
+slice-read-t16 : tie.Need-slice-read-t16 Inv-loop μ-loop
+slice-read-t16 c = search needs
+
+add-t19 : tie.Need-add-t19 Inv-loop μ-loop
+add-t19 c = search needs
+
+slice-read-t21 : tie.Need-slice-read-t21 Inv-loop μ-loop
+slice-read-t21 c = search needs
+
+times-requires : tie.Need-times-requires Inv-loop μ-loop
+times-requires c κs = search needs
+
+sum-requires : tie.Need-sum-requires Inv-loop μ-loop
+sum-requires c κs = search needs
 
 add-mem : tie.Need-add-mem Inv-loop μ-loop
 add-mem c = search needs
-
-slice-read-mem : tie.Need-slice-read-mem Inv-loop μ-loop
-slice-read-mem c = search needs
-
-add-multiply : tie.Need-add-multiply Inv-loop μ-loop
-add-multiply c = search needs
-
-slice-read-multiply : tie.Need-slice-read-multiply Inv-loop μ-loop
-slice-read-multiply c = search needs
-
-multiply-requires : tie.Need-multiply-requires Inv-loop μ-loop
-multiply-requires c κs = search needs
-
-add-mem-2 : tie.Need-add-mem-2 Inv-loop μ-loop
-add-mem-2 c = search needs
 
 slice-write-mem : tie.Need-slice-write-mem Inv-loop μ-loop
 slice-write-mem c = search needs
@@ -69,11 +72,11 @@ loop-less c = search needs
 
 loop-again : tie.Need-loop-again Inv-loop μ-loop
 loop-again c =
-    let s = c .before .before .before .before .before .before .before .before .before .before .before in
+    let s = c .before .before .before .before .before .before .before .before .before .before .before .before in
     let a = s .args in
-    let k = c .before .before .before .before .before .multiples-of .result .0 in (
+    let k = c .before .before .before .before .before .before .multiples .result .0 in (
       search needs,
-      cc (within-turn k (a .a) (a .b) (a .n) (a .mem .now) (omega arith) (omega arith) (s .pre .2) (c .before .before .before .before .loop .i) (omega arith)),
+      cc (within-turn k (a .a) (a .b) (a .n) (a .mem .now) (omega arith) (omega arith) (s .pre .2) (c .before .before .before .before .before .loop .i) (omega arith)),
       search needs,
     )
 
@@ -83,7 +86,7 @@ same-length-2 c = search needs
 returns-3 : tie.Need-returns-3 Inv-loop μ-loop
 returns-3 c =
     let a = c .before .before .before .before .before .before .before .before .args in
-    let k = c .before .before .multiples-of .result .0 in
+    let k = c .before .before .multiples .result .0 in
     cc (within-end k (a .a) (a .b) (a .n) (a .mem .now) (omega arith) (c .before .loop .i) (omega arith))
 
 pub add-within-spec : {M : Type 1} → statement M
@@ -96,14 +99,15 @@ add-within-spec =
     xor-within-requires
     same-length
     returns-2
-    multiples-of-requires
+    multiples-requires
     loop-holds
+    add-t14
+    slice-read-t16
+    add-t19
+    slice-read-t21
+    times-requires
+    sum-requires
     add-mem
-    slice-read-mem
-    add-multiply
-    slice-read-multiply
-    multiply-requires
-    add-mem-2
     slice-write-mem
     add-i
     loop-less

@@ -1,10 +1,10 @@
 -- `rows::xor_within` meets its contract. The loop: the first i bytes of the stretch are those of the sum.
-use mathlib.Core.Path.{_≡_, refl, _∙_}
-use Prim.Native.Nat.{_≤_, _<_, _-_, _+_}
+use mathlib.Core.Path.{_≡_, refl}
+use Prim.Native.Nat.{_+_, _≤_, _-_}
 use native.Mathlib.Omega.{arith}
 use lib.ListN.{length, getD}
 use Rattle.field.proofs.Laws.{product-one}
-use Rattle.rows.proofs.Within.{within, within-start, within-turn, within-end}
+use Rattle.rows.proofs.Turns.{within, within-start, within-turn, within-end}
 use borrow.Author.Needs.{needs}
 use Rattle.rows.proofs.xor_within.Statement.{statement}
 use Rattle.rows.proofs.xor_within.Tie as tie
@@ -18,23 +18,26 @@ abbrev μ-loop : tie.MeasureT-loop
 
 loop-holds : tie.Need-loop-holds Inv-loop μ-loop
 loop-holds c =
-    let a = c .args in
+    let a = c .before .args in
     (omega arith, within-start 1 (a .a) (a .b) (a .n) (a .mem .now) (omega arith), refl)
+
+add-t8 : tie.Need-add-t8 Inv-loop μ-loop
+add-t8 c = search needs
+
+slice-read-t10 : tie.Need-slice-read-t10 Inv-loop μ-loop
+slice-read-t10 c = search needs
+
+add-t12 : tie.Need-add-t12 Inv-loop μ-loop
+add-t12 c = search needs
+
+slice-read-t14 : tie.Need-slice-read-t14 Inv-loop μ-loop
+slice-read-t14 c = search needs
+
+sum-requires : tie.Need-sum-requires Inv-loop μ-loop
+sum-requires c κs = search needs
 
 add-mem : tie.Need-add-mem Inv-loop μ-loop
 add-mem c = search needs
-
-slice-read-mem : tie.Need-slice-read-mem Inv-loop μ-loop
-slice-read-mem c = search needs
-
-add-mem-2 : tie.Need-add-mem-2 Inv-loop μ-loop
-add-mem-2 c = search needs
-
-slice-read-mem-2 : tie.Need-slice-read-mem-2 Inv-loop μ-loop
-slice-read-mem-2 c = search needs
-
-add-mem-3 : tie.Need-add-mem-3 Inv-loop μ-loop
-add-mem-3 c = search needs
 
 slice-write-mem : tie.Need-slice-write-mem Inv-loop μ-loop
 slice-write-mem c = search needs
@@ -47,12 +50,13 @@ loop-less c = search needs
 
 loop-again : tie.Need-loop-again Inv-loop μ-loop
 loop-again c =
-    let a = c .before .before .before .before .args in
-    let t = c .before .before .before .loop in (
+    let s = c .before .before .before .before .before .before in
+    let a = s .args in
+    let t = c .before .before .before .before .loop in (
       search needs,
       cc (
-        within-turn 1 (a .a) (a .b) (a .n) (a .mem .now) (omega arith) (omega arith) (c .before .before .before .before .pre .2) (t .i) (omega arith),
-        product-one (getD (t .mem) (a .b + t .i) 0) (c .slice-known2 .given (a .b + t .i) .fits),
+        within-turn 1 (a .a) (a .b) (a .n) (a .mem .now) (omega arith) (omega arith) (s .pre .2) (t .i) (omega arith),
+        product-one (getD (t .mem) (a .b + t .i) 0) (c .before .slice-known3 .given (a .b + t .i) .fits),
       ),
       search needs,
     )
@@ -62,7 +66,7 @@ same-length c = search needs
 
 returns : tie.Need-returns Inv-loop μ-loop
 returns c =
-    let a = c .before .before .args in
+    let a = c .before .before .before .args in
     cc (within-end 1 (a .a) (a .b) (a .n) (a .mem .now) (omega arith) (c .before .loop .i) (omega arith))
 
 pub xor-within-spec : {M : Type 1} → statement M
@@ -72,11 +76,12 @@ xor-within-spec =
     Inv-loop
     μ-loop
     loop-holds
+    add-t8
+    slice-read-t10
+    add-t12
+    slice-read-t14
+    sum-requires
     add-mem
-    slice-read-mem
-    add-mem-2
-    slice-read-mem-2
-    add-mem-3
     slice-write-mem
     add-i
     loop-less

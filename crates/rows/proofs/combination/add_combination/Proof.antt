@@ -16,6 +16,9 @@ same-length c = search needs
 returns : tie.Need-returns
 returns c = search needs
 
+double-requires : tie.Need-double-requires
+double-requires c κs = search needs
+
 inverse-requires : tie.Need-inverse-requires
 inverse-requires c κs = search needs
 
@@ -29,7 +32,7 @@ same-length-2 : tie.Need-same-length-2
 same-length-2 c = search needs
 
 returns-2 : tie.Need-returns-2
-returns-2 c = cc (scaled-back (c .before .before .before .before .before .before .before .before .before .before .before .before .before .before .args .dst .now) (λ i. c .before .before .before .before .before .before .before .before .before .before .before .before .before .slice-known .given i .fits))
+returns-2 c = cc (scaled-back (c .before .before .before .before .before .before .before .before .before .before .before .before .before .before .before .args .dst .now) (λ i. c .before .before .before .before .before .before .before .before .before .before .before .before .before .before .slice-known .given i .fits))
 
 pub add-combination-spec : {M : Type 1} → statement M
 add-combination-spec =
@@ -39,6 +42,7 @@ add-combination-spec =
     add-rows-requires
     same-length
     returns
+    double-requires
     inverse-requires
     scale-requires
     add-digits-requires

@@ -4,8 +4,9 @@ use Prim.Native.Nat.{_≤_, _-_}
 use native.Mathlib.Omega.{arith}
 use lib.ListN.{length}
 use Rattle.memory.proofs.Parts.{row-fits}
-use Rattle.rows.specs.Combination.{combined, digit, rowAt}
-use Rattle.rows.proofs.Digits.{row-added}
+use Rattle.rows.specs.Combination.{combined, rowAt}
+use Rattle.rows.specs.Digits.{digit}
+use Rattle.rows.proofs.Combinations.{row-added}
 use borrow.Author.Needs.{needs}
 use Rattle.rows.proofs.combination.add_digit.Statement.{statement}
 use Rattle.rows.proofs.combination.add_digit.Tie as tie

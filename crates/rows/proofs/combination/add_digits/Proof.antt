@@ -5,9 +5,11 @@ use native.Mathlib.Omega.{arith}
 use lib.ListN.{length}
 use Rattle.field.specs.Gf256.{power}
 use Rattle.rows.specs.Rows.{scaled}
-use Rattle.rows.specs.Combination.{combined, shifted, rowAt}
+use Rattle.rows.specs.Combination.{combined, rowAt}
+use Rattle.rows.specs.Digits.{shifted}
 use Rattle.rows.proofs.Sums.{length-scaled}
-use Rattle.rows.proofs.Digits.{long-rows, combined-shifted, combined-start, combined-end, scaled-next, scaled-start}
+use Rattle.rows.proofs.Combinations.{long-rows}
+use Rattle.rows.proofs.Digits.{combined-shifted, combined-start, combined-end, scaled-next, scaled-start}
 use borrow.Author.Needs.{needs}
 use Rattle.rows.proofs.combination.add_digits.Statement.{statement}
 use Rattle.rows.proofs.combination.add_digits.Tie as tie

@@ -5,7 +5,7 @@ use native.Mathlib.Omega.{arith}
 use lib.ListN.{length}
 use Rattle.memory.proofs.Parts.{row-fits}
 use Rattle.rows.specs.Combination.{combined, coefficient, rowAt}
-use Rattle.rows.proofs.Digits.{row-added}
+use Rattle.rows.proofs.Combinations.{row-added}
 use borrow.Author.Needs.{needs}
 use Rattle.rows.proofs.combination.add_rows.Statement.{statement}
 use Rattle.rows.proofs.combination.add_rows.Tie as tie

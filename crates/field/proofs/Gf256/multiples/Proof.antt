@@ -1,16 +1,12 @@
--- `rows::multiples_of` meets its contract.
-use mathlib.Core.Path.{_≡_, refl, sym}
-use native.Mathlib.Omega.{arith}
+-- `field::Gf256::multiples` meets its contract.
 use Rattle.field.specs.Tables.{doublings}
 use borrow.Author.Needs.{needs}
-use Rattle.rows.proofs.multiples_of.Statement.{statement}
-use Rattle.rows.proofs.multiples_of.Tie as tie
+use Rattle.field.proofs.Gf256.multiples.Statement.{statement}
+use Rattle.field.proofs.Gf256.multiples.Tie as tie
 
 returns : tie.Need-returns
 unfolding doublings
-returns c =
-    let e : c .before .before .args .c .0 ≡ 0 = omega arith in
-    (sym e, refl)
+returns c = search needs
 
 powers-requires : tie.Need-powers-requires
 powers-requires c κs = search needs
@@ -27,8 +23,8 @@ from-power-requires c κs = search needs
 returns-2 : tie.Need-returns-2
 returns-2 c = search needs
 
-pub multiples-of-spec : {M : Type 1} → statement M
-multiples-of-spec =
+pub multiples-spec : {M : Type 1} → statement M
+multiples-spec =
     tie.close
     (tie.spec
     returns

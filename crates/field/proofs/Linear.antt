@@ -7,14 +7,11 @@ use native.Mathlib.Omega.{arith}
 use lib.Bits.{bitXor, xor-zero-r, xor-comm, xor-shifted}
 use lib.Dec.{lit<}
 use lib.ListN.{getD}
 use Rattle.field.specs.Gf256.{product, times, remainder, power}
 use Rattle.field.specs.Tables.{doublings, powerTable}
 use Rattle.field.proofs.Xor.{digit, split-digit}
 use Rattle.field.proofs.Polynomial.{remainder-times, remainder-id, remainder-xor}
-use Rattle.field.specs.Field.{gf256}
-use Rattle.field.proofs.Fields.{gf256-laws}
-use Rattle.field.proofs.Derived.{product-zero-right}
-use Rattle.field.proofs.Laws.{doublings-at, product-lt, product-comm, product-assoc, product-sum, product-zero, product-one}
+use Rattle.field.proofs.Laws.{doublings-at, product-lt, product-comm, product-assoc, product-sum, product-zero, product-zero-right, product-one}
 
 times-two : (s : ℕ) → times 2 s ≡ s * 2
 unfolding times
@@ -43,7 +40,7 @@ chosen (m ∷ l) s = bitXor (s % 2 * m) (chosen l (s / 2))
 
 pub chosen-product : (n c s : ℕ) → c < 256 → s < 2 ^ n → chosen (doublings n c) s ≡ product c s
 unfolding chosen doublings
-chosen-product zero c s h l = let z : s ≡ 0 = omega arith in rw z (sym (product-zero-right gf256 gf256-laws c))
+chosen-product zero c s h l = let z : s ≡ 0 = omega arith in rw z (sym (product-zero-right c))
 chosen-product (suc n) c s h l =
     ap (bitXor (s % 2 * c)) (chosen-product n (product 2 c) (s / 2) (product-lt 2 c) (omega (arith, pow-suc 2 n))) ∙ sym (product-digit c s h)
 

@@ -1,13 +1,13 @@
--- `rows::multiply` meets its contract.
+-- `field::Multiples::times` meets its contract.
+use mathlib.Core.Path.{ap}
 use mathlib.Core.List.{List}
 use Prim.Native.Nat.{ℕ}
 use native.Mathlib.Omega.{arith}
 use lib.Bits.{xor-zero-r}
-use mathlib.Core.Path.{ap}
-use Rattle.rows.proofs.Product.{chosen, chosen-product}
+use Rattle.field.proofs.Linear.{chosen, chosen-product}
 use borrow.Author.Needs.{needs}
-use Rattle.rows.proofs.multiply.Statement.{statement}
-use Rattle.rows.proofs.multiply.Tie as tie
+use Rattle.field.proofs.Multiples.times.Statement.{statement}
+use Rattle.field.proofs.Multiples.times.Tie as tie
 
 if-odd-requires : tie.Need-if-odd-requires
 if-odd-requires c κs = search needs
@@ -36,11 +36,13 @@ if-odd-requires-8 c κs = search needs
 returns : tie.Need-returns
 unfolding chosen
 returns c =
-    let a = c .before .before .before .before .before .before .before .before .args in
-    cc (xor-zero-r (c .if-odd8 .result), ap (λ (l : List ℕ). chosen l (a .s)) (c .before .before .before .before .before .before .before .before .pre), chosen-product 8 (a .m .0) (a .s) (omega arith) (omega arith))
+    let s = c .before .before .before .before .before .before .before .before in
+    let m = s .args .self in
+    let x = s .args .other .0 in
+    cc (xor-zero-r (c .if-odd8 .result), ap (λ (l : List ℕ). chosen l x) (s .pre), chosen-product 8 (m .0) x (omega arith) (omega arith))
 
-pub multiply-spec : {M : Type 1} → statement M
-multiply-spec =
+pub times-spec : {M : Type 1} → statement M
+times-spec =
     tie.close
     (tie.spec
     if-odd-requires

@@ -1,10 +1,10 @@
--- `rows::if_odd` meets its contract.
+-- `field::if_odd` meets its contract.
 use mathlib.Core.Path.{_≡_, sym}
 use Prim.Native.Nat.{_%_}
 use native.Mathlib.Nat.{zero-mul, one-mul}
 use native.Mathlib.Omega.{arith}
-use Rattle.rows.proofs.if_odd.Statement.{statement}
-use Rattle.rows.proofs.if_odd.Tie as tie
+use Rattle.field.proofs.if_odd.Statement.{statement}
+use Rattle.field.proofs.if_odd.Tie as tie
 
 returns : tie.Need-returns
 returns c =

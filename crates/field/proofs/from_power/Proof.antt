@@ -1,9 +1,9 @@
--- `rows::from_power` meets its contract.
+-- `field::from_power` meets its contract.
 use native.Mathlib.Omega.{arith}
-use Rattle.rows.proofs.Product.{entry, eight-entries}
+use Rattle.field.proofs.Linear.{entry, eight-entries}
 use borrow.Author.Needs.{needs}
-use Rattle.rows.proofs.from_power.Statement.{statement}
-use Rattle.rows.proofs.from_power.Tie as tie
+use Rattle.field.proofs.from_power.Statement.{statement}
+use Rattle.field.proofs.from_power.Tie as tie
 
 element-copy-out-t5 : tie.Need-element-copy-out-t5
 element-copy-out-t5 c = search needs
