@@ -88,7 +88,7 @@ listed-none scheme dt n first count out =
     let e : count - 0 ≡ count = omega arith in
     record { size = refl; ok = rw e; bytes = rw (e, zero-mul); past = refl }
 
-module _ (scheme : Scheme) (dt n first count : ℕ) (out₀ out : List ℕ) (key i : ℕ) (room : count * n ≤ length out₀) (below : i < count)
+module _ {scheme : Scheme} {dt n first count : ℕ} {out₀ out : List ℕ} {key i : ℕ} (room : count * n ≤ length out₀) (below : i < count)
     (l : Listed scheme dt n first count out₀ out key i) where
   -- the bytes that are lent for list i
   abbrev lent : List ℕ
@@ -103,7 +103,7 @@ module _ (scheme : Scheme) (dt n first count : ℕ) (out₀ out : List ℕ) (key
   left : count - i ≡ suc (count - (i + 1))
   left = omega arith
 
-  module _ (r : Filled) (x : List ℕ) (f : Fills (coefficientsOf scheme key dt (length lent)) lent r x) where
+  module _ {r : Filled} {x : List ℕ} (f : Fills (coefficientsOf scheme key dt (length lent)) lent r x) where
     lengthed : length x ≡ n
     lengthed = f .size ∙ lent-length
 
@@ -144,9 +144,9 @@ module _ (scheme : Scheme) (dt n first count : ℕ) (out₀ out : List ℕ) (key
           past = rw (length-keys first count, spliced) (passed (count * n) (row-fits count n i below));
         }
 
-pub lists-done : (scheme : Scheme) (dt n first count : ℕ) (out₀ out : List ℕ) (key : ℕ) → Listed scheme dt n first count out₀ out key count
+pub lists-done : {scheme : Scheme} {dt n first count : ℕ} {out₀ out : List ℕ} {key : ℕ} → Listed scheme dt n first count out₀ out key count
     → FillsLists scheme dt n (keys first count) out₀ Done out
-lists-done scheme dt n first count out₀ out key l =
+lists-done {n = n} {first = first} {count = count} {out = out} l =
     let z : count - count ≡ 0 = omega arith in
     let b = rw (z, append-nil) at (l .bytes) in
     record {

@@ -1,9 +1,8 @@
 -- Laws of lists of coefficients: their lengths, that GF(2) never refuses and has zeros and ones only, that all are bytes.
-use mathlib.Core.Path.{_≡_, refl, sym, ap, _∙_}
-use mathlib.Core.Bool.{Bool, true, false, cond, _&&_}
+use mathlib.Core.Path.{_≡_, refl, ap, _∙_}
+use mathlib.Core.Bool.{Bool, true, false, cond}
 use mathlib.Core.List.{List, [], _∷_, _++_}
-use Prim.Native.Nat.{ℕ, zero, suc, _+_, _*_, _^_, _≤_, _<_}
-use native.Mathlib.Nat.{mod-lt}
+use Prim.Native.Nat.{ℕ, zero, suc, _+_, _≤_, _<_}
 use native.Mathlib.Numerals.{add-one}
 use native.Mathlib.Decide.{le-ind}
 use native.Mathlib.Omega.{arith}
@@ -14,7 +13,7 @@ use Rattle.memory.specs.Number.{Bytes}
 use Rattle.wire.specs.declared.Scheme.{Scheme}
 use Rattle.wire.specs.declared.Scheme.the-variants.{Gf2, Gf256}
 use Rattle.coefficients.specs.declared.Coefficient.{Coefficient}
-use Rattle.coefficients.specs.Coefficients.{found, nonzeroFrom, bitOf, byteOf, coefficientOf, Coefficients, extend, coefficientsOf, keys, allOk}
+use Rattle.coefficients.specs.Coefficients.{nonzeroFrom, bitOf, byteOf, coefficientOf, Coefficients, extend, coefficientsOf, keys, allOk}
 
 -- one coefficient more after a list that was not refused, and after one that was
 module _ (scheme : Scheme) (dt : ℕ) (l : Coefficients) where

@@ -1,17 +1,17 @@
--- The draws that look for a nonzero byte: the first one that is found, or refusal 10 after exactly as many zeros as are allowed.
+-- The draws that look for a nonzero byte: the first one that is found is taken, and refusal 10 comes after sixteen zeros and at no other time.
 use mathlib.Core.Path.{_≡_, refl, sym, _∙_}
-use mathlib.Core.Bool.{Bool, true, false, true≢false}
+use mathlib.Core.Bool.{Bool, true, false, cond, true≢false}
 use mathlib.Core.List.{List, [], _∷_, _++_, map}
-use Prim.Native.Nat.{ℕ, zero, suc, _+_, _<_}
+use Prim.Native.Nat.{ℕ, zero, suc, _+_, _≤_, _<_}
 use native.Mathlib.Nat.{add-zero}
 use native.Mathlib.Omega.{arith}
 use lib.ListN.{replicate}
-use lib.Dec.{eqb}
-use borrow.Author.Tests.{eq-eqb, ne-eqb, eqb-true, eqb-false}
-use Rattle.tinymt.specs.Generator.{drawOf, draws, low8}
+use lib.Dec.{eqb, leb}
+use borrow.Author.Tests.{eq-eqb, ne-eqb, eqb-true, eqb-false, le-leb}
+use Rattle.tinymt.specs.Generator.{drawOf, firstDraws, low4, low8}
 use Rattle.tinymt.specs.declared.Drawn.{Drawn}
 use Rattle.memory.proofs.Parts.{cons-eq}
-use Rattle.coefficients.specs.Coefficients.{found, nonzeroFrom}
+use Rattle.coefficients.specs.Coefficients.{found, nonzeroFrom, byteOf}
 
 -- one draw: it gave zero, or the byte
 module _ (k : ℕ) (s : List ℕ) {m n b : ℕ} {d : Drawn} (em : m ≡ suc n) (ed : d ≡ drawOf s) (eb : b ≡ low8 (d .value)) where
@@ -25,15 +25,15 @@ module _ (k : ℕ) (s : List ℕ) {m n b : ℕ} {d : Drawn} (em : m ≡ suc n) (
 
 -- the bytes of the first n draws from the words s
 abbrev pub bytesDrawn : ℕ → List ℕ → List ℕ
-bytesDrawn n s = map low8 (draws n s)
+bytesDrawn n s = map low8 (firstDraws n s)
 
 -- refused: n draws gave zero, and no more were made
-pub record Refused (n k : ℕ) (s : List ℕ) : Type 0 where
+pub record AllZero (n k : ℕ) (s : List ℕ) : Type 0 where
   pub zeros : bytesDrawn n s ≡ replicate n 0
   pub count : nonzeroFrom n k s .draws ≡ k + n
 
 -- found: `before` draws gave zero, fewer than n, and the next one the byte, which is not zero
-pub record Found (n k : ℕ) (s : List ℕ) : Type 0 where
+pub record FirstNonzero (n k : ℕ) (s : List ℕ) : Type 0 where
   pub before : ℕ
   pub few : before < n
   pub bytes : bytesDrawn (suc before) s ≡ replicate before 0 ++ (nonzeroFrom n k s .value ∷ [])
@@ -46,16 +46,17 @@ module _ (n k : ℕ) (s : List ℕ) (e : low8 (drawOf s .value) ≡ 0) where
   first-zero = zero-byte k s {n = n} refl refl refl e
 
   bytes-zero : (m : ℕ) → bytesDrawn (suc m) s ≡ 0 ∷ bytesDrawn m (drawOf s .state)
-  unfolding draws
+  unfolding firstDraws
   bytes-zero m = cons-eq e refl
 
 -- refusal 10 says that all draws gave zero
-pub refused-after : (n k : ℕ) (s : List ℕ) → nonzeroFrom n k s .ok ≡ false → Refused n k s
-unfolding nonzeroFrom draws
+pub refused-after : (n k : ℕ) (s : List ℕ) → nonzeroFrom n k s .ok ≡ false → AllZero n k s
+unfolding nonzeroFrom firstDraws
 refused-after zero k s h = record { zeros = refl; count = sym (add-zero k) }
 refused-after (suc n) k s h = go (eqb (low8 (drawOf s .value)) 0) refl (refused-after n (k + 1) (drawOf s .state))
   where
-    go : (b : Bool) → eqb (low8 (drawOf s .value)) 0 ≡ b → (nonzeroFrom n (k + 1) (drawOf s .state) .ok ≡ false → Refused n (k + 1) (drawOf s .state)) → Refused (suc n) k s
+    go : (b : Bool) → eqb (low8 (drawOf s .value)) 0 ≡ b
+        → (nonzeroFrom n (k + 1) (drawOf s .state) .ok ≡ false → AllZero n (k + 1) (drawOf s .state)) → AllZero (suc n) k s
     go false f rest = absurd (true≢false (rw (nonzero-byte k s {n = n} refl refl refl (eqb-false _ _ f)) at h))
     go true f rest =
         let e = eqb-true (low8 (drawOf s .value)) 0 f in
@@ -67,7 +68,7 @@ refused-after (suc n) k s h = go (eqb (low8 (drawOf s .value)) 0) refl (refused-
 
 -- and where they all give zero it comes
 pub zeros-refused : (n k : ℕ) (s : List ℕ) → bytesDrawn n s ≡ replicate n 0 → nonzeroFrom n k s .ok ≡ false
-unfolding nonzeroFrom draws
+unfolding nonzeroFrom firstDraws
 zeros-refused zero k s h = refl
 zeros-refused (suc n) k s h =
     let e : low8 (drawOf s .value) ≡ 0 = cc in
@@ -75,12 +76,13 @@ zeros-refused (suc n) k s h =
     rw (first-zero n k s e) (zeros-refused n (k + 1) (drawOf s .state) t)
 
 -- else the first byte that is not zero was taken
-pub found-after : (n k : ℕ) (s : List ℕ) → nonzeroFrom n k s .ok ≡ true → Found n k s
-unfolding nonzeroFrom draws
+pub found-after : (n k : ℕ) (s : List ℕ) → nonzeroFrom n k s .ok ≡ true → FirstNonzero n k s
+unfolding nonzeroFrom firstDraws
 found-after zero k s h = absurd (true≢false (sym h))
 found-after (suc n) k s h = go (eqb (low8 (drawOf s .value)) 0) refl (found-after n (k + 1) (drawOf s .state))
   where
-    go : (b : Bool) → eqb (low8 (drawOf s .value)) 0 ≡ b → (nonzeroFrom n (k + 1) (drawOf s .state) .ok ≡ true → Found n (k + 1) (drawOf s .state)) → Found (suc n) k s
+    go : (b : Bool) → eqb (low8 (drawOf s .value)) 0 ≡ b
+        → (nonzeroFrom n (k + 1) (drawOf s .state) .ok ≡ true → FirstNonzero n (k + 1) (drawOf s .state)) → FirstNonzero (suc n) k s
     go false f rest =
         let g = eqb-false (low8 (drawOf s .value)) 0 f in
         let e = nonzero-byte k s {n = n} refl refl refl g in
@@ -96,3 +98,32 @@ found-after (suc n) k s h = go (eqb (low8 (drawOf s .value)) 0) refl (found-afte
           nonzero = rw z (r .nonzero);
           count = rw z (omega (arith, r .count));
         }
+
+-- ---- a coefficient of GF(2^8)
+
+-- the words from which a nonzero byte is looked for: below DT 15, those after the draw of rand16
+abbrev pub lookedFrom : ℕ → List ℕ → List ℕ
+lookedFrom dt s = cond (eqb dt 15) s (drawOf s .state)
+
+-- it is refused only after sixteen zeros
+pub byte-refused : (dt : ℕ) (s : List ℕ) → byteOf dt s .ok ≡ false → bytesDrawn 16 (lookedFrom dt s) ≡ replicate 16 0
+unfolding byteOf
+byte-refused dt s h = go (eqb dt 15) refl
+  where
+    sparse : (b : Bool) → cond b (nonzeroFrom 16 1 (drawOf s .state)) (found 0 1 (drawOf s .state)) .ok ≡ false
+        → bytesDrawn 16 (drawOf s .state) ≡ replicate 16 0
+    sparse true e = refused-after 16 1 (drawOf s .state) e .zeros
+    sparse false e = absurd (true≢false e)
+
+    go : (b : Bool) → eqb dt 15 ≡ b → bytesDrawn 16 (lookedFrom dt s) ≡ replicate 16 0
+    go true f = rw f (refused-after 16 0 s (rw f at h) .zeros)
+    go false f = rw f (sparse (leb (low4 (drawOf s .value)) dt) (rw f at h))
+
+-- and always then, where rand16 asked for a nonzero byte, as it always does at DT 15
+pub sixteen-zeros : (dt : ℕ) (s : List ℕ) → low4 (drawOf s .value) ≤ dt → bytesDrawn 16 (lookedFrom dt s) ≡ replicate 16 0 → byteOf dt s .ok ≡ false
+unfolding byteOf
+sixteen-zeros dt s l h = go (eqb dt 15) refl
+  where
+    go : (b : Bool) → eqb dt 15 ≡ b → byteOf dt s .ok ≡ false
+    go true f = rw f (zeros-refused 16 0 s (rw f at h))
+    go false f = rw (f, le-leb (low4 (drawOf s .value)) dt l) (zeros-refused 16 1 (drawOf s .state) (rw f at h))

@@ -1,4 +1,4 @@
--- Reading what was written gives the fields back.
+-- Reading what was written gives the fields back: `source-packet-read` and `source-adu`, `repair-packet-read` and `repair-symbols`.
 use mathlib.Core.Path.{_≡_, refl, sym, ap, _∙_}
 use mathlib.Core.Bool.{true}
 use Prim.Native.Nat.{ℕ, _+_, _-_, _*_, _^_, _≤_, _<_}
@@ -12,7 +12,11 @@ use borrow.Author.Tests.{le-leb, eq-eqb}
 use Rattle.memory.specs.Part.{part}
 use Rattle.memory.specs.Number.{number, bytes}
 use Rattle.memory.proofs.Number.{number-bytes}
-use Rattle.wire.specs.Packets.{joined, chunks, sourcePacket, sourceForm, sourceAdu, sourceEsi, repairHeader, repairPacket, repairCount, repairForm, repairKey, densityThreshold, protectedCount, firstEsi, repairSymbols}
+use Rattle.wire.specs.Packets.{joined, chunks, Sized, sourcePacket, sourceForm, sourceAdu, sourceEsi, repairHeader, repairPacket}
+use Rattle.wire.specs.Packets.{repairCount, repairForm, repairKey, densityThreshold, protectedCount, firstEsi, repairSymbols}
+use Rattle.wire.specs.Headers.{sourceHeaderOf, repairHeaderOf}
+use Rattle.wire.specs.declared.SourceHeader.the-variants.{Source}
+use Rattle.wire.specs.declared.RepairHeader.the-variants.{Repair}
 
 -- ---- a source packet
 
@@ -37,11 +41,6 @@ module _ (adu : List ℕ) (esi : ℕ) where
   source-esi h = rw (tail, drop-at adu (bytes 4 esi) (length adu) refl) (number-bytes 4 esi h)
 
 -- ---- symbols of E bytes, joined and cut
-
--- every symbol has E bytes
-abbrev pub Sized : ℕ → List (List ℕ) → Type 0
-Sized E [] = Unit {0}
-Sized E (x ∷ xs) = (length x ≡ E) × Sized E xs
 
 pub length-joined : (E : ℕ) (xs : List (List ℕ)) → Sized E xs → length (joined xs) ≡ length xs * E
 length-joined E [] s = sym (zero-mul E)
@@ -92,3 +91,23 @@ module _ (key dt nss first : ℕ) (xs : List (List ℕ)) where
   pub first-esi : first < 2 ^ 32 → firstEsi (repairPacket key dt nss first xs) ≡ first
   unfolding firstEsi repairPacket repairHeader part
   first-esi h = number-bytes 4 first h
+
+-- ---- what the parsers answer on every packet that can be written
+
+pub source-packet-read : (adu : List ℕ) (esi : ℕ) → esi < 2 ^ 32
+    → sourceHeaderOf (sourcePacket adu esi) ≡ Source (record { len = length adu; first = record { 0 = esi } })
+source-packet-read adu esi h = rw (source-form adu esi, tail adu esi, source-esi adu esi h)
+
+pub repair-packet-read : (key dt nss first : ℕ) (E : ℕ) (xs : List (List ℕ)) → key < 2 ^ 16 → dt < 16 → nss < 4096 → first < 2 ^ 32
+    → 0 < E → Sized E xs → 1 ≤ length xs → length xs ≤ 16
+    → repairHeaderOf E (repairPacket key dt nss first xs)
+    ≡ Repair (record { key = record { 0 = key }; dt = dt; nss = nss; first = record { 0 = first }; count = length xs })
+repair-packet-read key dt nss first E xs k d n f z s l h =
+    rw (
+      repair-form key dt nss first E xs s z l h,
+      repair-key key dt nss first xs k,
+      density-threshold key dt nss first xs d n,
+      protected-count key dt nss first xs d n,
+      first-esi key dt nss first xs f,
+      repair-count key dt nss first E xs s z,
+    )

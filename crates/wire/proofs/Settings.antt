@@ -2,15 +2,15 @@
 use mathlib.Core.Path.{_≡_, refl, sym, ap, subst, _∙_}
 use mathlib.Core.Bool.{Bool, true, false, _&&_}
 use mathlib.Core.Option.{Option, none, some, Option·none-ne-some, Option·some-injective}
-use Prim.Native.Nat.{ℕ, zero, suc, _+_, _*_, _^_, _≤_, _<_}
+use Prim.Native.Nat.{ℕ, zero, suc, _*_, _^_, _≤_, _<_}
 use native.Mathlib.Nat.{zero-add}
 use native.Mathlib.Omega.{arith}
-use mathlib.Core.List.{List, [], _∷_, _++_}
-use lib.ListN.{length, take, drop, length-take}
+use mathlib.Core.List.{List}
+use lib.ListN.{length, take, length-take}
 use lib.Dec.{leb, eqb, lit<}
 use borrow.Author.Tests.{le-leb, lt-leb, leb-true, leb-false, eq-eqb, ne-eqb, eqb-true, eqb-false}
 use Rattle.memory.specs.Part.{part, splice}
-use Rattle.memory.specs.Number.{number, bytes}
+use Rattle.memory.specs.Number.{number}
 use Rattle.memory.proofs.Parts.{part-part}
 use Rattle.memory.proofs.Number.{number-bytes}
 use Rattle.wire.specs.declared.Scheme.{Scheme}

@@ -3,7 +3,8 @@ use mathlib.Core.Bool.{Bool, _&&_}
 use Prim.Native.Nat.{ℕ, _+_, _-_, _^_, _%_}
 use lib.Dec.{leb}
 use Rattle.wire.specs.declared.Refusal.{Refusal}
-use Rattle.wire.specs.declared.Refusal.the-variants.{Values, Short, Unopened, Long, Form, Range, Empty, Behind, Ahead, Draws, Contradiction, Unknown, NoStart, Padding}
+use Rattle.wire.specs.declared.Refusal.the-variants.{Values, Short, Unopened, Long, Form, Range, Empty}
+use Rattle.wire.specs.declared.Refusal.the-variants.{Behind, Ahead, Draws, Contradiction, Unknown, NoStart, Padding}
 
 -- x lies from low to high
 abbrev pub within : ℕ → ℕ → ℕ → Bool

@@ -1,5 +1,6 @@
 -- The bytes of source and repair packets (document 01, "Packets"; RFC 8681, sections 3.2, 4.1.2, 4.1.3): how they are written, and how they are read.
 -- Numbers stand with the most significant byte first.
+use mathlib.Core.Path.{_≡_}
 use Prim.Native.Nat.{ℕ, zero, suc, _+_, _-_, _*_, _/_, _%_}
 use mathlib.Core.Bool.{Bool, _&&_}
 use mathlib.Core.List.{List, [], _∷_, _++_}
@@ -23,6 +24,11 @@ abbrev pub chunks : ℕ → ℕ → List ℕ → List (List ℕ)
 chunks zero s m = []
 chunks (suc n) s m = take s m ∷ chunks n s (drop s m)
 
+-- every symbol has E bytes
+abbrev pub Sized : ℕ → List (List ℕ) → Type 0
+Sized E [] = Unit {0}
+Sized E (x ∷ xs) = (length x ≡ E) × Sized E xs
+
 -- how many symbols of E bytes the ADUI of an ADU of L bytes takes: 3 + L bytes, the last symbol padded
 unfoldable pub symbolCount : ℕ → ℕ → ℕ
 symbolCount E L = (3 + L + (E - 1)) / E
@@ -34,6 +40,10 @@ adui flow adu E = flow ∷ bytes 2 (length adu) ++ (adu ++ zeros (symbolCount E 
 -- the source symbols of an ADU: its ADUI, cut into stretches of E bytes
 unfoldable pub sourceSymbols : ℕ → List ℕ → ℕ → List (List ℕ)
 sourceSymbols flow adu E = chunks (symbolCount E (length adu)) E (adui flow adu E)
+
+-- the i-th of them, where it lies in the ADUI
+abbrev pub symbolAt : ℕ → List ℕ → ℕ → ℕ → List ℕ
+symbolAt flow adu E i = part (i * E) E (adui flow adu E)
 
 -- a source packet: the ADU, then the ESI of its first symbol in four bytes
 unfoldable pub sourcePacket : List ℕ → ℕ → List ℕ

@@ -1,5 +1,5 @@
 -- `coefficients::fill` meets its contract. The loop's invariant: the bytes before i are the first i coefficients (`Partly`).
-use mathlib.Core.Path.{_≡_, refl, sym, _∙_}
+use mathlib.Core.Path.{_≡_, refl, sym}
 use Prim.Native.Nat.{_≤_, _-_}
 use native.Mathlib.Omega.{arith}
 use lib.ListN.{length, length-set}
@@ -24,16 +24,17 @@ same-length c = c .before .before .before .before .loop .inv .1
 
 returns : tie.Need-returns Inv-loop μ-loop
 returns c =
-    fills-refused
-    (partly-refused (c .before .before .before .before .loop .inv .2) (c .before .before .next-coefficient .ensures) _ (c .before .before .before .loop-test .taken) (not-true _ (c .if1 .taken)))
-    (c .before .before .before .before .loop .inv .1)
+    let p = c .before .before .before .before .loop .inv in
+    let q = c .before .before .before .loop-test .taken in
+    fills-refused (partly-refused (p .2) (c .before .before .next-coefficient .ensures) _ q (not-true _ (c .if1 .taken))) (p .1)
 
 loop-again : tie.Need-loop-again Inv-loop μ-loop
-loop-again c = (
-  omega arith,
-  simp length-set (c .before .before .before .before .before .loop .inv .1),
-  partly-more (c .before .before .before .before .before .loop .inv .2) (c .before .before .before .next-coefficient .ensures) (omega arith) (not-false _ (c .before .if1 .left)),
-)
+loop-again c =
+    let p = c .before .before .before .before .before .loop .inv in (
+      omega arith,
+      simp length-set (p .1),
+      partly-more (p .2) (c .before .before .before .next-coefficient .ensures) (omega arith) (not-false _ (c .before .if1 .left)),
+    )
 
 same-length-2 : tie.Need-same-length-2 Inv-loop μ-loop
 same-length-2 c = c .before .loop .inv .1

@@ -1,6 +1,6 @@
 -- `coefficients::fill_lists` meets its contract. The loop's invariant: the lists before i stand in the output (`Listed`).
-use mathlib.Core.Path.{_≡_, refl, sym}
-use Prim.Native.Nat.{ℕ, _+_, _*_, _-_, _≤_}
+use mathlib.Core.Path.{_≡_}
+use Prim.Native.Nat.{_+_, _*_, _-_, _≤_}
 use native.Mathlib.Omega.{arith}
 use lib.ListN.{length}
 use borrow.Author.Needs.{needs}
@@ -16,7 +16,7 @@ abbrev μ-loop : tie.MeasureT-loop
 μ-loop out₀ n scheme dt count key₀ i₀ out key i = count - i
 
 -- list i ends within the output
-in-room : (p : tie.In-loop Inv-loop μ-loop) → p .before .loop .i * p .before .before .before .args .n + p .before .before .before .args .n ≤ length (p .before .loop .out)
+in-room : (p : tie.In-loop Inv-loop μ-loop) → let a = p .before .before .before .args in p .before .loop .i * a .n + a .n ≤ length (p .before .loop .out)
 in-room p =
     let a = p .before .before .before .args in
     omega (arith, row-fits (a .count) (a .n) (p .before .loop .i) (p .loop-test .taken), p .before .loop .inv .1 .size, p .before .before .before .pre .0)
@@ -28,7 +28,7 @@ returns : tie.Need-returns Inv-loop μ-loop
 returns c =
     let p = c .before .before .before .before in
     let q = p .before .before in
-    lists-refused _ _ _ _ _ _ _ _ _ (q .before .before .before .pre .0) (q .loop-test .taken) (q .before .loop .inv .1) _ _ (p .fill .ensures) (c .enum-told .given .1)
+    lists-refused (q .before .before .before .pre .0) (q .loop-test .taken) (q .before .loop .inv .1) (p .fill .ensures) (c .enum-told .given .1)
 
 loop-again : tie.Need-loop-again Inv-loop μ-loop
 loop-again c =
@@ -36,13 +36,13 @@ loop-again c =
     let q = p .before .before in (
       omega arith,
       rw (c .next .ensures)
-          (listed-more _ _ _ _ _ _ _ _ _ (q .before .before .before .pre .0) (q .loop-test .taken) (q .before .loop .inv .1) _ _ (p .fill .ensures) (c .before .enum-told2 .given .1)),
+          (listed-more (q .before .before .before .pre .0) (q .loop-test .taken) (q .before .loop .inv .1) (p .fill .ensures) (c .before .enum-told2 .given .1)),
     )
 
 returns-2 : tie.Need-returns-2 Inv-loop μ-loop
 returns-2 c =
     let e : c .before .loop .i ≡ c .before .before .before .args .count = omega arith in
-    lists-done _ _ _ _ _ _ _ _ (rw e at (c .before .loop .inv .1))
+    lists-done (rw e at (c .before .loop .inv .1))
 
 pub fill-lists-spec : {M : Type 1} → statement M
 fill-lists-spec =

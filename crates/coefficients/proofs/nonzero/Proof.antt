@@ -1,7 +1,7 @@
 -- `coefficients::nonzero` meets its contract. The loop's invariant: what is still to be drawn gives what was asked.
-use mathlib.Core.Path.{_≡_, refl, ap, _∙_}
+use mathlib.Core.Path.{_≡_, ap, _∙_}
 use mathlib.Core.Logic.{⊎-elim}
-use Prim.Native.Nat.{ℕ, suc, _≤_, _<_, _-_, _+_}
+use Prim.Native.Nat.{ℕ, _≤_, _<_, _-_, _+_}
 use mathlib.Core.List.{List}
 use borrow.Author.Tests.{ne-eqb}
 use native.Mathlib.Omega.{arith}
@@ -40,7 +40,8 @@ module _ (p : tie.After-rand256 Inv-loop μ-loop) where
 
   gave-byte : (p .rand256 .result ≡ 0 → ⊥) → nonzeroFrom 16 (args .args .before) (args .args .s) ≡ found (p .rand256 .result) used state
   gave-byte h =
-      p .before .before .before .loop .inv .2 ∙ nonzero-byte _ _ {n = args .args .before + 16 - used} (omega arith) (p .before .before .draw .ensures) (p .rand256 .ensures) h
+      p .before .before .before .loop .inv .2
+      ∙ nonzero-byte _ _ {n = args .args .before + 16 - used} (omega arith) (p .before .before .draw .ensures) (p .rand256 .ensures) h
 
 loop-again : tie.Need-loop-again Inv-loop μ-loop
 loop-again c = (omega arith, omega arith, gave-zero (c .before .before) (c .before .if1 .left))
@@ -48,10 +49,11 @@ loop-again c = (omega arith, omega arith, gave-zero (c .before .before) (c .befo
 returns : tie.Need-returns Inv-loop μ-loop
 unfolding nonzeroFrom
 returns c =
+    let p = c .before .before .before .before in
     ⊎-elim
     (λ w. rw (w .1, ne-eqb _ _ (w .0 .taken), gave-byte (c .before) (w .0 .taken)))
     (λ w.
-    let e : c .before .before .before .before .before .args .before + 16 - (c .before .before .before .before .loop .draws + 1) ≡ 0 = omega (arith, w .1 .taken) in
+    let e : p .before .args .before + 16 - (p .loop .draws + 1) ≡ 0 = omega (arith, w .1 .taken) in
     rw (w .2, w .0 .left, gave-zero (c .before) (w .0 .left), e))
     (c .if1 .came)
 

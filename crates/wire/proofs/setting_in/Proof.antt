@@ -1,7 +1,5 @@
 -- `wire::setting_in` meets its contract.
 use mathlib.Core.Path.{sym, _∙_}
-use borrow.Author.Tests.{le-leb, lt-leb, eq-eqb, ne-eqb}
-use Rattle.wire.specs.Settings.{settingIn}
 use Rattle.wire.proofs.Settings.{short-none, other-none, header-read}
 use borrow.Author.Needs.{needs}
 use Rattle.wire.proofs.setting_in.Statement.{statement}

@@ -11,7 +11,8 @@ use Rattle.wire.proofs.write_setting.Tie as tie
 returns : tie.Need-returns
 unfolding settingBytes
 returns c =
-    let a = c .before .before .before .before .before .before .before .before .before .before .before .before .before .before .before .before .before .before .before .before .args in
+    let p = c .before .before .before .before .before .before .before .before .before .before in
+    let a = p .before .before .before .before .before .before .before .before .before .before .args in
     let x = bytes 2 (a .kind) in
     let y = bytes 2 (schemeNumber (a .setting .scheme)) in
     let z = bytes 2 (a .setting .size) in

@@ -1,68 +1,56 @@
--- `wire::write_symbol` meets its contract. The loop: the first k bytes are those of the symbol.
+-- `wire::write_symbol` meets its contract: the first symbol by its stores, a later one by a copy.
 use mathlib.Core.Path.{_≡_}
-use Prim.Native.Nat.{ℕ, _+_, _*_, _-_, _≤_, _<_}
-use native.Mathlib.Nat.{le-trans}
 use native.Mathlib.Omega.{arith}
-use mathlib.Core.List.{List}
-use lib.ListN.{length}
 use borrow.Author.Needs.{needs}
-use Rattle.memory.specs.Part.{part}
-use Rattle.memory.proofs.Parts.{getD-part, length-part}
-use Rattle.memory.proofs.Loop.{turned, turn, turned-all}
-use Rattle.wire.specs.Packets.{adui, symbolCount}
-use Rattle.wire.proofs.Adui.{length-adui, fits, least}
+use Prim.Native.Nat.{_+_, _*_, _≤_, _<_}
+use lib.ListN.{length, length-set}
+use Rattle.memory.proofs.Parts.{row-fits}
+use Rattle.wire.proofs.Adui.{symbol-start, stored-length, first-written, later-written}
 use Rattle.wire.proofs.write_symbol.Statement.{statement}
 use Rattle.wire.proofs.write_symbol.Tie as tie
 
-abbrev Inv-loop : tie.InvT-loop
-Inv-loop dst₀ flow adu i from k₀ k-end dst k = (k ≤ length dst₀) × (dst ≡ turned dst₀ (part (i * length dst₀) (length dst₀) (adui flow adu (length dst₀))) k) × (length dst ≡ length dst₀)
+-- the stores of flow and length keep the length
+stored : (p : tie.After-store-u16) → length (p .store-u16 .last .0) ≡ length (p .before .before .before .before .before .args .dst .now)
+stored p =
+    let a = p .before .before .before .before .before .args in
+    stored-length (a .dst .now) (a .flow) (length (a .adu .now)) (p .store-u16 .last .0) (omega arith) (p .store-u16 .ensures)
 
-abbrev μ-loop : tie.MeasureT-loop
-μ-loop dst₀ flow adu i from k₀ k-end dst k = k-end - k
-
-bounds : (dst adu : List ℕ) (i : ℕ) → i < symbolCount (length dst) (length adu) → i * length dst + length dst ≤ 3 + length adu + (length dst - 1)
-bounds dst adu i h = le-trans (fits _ (length dst) i h) (least (length dst) (length adu))
-
-symbol : (flow : ℕ) (adu : List ℕ) (n i : ℕ) → 0 < n → i < symbolCount n (length adu) → length (part (i * n) n (adui flow adu n)) ≡ n
-symbol flow adu n i z h = length-part (i * n) n _ (rw (length-adui flow adu n z) (fits _ n i h))
-
-mul-from : tie.Need-mul-from Inv-loop μ-loop
-mul-from c = let a = c .before .before .args in omega (arith, bounds (a .dst .now) (a .adu .now) (a .i) (omega arith))
-
-add-adui-at : tie.Need-add-adui-at Inv-loop μ-loop
-add-adui-at c = let a = c .before .before .before .before .args in omega (arith, bounds (a .dst .now) (a .adu .now) (a .i) (omega arith))
-
-loop-again : tie.Need-loop-again Inv-loop μ-loop
-loop-again c =
-    let a = c .before .before .before .before .before .args in
-    let k = c .before .before .loop .k in
-    let n = length (a .dst .now) in
-    let x = adui (a .flow) (a .adu .now) n in
-    let s = symbol (a .flow) (a .adu .now) n (a .i) (omega arith) (omega arith) in (
-      search needs,
-      cc (turn (a .dst .now) (part (a .i * n) n x) k (omega arith) (omega arith), getD-part (a .i * n) n k x (omega arith), c .adui-at .ensures n),
-      search needs,
-    )
-
-returns : tie.Need-returns Inv-loop μ-loop
+returns : tie.Need-returns
 returns c =
-    let a = c .before .before .before .before .args in
-    let n = length (a .dst .now) in
-    cc (turned-all (a .dst .now) (part (a .i * n) n (adui (a .flow) (a .adu .now) n)) (c .before .loop .k) (symbol (a .flow) (a .adu .now) n (a .i) (omega arith) (omega arith)) (omega arith))
+    let p = c .before .before .before .before .before .before in
+    let a = p .before .before .before .before .before .args in
+    first-written (a .dst .now) (a .adu .now) (a .flow) (a .i) (omega arith) (omega arith) _ _
+    (p .before .before .if1 .taken)
+    (p .store-u16 .ensures)
+    (c .before .before .copy-padded .ensures)
+
+-- what is known past the first symbol
+module _ (p : tie.Else1) where
+  start : p .before .before .before .args .i * length (p .before .before .before .args .dst .now) < 3 + length (p .before .before .before .args .adu .now)
+  start = let a = p .before .before .before .args in symbol-start (a .flow) (a .adu .now) (length (a .dst .now)) (omega arith) (a .i) (omega arith)
+
+  past : 4 ≤ p .before .before .before .args .i * length (p .before .before .before .args .dst .now)
+  past = let a = p .before .before .before .args in omega (arith, row-fits (a .i) (length (a .dst .now)) 0 (omega arith))
+
+returns-2 : tie.Need-returns-2
+returns-2 c =
+    let a = c .before .before .before .before .before .before .before .args in
+    later-written (a .dst .now) (a .adu .now) (a .flow) (a .i) (omega arith) (omega arith) _
+    (c .before .before .before .before .if1 .left)
+    (c .before .before .copy-padded2 .ensures)
 
 pub write-symbol-spec : {M : Type 1} → statement M
 write-symbol-spec =
     tie.close
     (tie.spec
-    Inv-loop
-    μ-loop
-    mul-from
-    (λ c. search needs)
-    add-adui-at
-    (λ c κs. search needs)
     (λ c. search needs)
     (λ c. search needs)
+    (λ c κs. simp length-set (omega arith))
+    (λ c κs. (omega (arith, stored (c .before .before .before)), omega arith))
+    (λ c. omega (arith, stored (c .before .before .before .before .before .before)))
+    returns
+    (λ c. omega (arith, start c))
+    (λ c. omega (arith, past c))
+    (λ c κs. (omega arith, omega (arith, start (c .before))))
     (λ c. search needs)
-    loop-again
-    (λ c. search needs)
-    returns)
+    returns-2)
