@@ -20,11 +20,11 @@ byte-number n l = mod-eq-of-lt l
 pub byte-of : (b : Byte) → byte (b .0) ≡ b
 byte-of b = byte-path (byte-number (b .0) (b .1))
 
-pub plus-number : (a b : Byte) → byte-sum a b .0 ≡ bitXor (a .0) (b .0)
-plus-number a b = byte-number _ (gf256-laws .sum-lt (a .0) (b .0) (a .1) (b .1))
+pub byte-sum-number : (a b : Byte) → byte-sum a b .0 ≡ bitXor (a .0) (b .0)
+byte-sum-number a b = byte-number _ (gf256-laws .sum-lt (a .0) (b .0) (a .1) (b .1))
 
-pub times-number : (a b : Byte) → byte-product a b .0 ≡ product (a .0) (b .0)
-times-number a b = byte-number _ (gf256-laws .product-lt (a .0) (b .0) (a .1) (b .1))
+pub byte-product-number : (a b : Byte) → byte-product a b .0 ≡ product (a .0) (b .0)
+byte-product-number a b = byte-number _ (gf256-laws .product-lt (a .0) (b .0) (a .1) (b .1))
 
 pub byte-inverse : (E k : ℕ) → k < 256 → byte (inverse k) ≡ Coded E .inv (byte k)
 byte-inverse E k l = ap (λ n. byte (inverse n)) (sym (byte-number k l))
@@ -41,7 +41,7 @@ plus-comm a b = ap byte (gf256-laws .sum-comm (a .0) (b .0))
 
 plus-assoc : (a b c : Byte) → byte-sum (byte-sum a b) c ≡ byte-sum a (byte-sum b c)
 plus-assoc a b c =
-    ap byte (ap (λ n. bitXor n (c .0)) (plus-number a b) ∙ gf256-laws .sum-assoc (a .0) (b .0) (c .0) ∙ ap (bitXor (a .0)) (sym (plus-number b c)))
+    ap byte (ap (λ n. bitXor n (c .0)) (byte-sum-number a b) ∙ gf256-laws .sum-assoc (a .0) (b .0) (c .0) ∙ ap (bitXor (a .0)) (sym (byte-sum-number b c)))
 
 plus-zero : (a : Byte) → byte-sum a (byte 0) ≡ a
 plus-zero a = ap byte (sum-zero-right gf256 gf256-laws (a .0)) ∙ byte-of a
@@ -54,7 +54,7 @@ times-comm a b = ap byte (gf256-laws .product-comm (a .0) (b .0))
 
 times-assoc : (a b c : Byte) → byte-product (byte-product a b) c ≡ byte-product a (byte-product b c)
 times-assoc a b c =
-    ap byte (ap (λ n. product n (c .0)) (times-number a b) ∙ gf256-laws .product-assoc (a .0) (b .0) (c .0) ∙ ap (product (a .0)) (sym (times-number b c)))
+    ap byte (ap (λ n. product n (c .0)) (byte-product-number a b) ∙ gf256-laws .product-assoc (a .0) (b .0) (c .0) ∙ ap (product (a .0)) (sym (byte-product-number b c)))
 
 times-zero : (a : Byte) → byte-product a (byte 0) ≡ byte 0
 times-zero a = ap byte (product-zero-right gf256 gf256-laws (a .0))
@@ -64,8 +64,8 @@ times-one a = times-comm a (byte 1) ∙ ap byte (gf256-laws .product-one (a .0) 
 
 times-plus : (a b c : Byte) → byte-product a (byte-sum b c) ≡ byte-sum (byte-product a b) (byte-product a c)
 times-plus a b c =
-    ap byte (ap (product (a .0)) (plus-number b c) ∙ product-sum-right gf256 gf256-laws (a .0) (b .0) (c .0)
-    ∙ ap₂ bitXor (sym (times-number a b)) (sym (times-number a c)))
+    ap byte (ap (product (a .0)) (byte-sum-number b c) ∙ product-sum-right gf256 gf256-laws (a .0) (b .0) (c .0)
+    ∙ ap₂ bitXor (sym (byte-product-number a b)) (sym (byte-product-number a c)))
 
 times-inverse : (a : Byte) → a ≢ byte 0 → byte-product (byte (inverse (a .0))) a ≡ byte 1
 times-inverse a z =

@@ -1,12 +1,12 @@
 -- The reduced form is canonical: two reduced systems with the same fillings are one. And two systems of which one speaks of no pivot of
 -- the other have a filling in common.
 use mathlib.Core.Path.{_≡_, refl, sym, ap, ap₂, _∙_, subst}
-use mathlib.Core.Logic.{_↔_, ite}
-use mathlib.Core.Option.{none, some, Option·none-ne-some, Option·some-injective}
+use mathlib.Core.Logic.{_↔_}
+use mathlib.Core.Option.{some, Option·none-ne-some, Option·some-injective}
 use Prim.Native.Nat.{ℕ, zero}
 use Rattle.decoder.specs.Field.{Ops, Laws}
 use Rattle.decoder.specs.Model.{tail, ext, Filling, Row, State, end, free, pivot, Sat, Reduced, Rref}
-use Rattle.decoder.specs.Model.{eval, axpy, scale, lead, at, symbol, reduce, place-free, place, settle, insert}
+use Rattle.decoder.specs.Model.{eval, axpy, scale, lead, at, symbol, reduce, place-free, place, settle-by, settle, insert}
 use Rattle.decoder.specs.Receiver.{empty}
 use Rattle.decoder.proofs.Linear as lin
 use Rattle.decoder.proofs.Elimination as elimination
@@ -134,14 +134,14 @@ module _ {O : Ops} (L : Laws O) where
 
   -- An equation that speaks of no pivot of the first leaves it so.
   pub apart-insert : {n : ℕ} (S T T′ : State O n) (e : Row O n) → Apart S T → Reduced S e → insert T e ≡ some T′ → Apart S T′
-  unfolding insert settle
+  unfolding insert settle settle-by
   apart-insert {n} S T T′ e a h i = go (zero? (lead O n (reduce T e))) (null? (symbol O n (reduce T e))) i
     where
       k : K
       k = inv (lead O n (reduce T e))
 
       go : (d : Dec (lead O n (reduce T e) ≡ 𝟘)) (d′ : Dec (symbol O n (reduce T e) ≡ null))
-          → ite d (ite d′ (some T) none) (some (place T (scale O n k (reduce T e)))) ≡ some T′ → Apart S T′
+          → settle-by d d′ T (reduce T e) ≡ some T′ → Apart S T′
       go (yes _) (yes _) i = subst (λ X. Apart S X) (Option·some-injective _ _ i) a
       go (yes _) (no _) i = absurd (Option·none-ne-some _ i)
       go (no _) _ i =

@@ -1,13 +1,13 @@
 -- Reducing and placing one row after the other: what it does to an equation, to the reduced form and to the packet's equations.
 use mathlib.Core.Path.{_≡_, refl, sym, ap, ap₂, _∙_, subst}
-use mathlib.Core.Logic.{_≢_, if-pos, if-neg}
+use mathlib.Core.Logic.{_≢_}
 use mathlib.Core.Option.{Option, none, some}
 use mathlib.Core.List.{List, [], _∷_, _++_}
 use Prim.Native.Nat.{ℕ, zero, suc, _<_}
 use native.Mathlib.Decide.{decLt}
 use native.Mathlib.Omega.{arith}
 use Rattle.decoder.specs.Field.{Ops, Laws}
-use Rattle.decoder.specs.Model.{Row, State, Reduced, Rref, eval, axpy, scale, lead, at, symbol, reduce, place, settle, insert}
+use Rattle.decoder.specs.Model.{Row, State, Reduced, Rref, eval, axpy, scale, lead, at, symbol, reduce, place, settle-by, settle, insert}
 use Rattle.decoder.specs.Receiver.{and-then, insert-all}
 use Rattle.decoder.specs.Chain.{Chain, place-rows, eliminate}
 use Rattle.decoder.proofs.Linear as lin
@@ -52,12 +52,22 @@ module _ {O : Ops} (L : Laws O) where
   -- What becomes of an equation, told by its reduction: implied, a contradiction, or a new row.
   module _ {n : ℕ} (T : State O n) (e : Row O n) where
     pub reduced-implied : lead O n (reduce T e) ≡ 𝟘 → symbol O n (reduce T e) ≡ null → insert T e ≡ some T
-    unfolding insert settle
-    reduced-implied z y = if-pos (zero? (lead O n (reduce T e))) z _ _ ∙ if-pos (null? (symbol O n (reduce T e))) y _ _
+    unfolding insert settle settle-by
+    reduced-implied z y = go (zero? (lead O n (reduce T e))) (null? (symbol O n (reduce T e)))
+      where
+        go : (d : Dec (lead O n (reduce T e) ≡ 𝟘)) (d′ : Dec (symbol O n (reduce T e) ≡ null)) → settle-by d d′ T (reduce T e) ≡ some T
+        go (yes _) (yes _) = refl
+        go (yes _) (no q) = absurd (q y)
+        go (no p) _ = absurd (p z)
 
     pub reduced-contradicts : lead O n (reduce T e) ≡ 𝟘 → symbol O n (reduce T e) ≢ null → insert T e ≡ none
-    unfolding insert settle
-    reduced-contradicts z y = if-pos (zero? (lead O n (reduce T e))) z _ _ ∙ if-neg (null? (symbol O n (reduce T e))) y _ _
+    unfolding insert settle settle-by
+    reduced-contradicts z y = go (zero? (lead O n (reduce T e))) (null? (symbol O n (reduce T e)))
+      where
+        go : (d : Dec (lead O n (reduce T e) ≡ 𝟘)) (d′ : Dec (symbol O n (reduce T e) ≡ null)) → settle-by d d′ T (reduce T e) ≡ none
+        go (yes _) (yes q) = absurd (y q)
+        go (yes _) (no _) = refl
+        go (no p) _ = absurd (p z)
 
     -- The reduction scaled so that it leads with one.
     unfoldable pub normal : Row O n
@@ -75,8 +85,12 @@ module _ {O : Ops} (L : Laws O) where
           elimination.lead-scale L n (inv a) (λ b. elimination.nonzero-cancel L a b z) (reduce T e) ∙ *-inv a z
 
       pub reduced-places : insert T e ≡ some (place T normal)
-      unfolding insert settle normal
-      reduced-places = if-neg (zero? (lead O n (reduce T e))) z _ _
+      unfolding insert settle settle-by normal
+      reduced-places = go (zero? (lead O n (reduce T e)))
+        where
+          go : (d : Dec (lead O n (reduce T e) ≡ 𝟘)) → settle-by d (null? (symbol O n (reduce T e))) T (reduce T e) ≡ some (place T normal)
+          go (yes p) = absurd (z p)
+          go (no _) = refl
 
   -- A reduced row that leads with one is placed as it is.
   pub insert-reduced : {n : ℕ} (T : State O n) (g : Row O n) → Reduced T g → lead O n g ≡ 𝟙 → insert T g ≡ some (place T g)

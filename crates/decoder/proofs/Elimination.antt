@@ -1,11 +1,11 @@
 -- Gaussian elimination, oldest position first: what each step of the model does to the fillings that satisfy it.
-use mathlib.Core.Path.{_≡_, refl, sym, ap, _∙_, subst}
-use mathlib.Core.Logic.{_≢_, _↔_, ite, if-pos, Iff·rfl, Iff·trans, Iff·and}
+use mathlib.Core.Path.{_≡_, refl, sym, ap, ap₂, _∙_, subst}
+use mathlib.Core.Logic.{_≢_, _↔_, Iff·rfl, Iff·trans, Iff·and}
 use mathlib.Core.Option.{Option, none, some, Option·none-ne-some, Option·some-ne-none, Option·some-injective}
 use Prim.Native.Nat.{ℕ, zero, suc}
 use Rattle.decoder.specs.Field.{Ops, Laws}
-use Rattle.decoder.specs.Model.{tail, ext, Filling, Row, State, end, free, pivot, Sat, Reduced, Rref}
-use Rattle.decoder.specs.Model.{eval, axpy, scale, lead, at, symbol, push, reduce, place-free, place, settle, insert, known, extend, advance}
+use Rattle.decoder.specs.Model.{tail, ext, only-if, Filling, Row, State, end, free, pivot, Sat, Reduced, Rref}
+use Rattle.decoder.specs.Model.{eval, axpy, scale, lead, at, symbol, push, reduce, place-free, place, settle-by, settle, insert, known, extend, advance}
 use Rattle.decoder.proofs.Linear as lin
 
 module _ {O : Ops} (L : Laws O) where
@@ -20,14 +20,6 @@ module _ {O : Ops} (L : Laws O) where
   pub eval-zero : (n : ℕ) (e : Row O (suc n)) (x : Filling O) → e .0 ≡ 𝟘 → eval O (suc n) e x ≡ eval O n (e .1) (tail x)
   unfolding eval
   eval-zero n e x z = simp (eval, z, 𝟘-•, lin.null-⊕ O L)
-
-  pub lead-zero : (n : ℕ) (e : Row O (suc n)) → e .0 ≡ 𝟘 → lead O (suc n) e ≡ lead O n (e .1)
-  unfolding lead
-  lead-zero n e z = if-pos (zero? (e .0)) z (lead O n (e .1)) (e .0)
-
-  pub at-zero : (n : ℕ) (e r : Row O (suc n)) → e .0 ≡ 𝟘 → at O (suc n) e r ≡ at O n (e .1) (r .1)
-  unfolding at
-  at-zero n e r z = if-pos (zero? (e .0)) z (at O n (e .1) (r .1)) (r .0)
 
   -- To add an equation that holds changes nothing.
   clear-eval : (n : ℕ) (k : K) (e t : Row O n) (x : Filling O) → eval O n e x ≡ null → eval O n (axpy O n k e t) x ≡ eval O n t x
@@ -77,14 +69,12 @@ module _ {O : Ops} (L : Laws O) where
   pub lead-scale : (n : ℕ) (k : K) → ((b : K) → k * b ≡ 𝟘 → b ≡ 𝟘) → (e : Row O n) → lead O n (scale O n k e) ≡ k * lead O n e
   unfolding lead scale
   lead-scale zero k c e = sym (*-𝟘 k)
-  lead-scale (suc n) k c e = go (zero? (k * e .0)) (zero? (e .0)) (lead-scale n k c (e .1))
+  lead-scale (suc n) k c e = go (zero? (e .0)) (lead-scale n k c (e .1))
     where
-      go : (d : Dec (k * e .0 ≡ 𝟘)) (d′ : Dec (e .0 ≡ 𝟘)) → lead O n (scale O n k (e .1)) ≡ k * lead O n (e .1)
-          → ite d (lead O n (scale O n k (e .1))) (k * e .0) ≡ k * ite d′ (lead O n (e .1)) (e .0)
-      go (yes _) (yes _) ih = ih
-      go (yes z) (no h) ih = absurd (h (c (e .0) z))
-      go (no h) (yes z) ih = absurd (h (rw z (*-𝟘 k)))
-      go (no _) (no _) ih = refl
+      go : Dec (e .0 ≡ 𝟘) → lead O n (scale O n k (e .1)) ≡ k * lead O n (e .1) → lead O (suc n) (scale O (suc n) k e) ≡ k * lead O (suc n) e
+      go (yes z) ih =
+          lin.lead-later O L n (scale O (suc n) k e) (ap (λ a. k * a) z ∙ *-𝟘 k) ∙ ih ∙ ap (λ a. k * a) (sym (lin.lead-later O L n e z))
+      go (no z) ih = lin.lead-here O L n (scale O (suc n) k e) (λ y. z (c (e .0) y)) ∙ ap (λ a. k * a) (sym (lin.lead-here O L n e z))
 
   -- A reduced equation that leads with one, stored as a row.
 
@@ -92,15 +82,15 @@ module _ {O : Ops} (L : Laws O) where
       → Sat (place S e) x ↔ (Sat S x × (eval O n e x ≡ null))
   unfolding place place-free lead eval
   place-sat end e r l x = absurd (𝟙≢𝟘 (sym l))
-  place-sat (free {n} S) e r l x = go (zero? (e .0)) l (λ h. place-sat S (e .1) r h (tail x))
+  place-sat (free {n} S) e r l x = go (zero? (e .0)) (λ h. place-sat S (e .1) r h (tail x))
     where
-      go : (d : Dec (e .0 ≡ 𝟘)) → ite d (lead O n (e .1)) (e .0) ≡ 𝟙
+      go : (d : Dec (e .0 ≡ 𝟘))
           → (lead O n (e .1) ≡ 𝟙 → Sat (place S (e .1)) (tail x) ↔ (Sat S (tail x) × (eval O n (e .1) (tail x) ≡ null)))
           → Sat (place-free d (place S (e .1)) (e .1) S) x ↔ (Sat S (tail x) × (e .0 • x 0 ⊕ eval O n (e .1) (tail x) ≡ null))
-      go (yes z) h ih = simp (z, 𝟘-•, lin.null-⊕ O L) (ih h)
-      go (no _) h ih = simp (h, 𝟙-•, lin.null-iff O L) ((λ s. (s .1, s .0)), (λ s. (s .1, s .0)))
+      go (yes z) ih = simp (z, 𝟘-•, lin.null-⊕ O L) (ih (sym (lin.lead-later O L n e z) ∙ l))
+      go (no z) ih = simp (sym (lin.lead-here O L n e z) ∙ l, 𝟙-•, lin.null-iff O L) ((λ s. (s .1, s .0)), (λ s. (s .1, s .0)))
   place-sat (pivot {n} t S) e r l x =
-      let ih = place-sat S (e .1) (r .1) (sym (lead-zero n e (r .0)) ∙ l) (tail x) in
+      let ih = place-sat S (e .1) (r .1) (sym (lin.lead-later O L n e (r .0)) ∙ l) (tail x) in
       let clear = clear-eval n (at O n (e .1) t) (e .1) t (tail x) in
       let drop = eval-zero n e x (r .0) in (
         (λ s. let q = ih .0 (s .1) in ((s .0 ∙ clear (q .1), q .0), drop ∙ q .1)),
@@ -112,30 +102,33 @@ module _ {O : Ops} (L : Laws O) where
       → Reduced (place S e) (axpy O n (at O n e r) e r)
   unfolding place place-free lead at axpy
   place-reduced end e r h l g = tt
-  place-reduced (free {n} S) e r h l g = go (zero? (e .0)) l (λ l′. place-reduced S (e .1) (r .1) h l′ g)
+  place-reduced (free {n} S) e r h l g = go (zero? (e .0)) (λ l′. place-reduced S (e .1) (r .1) h l′ g)
     where
-      go : (d : Dec (e .0 ≡ 𝟘)) → ite d (lead O n (e .1)) (e .0) ≡ 𝟙
+      go : (d : Dec (e .0 ≡ 𝟘))
           → (lead O n (e .1) ≡ 𝟙 → Reduced (place S (e .1)) (axpy O n (at O n (e .1) (r .1)) (e .1) (r .1)))
-          → Reduced (place-free d (place S (e .1)) (e .1) S) (axpy O (suc n) (ite d (at O n (e .1) (r .1)) (r .0)) e r)
-      go (yes _) l ih = ih l
-      go (no _) l ih = (simp (l, *-𝟙, +-self), reduced-axpy S (r .0) (e .1) (r .1) h g)
+          → Reduced (place-free d (place S (e .1)) (e .1) S) (axpy O (suc n) (at O (suc n) e r) e r)
+      go (yes z) ih =
+          subst (λ k. Reduced (place S (e .1)) (axpy O n k (e .1) (r .1))) (sym (lin.at-later O L n e r z)) (ih (sym (lin.lead-later O L n e z) ∙ l))
+      go (no z) ih = (
+        ap₂ (λ k a. r .0 + k * a) (lin.at-here O L n e r z) (sym (lin.lead-here O L n e z) ∙ l) ∙ simp (*-𝟙, +-self),
+        reduced-axpy S (at O (suc n) e r) (e .1) (r .1) h g,
+      )
   place-reduced (pivot {n} t S) e r h l g =
-      let ih = place-reduced S (e .1) (r .1) (h .1) (sym (lead-zero n e (h .0)) ∙ l) (g .1) in (
+      let ih = place-reduced S (e .1) (r .1) (h .1) (sym (lin.lead-later O L n e (h .0)) ∙ l) (g .1) in (
         clear-zero (at O (suc n) e r) (r .0) (e .0) (g .0) (h .0),
-        subst (λ k. Reduced (place S (e .1)) (axpy O n k (e .1) (r .1))) (sym (at-zero n e r (h .0))) ih,
+        subst (λ k. Reduced (place S (e .1)) (axpy O n k (e .1) (r .1))) (sym (lin.at-later O L n e r (h .0))) ih,
       )
 
   pub place-rref : {n : ℕ} (S : State O n) (e : Row O n) → Reduced S e → lead O n e ≡ 𝟙 → Rref S → Rref (place S e)
   unfolding place place-free lead
   place-rref end e h l f = tt
-  place-rref (free {n} S) e h l f = go (zero? (e .0)) l (λ l′. place-rref S (e .1) h l′ f)
+  place-rref (free {n} S) e h l f = go (zero? (e .0)) (λ l′. place-rref S (e .1) h l′ f)
     where
-      go : (d : Dec (e .0 ≡ 𝟘)) → ite d (lead O n (e .1)) (e .0) ≡ 𝟙 → (lead O n (e .1) ≡ 𝟙 → Rref (place S (e .1)))
-          → Rref (place-free d (place S (e .1)) (e .1) S)
-      go (yes _) l ih = ih l
-      go (no _) l ih = (h, f)
+      go : (d : Dec (e .0 ≡ 𝟘)) → (lead O n (e .1) ≡ 𝟙 → Rref (place S (e .1))) → Rref (place-free d (place S (e .1)) (e .1) S)
+      go (yes z) ih = ih (sym (lin.lead-later O L n e z) ∙ l)
+      go (no _) ih = (h, f)
   place-rref (pivot {n} t S) e h l f =
-      let l′ = sym (lead-zero n e (h .0)) ∙ l in
+      let l′ = sym (lin.lead-later O L n e (h .0)) ∙ l in
       (place-reduced S (e .1) t (h .1) l′ (f .0), place-rref S (e .1) (h .1) l′ (f .1))
 
   -- Adding an equation. It is refused where no filling of the system satisfies it; else the system gains just that.
@@ -155,14 +148,13 @@ module _ {O : Ops} (L : Laws O) where
   )
 
   settle-added : {n : ℕ} (S : State O n) (e : Row O n) → Rref S → Reduced S e → Added S e (settle S e)
-  unfolding settle
+  unfolding settle settle-by
   settle-added {n} S e f h = go (zero? (lead O n e)) (null? (symbol O n e))
     where
       k : K
       k = inv (lead O n e)
 
-      go : (d : Dec (lead O n e ≡ 𝟘)) (d′ : Dec (symbol O n e ≡ null))
-          → Added S e (ite d (ite d′ (some S) none) (some (place S (scale O n k e))))
+      go : (d : Dec (lead O n e ≡ 𝟘)) (d′ : Dec (symbol O n e ≡ null)) → Added S e (settle-by d d′ S e)
       go (yes z) (yes y) = (f, λ x. ((λ s. (s, lin.eval-lead O L n e x z ∙ y)), (λ s. s .0)))
       go (yes z) (no y) = λ x s q. y (sym (lin.eval-lead O L n e x z) ∙ q)
       go (no z) _ =
@@ -244,14 +236,14 @@ module _ {O : Ops} (L : Laws O) where
       → (x y : Filling O) × Sat S x × Sat S y × (eval O n e x ≢ eval O n e y)
   unfolding lead eval
   separate end e h l = absurd (l refl)
-  separate (free {n} S) e h l = go (zero? (e .0)) l (separate S (e .1) h)
+  separate (free {n} S) e h l = go (zero? (e .0)) (separate S (e .1) h)
     where
-      go : (d : Dec (e .0 ≡ 𝟘)) → ite d (lead O n (e .1)) (e .0) ≢ 𝟘
+      go : Dec (e .0 ≡ 𝟘)
           → (lead O n (e .1) ≢ 𝟘 → (x y : Filling O) × Sat S x × Sat S y × (eval O n (e .1) x ≢ eval O n (e .1) y))
           → (x y : Filling O) × Sat S (tail x) × Sat S (tail y) × (e .0 • x 0 ⊕ eval O n (e .1) (tail x) ≢ e .0 • y 0 ⊕ eval O n (e .1) (tail y))
-      go (yes z) l ih = let (x, y, s, t, q) = ih l in
+      go (yes z) ih = let (x, y, s, t, q) = ih (λ y. l (lin.lead-later O L n e z ∙ y)) in
           (ext null x, ext null y, s, t, λ p. q (lin.⊕-cancel O L _ _ _ p))
-      go (no z) l ih =
+      go (no z) ih =
           let s = solution-sat S in (
             ext unit (solution S),
             ext null (solution S),
@@ -260,7 +252,7 @@ module _ {O : Ops} (L : Laws O) where
             λ p. unit≢null (nonzero-null (e .0) unit z (lin.⊕-cancel-right O L _ _ _ p ∙ lin.•-null O L (e .0))),
           )
   separate (pivot {n} r S) e h l =
-      let (x, y, s, t, q) = separate S (e .1) (h .1) (λ z. l (lead-zero n e (h .0) ∙ z)) in
+      let (x, y, s, t, q) = separate S (e .1) (h .1) (λ z. l (lin.lead-later O L n e (h .0) ∙ z)) in
       let u = ext (eval O n r x) x in
       let v = ext (eval O n r y) y in
       (u, v, (refl, s), (refl, t), λ p. q (sym (eval-zero n e u (h .0)) ∙ p ∙ eval-zero n e v (h .0)))
@@ -273,7 +265,7 @@ module _ {O : Ops} (L : Laws O) where
   known-sound (free S) (suc i) v k x s = known-sound S i v k (tail x) s
   known-sound (pivot {n} r S) zero v k x s = go (zero? (lead O n r)) k
     where
-      go : (d : Dec (lead O n r ≡ 𝟘)) → ite d (some (symbol O n r)) none ≡ some v → x 0 ≡ v
+      go : (d : Dec (lead O n r ≡ 𝟘)) → only-if d (symbol O n r) ≡ some v → x 0 ≡ v
       go (yes z) k = s .0 ∙ lin.eval-lead O L n r (tail x) z ∙ Option·some-injective _ _ k
       go (no _) k = absurd (Option·none-ne-some v k)
   known-sound (pivot r S) (suc i) v k x s = known-sound S i v k (tail x) (s .1)
@@ -288,7 +280,7 @@ module _ {O : Ops} (L : Laws O) where
       let (x, y, s, t, q) = known-complete S i f k in (ext null x, ext null y, s, t, q)
   known-complete (pivot {n} r S) zero f k = go (zero? (lead O n r)) k
     where
-      go : (d : Dec (lead O n r ≡ 𝟘)) → ite d (some (symbol O n r)) none ≡ none
+      go : (d : Dec (lead O n r ≡ 𝟘)) → only-if d (symbol O n r) ≡ none
           → (x y : Filling O) × Sat (pivot r S) x × Sat (pivot r S) y × (x 0 ≢ y 0)
       go (yes _) k = absurd (Option·some-ne-none _ k)
       go (no z) k =

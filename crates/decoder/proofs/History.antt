@@ -8,7 +8,8 @@ use native.Mathlib.Nat.{zero-add, suc-add}
 use native.Mathlib.Omega.{arith}
 use Rattle.decoder.specs.Field.{Ops, Laws}
 use Rattle.decoder.specs.Model.{tail, Filling, Row, eval, symbol, State, end, free, pivot, extend, Sat, Rref, insert, known, advance}
-use Rattle.decoder.specs.Receiver.{shift, and-then, Packet, Hold, Satisfies, Satisfies-all, embed, over, Receiver, empty, fresh, advance-by, insert-all, rise, receive, Placed}
+use Rattle.decoder.specs.Receiver.{shift, and-then, Packet, Hold, Satisfies, Satisfies-all, embed, over}
+use Rattle.decoder.specs.Receiver.{Receiver, empty, fresh, advance-by, insert-all, rise, receive, Placed}
 use Rattle.decoder.specs.Receiver.{Accepted, Log, opened, answered, called, run}
 use Rattle.decoder.specs.Promises.{Follows, Faithful, Demand-3, Locates}
 use Rattle.decoder.proofs.Linear as lin

@@ -1,9 +1,18 @@
 -- The linear algebra of the affine form: row operations, and what they do to its value.
 use mathlib.Core.Path.{_≡_, refl, sym, ap, _∙_}
-use mathlib.Core.Logic.{_↔_, ite, if-pos}
+use mathlib.Core.Logic.{_≢_, _↔_, if-pos, if-neg}
+use mathlib.Core.Option.{none, some}
 use Prim.Native.Nat.{ℕ, zero, suc}
 use Rattle.decoder.specs.Field.{Ops, Laws}
-use Rattle.decoder.specs.Model.{tail, Filling, Row, eval, axpy, scale, lead, symbol, push}
+use Rattle.decoder.specs.Model.{tail, only-if, Filling, Row, eval, axpy, scale, lead, at, symbol, push}
+
+pub only-if-holds : {P A : Type 0} (d : Dec P) (a : A) → P → only-if d a ≡ some a
+only-if-holds (yes _) a p = refl
+only-if-holds (no n) a p = absurd (n p)
+
+pub only-if-fails : {P A : Type 0} (d : Dec P) (a : A) → ¬ P → only-if d a ≡ none
+only-if-fails (yes p) a n = absurd (n p)
+only-if-fails (no _) a n = refl
 
 module _ (O : Ops) (L : Laws O) where
   open Ops O using (K, Sym, 𝟘, 𝟙, _+_, _*_, inv, zero?, null, _⊕_, _•_, null?)
@@ -57,21 +66,42 @@ module _ (O : Ops) (L : Laws O) where
   eval-push zero e x = simp (eval, push, 𝟘-•, null-⊕)
   eval-push (suc n) e x = simp (eval, push, eval-push n (e .1) (tail x))
 
+  -- The oldest coefficient that is not zero leads, and says where `at` looks.
+  pub lead-here : (n : ℕ) (e : Row O (suc n)) → e .0 ≢ 𝟘 → lead O (suc n) e ≡ e .0
+  unfolding lead
+  lead-here n e z = if-neg (zero? (e .0)) z (lead O n (e .1)) (e .0)
+
+  pub lead-later : (n : ℕ) (e : Row O (suc n)) → e .0 ≡ 𝟘 → lead O (suc n) e ≡ lead O n (e .1)
+  unfolding lead
+  lead-later n e z = if-pos (zero? (e .0)) z (lead O n (e .1)) (e .0)
+
+  pub at-here : (n : ℕ) (e r : Row O (suc n)) → e .0 ≢ 𝟘 → at O (suc n) e r ≡ r .0
+  unfolding at
+  at-here n e r z = if-neg (zero? (e .0)) z (at O n (e .1) (r .1)) (r .0)
+
+  pub at-later : (n : ℕ) (e r : Row O (suc n)) → e .0 ≡ 𝟘 → at O (suc n) e r ≡ at O n (e .1) (r .1)
+  unfolding at
+  at-later n e r z = if-pos (zero? (e .0)) z (at O n (e .1) (r .1)) (r .0)
+
   -- Where every coefficient is zero, the form is its symbol.
   pub eval-lead : (n : ℕ) (e : Row O n) (x : Filling O) → lead O n e ≡ 𝟘 → eval O n e x ≡ symbol O n e
-  unfolding eval lead symbol
+  unfolding eval symbol
   eval-lead zero e x h = refl
-  eval-lead (suc n) e x h = go (zero? (e .0)) h (eval-lead n (e .1) (tail x))
+  eval-lead (suc n) e x h = go (zero? (e .0)) (eval-lead n (e .1) (tail x))
     where
-      go : (d : Dec (e .0 ≡ 𝟘)) → ite d (lead O n (e .1)) (e .0) ≡ 𝟘 → (lead O n (e .1) ≡ 𝟘 → eval O n (e .1) (tail x) ≡ symbol O n (e .1))
+      go : Dec (e .0 ≡ 𝟘) → (lead O n (e .1) ≡ 𝟘 → eval O n (e .1) (tail x) ≡ symbol O n (e .1))
           → e .0 • x 0 ⊕ eval O n (e .1) (tail x) ≡ symbol O n (e .1)
-      go (yes z) h ih = simp (z, 𝟘-•, null-⊕) (ih h)
-      go (no z) h ih = absurd (z h)
+      go (yes z) ih = simp (z, 𝟘-•, null-⊕) (ih (sym (lead-later n e z) ∙ h))
+      go (no z) ih = absurd (z (sym (lead-here n e z) ∙ h))
 
   pub lead-push : (n : ℕ) (e : Row O n) → lead O (suc n) (push O n e) ≡ lead O n e
   unfolding lead push
-  lead-push zero e = if-pos (zero? 𝟘) refl _ _
-  lead-push (suc n) e = ap (λ a. ite (zero? (e .0)) a (e .0)) (lead-push n (e .1))
+  lead-push zero e = lead-later zero (push O zero e) refl
+  lead-push (suc n) e = go (zero? (e .0)) (lead-push n (e .1))
+    where
+      go : Dec (e .0 ≡ 𝟘) → lead O (suc n) (push O n (e .1)) ≡ lead O n (e .1) → lead O (suc (suc n)) (push O (suc n) e) ≡ lead O (suc n) e
+      go (yes z) ih = lead-later (suc n) (push O (suc n) e) z ∙ ih ∙ sym (lead-later n e z)
+      go (no z) ih = lead-here (suc n) (push O (suc n) e) z ∙ sym (lead-here n e z)
 
   pub symbol-push : (n : ℕ) (e : Row O n) → symbol O (suc n) (push O n e) ≡ symbol O n e
   unfolding symbol push

@@ -2,21 +2,23 @@
 use mathlib.Core.Path.{_≡_, refl, sym, ap, _∙_, subst}
 use mathlib.Core.Logic.{_≢_, _↔_}
 use mathlib.Core.Option.{Option, none, some, Option·some-ne-none}
-use Prim.Native.Nat.{ℕ}
+use mathlib.Core.List.{List}
+use Prim.Native.Nat.{ℕ, _<_}
 use native.Mathlib.Omega.{arith}
-use Rattle.field.specs.Gf256.{inverse}
+use lib.Bits.{xor-lt, and-lt}
 use Rattle.field.proofs.Fields.{product-binary}
 use Rattle.field.proofs.Laws.{inverse-is, product-one}
 use Rattle.decoder.specs.Field.{Ops, Laws}
 use Rattle.decoder.specs.Model.{Filling, Row, eval, State, Sat, Rref, insert, known}
-use Rattle.decoder.specs.Receiver.{Accepted}
-use Rattle.decoder.specs.Bytes.{byte, bytes}
-use Rattle.decoder.specs.Promises.{Decoder, Byte-decoder, Scheme-9}
+use Rattle.decoder.specs.Receiver.{Accepted, Packet, opened, run}
+use Rattle.decoder.specs.Bytes.{byte, bytes, Coded}
+use Rattle.decoder.specs.Promises.{Locates, Demand-3, Decoder, Byte-decoder, Scheme-9}
 use Rattle.decoder.proofs.Symbols as symbols
-use Rattle.decoder.proofs.Bytes.{bytes-laws, laws}
+use Rattle.decoder.proofs.Bytes.{bytes-laws, laws, byte-sum-number, byte-product-number}
 use Rattle.decoder.proofs.Elimination as elimination
 use Rattle.decoder.proofs.Canonical as canonical
 use Rattle.decoder.proofs.History as history
+use Rattle.decoder.proofs.Packets as packets
 
 module _ {O : Ops} (L : Laws O) where
   open Ops O using (Sym, null)
@@ -53,17 +55,25 @@ module _ {O : Ops} (L : Laws O) where
     known-exactly = known-exactly;
     known-right = elimination.known-sound L;
     canonical = canonical.canonical L;
+    source-says = packets.source-satisfies L;
+    repair-says = packets.repair-satisfies L;
+    order = history.same-known L;
     demand-3 = history.demand-3 L;
   }
 
--- At bytes: demand 3 among them.
+-- At bytes, and demand 3 by itself.
 pub byte-decoder : Byte-decoder
 byte-decoder E h = decoder (laws E h)
 
-pub scheme-9 : Scheme-9
-scheme-9 = record {
-  product = λ E c d x y. ap byte (product-binary (c .0) (d .0) x y);
-  inverse = λ E. ap byte (inverse-is 1 1 (omega arith) (product-one 1 (omega arith)));
-  keeps = λ E v. symbols.one-times bytes bytes-laws E v;
-  drops = λ E v. symbols.zero-times bytes bytes-laws E v;
+pub byte-demand-3 : (E : ℕ) → 0 < E → {w : ℕ} {Call : Type 0} (locate : Call → ℕ → Option (Packet (Coded E))) → Locates w locate
+    → (cs : List Call) → Demand-3 (run locate (opened (Coded E) w) cs)
+byte-demand-3 E h = byte-decoder E h .demand-3
+
+pub scheme-9 : (E : ℕ) → Scheme-9 E
+scheme-9 E = record {
+  sum = λ c d x y. (byte-sum-number c d, xor-lt 1 (c .0) (d .0) x y);
+  product = λ c d x y. (byte-product-number c d ∙ product-binary (c .0) (d .0) x y, and-lt 1 (c .0) (d .0) x y);
+  inverse = ap byte (inverse-is 1 1 (omega arith) (product-one 1 (omega arith)));
+  keeps = symbols.one-times bytes bytes-laws E;
+  drops = symbols.zero-times bytes bytes-laws E;
 }

@@ -1,6 +1,6 @@
 -- The loops over the table do what the model says: reduce, find the leading coefficient, place, and move on.
 use mathlib.Core.Path.{_≡_, refl, sym, ap, ap₂, _∙_, subst}
-use mathlib.Core.Logic.{_≢_, ite, if-pos, if-neg}
+use mathlib.Core.Logic.{_≢_}
 use mathlib.Core.Bool.{Bool, true, false, true≢false}
 use Prim.Native.Nat.{ℕ, zero, suc, _+_ as _+ₙ_, _≤_, _<_}
 use native.Mathlib.Decide.{ℕ-discrete}
@@ -9,6 +9,7 @@ use Rattle.decoder.specs.Field.{Ops, Laws}
 use Rattle.decoder.specs.Model.{Row, State, end, free, pivot, axpy, scale, lead, at, push, reduce, place, place-free, extend, advance}
 use Rattle.decoder.specs.Table.{Line, Table, read, slot, view, Echelon}
 use Rattle.decoder.specs.TableSteps.{add-line, scale-line, step-by, sweep, Leads, Places, Moves}
+use Rattle.decoder.proofs.Linear as lin
 
 module _ {O : Ops} (L : Laws O) where
   open Ops O using (K, Sym, 𝟘, 𝟙, _+_, _*_, inv, zero?, _⊕_, _•_)
@@ -71,30 +72,29 @@ module _ {O : Ops} (L : Laws O) where
   leads-on e q p h = record { below = λ j g l. h .below j (omega arith) l; here = h .here }
 
   pub lead-read : (e : Line O) (n q p : ℕ) → Leads e q p → q ≤ p → p < q +ₙ n → lead O n (read e n q) ≡ e .cells p
-  unfolding lead read
+  unfolding read
   lead-read e zero q p h g l = absurd (omega arith)
   lead-read e (suc n) q p h g l = go (ℕ-discrete q p) (λ g′. lead-read e n (suc q) p (leads-on e q p h) g′ (omega arith))
     where
-      go : Dec (q ≡ p) → (suc q ≤ p → lead O n (read e n (suc q)) ≡ e .cells p)
-          → ite (zero? (e .cells q)) (lead O n (read e n (suc q))) (e .cells q) ≡ e .cells p
-      go (yes c) ih = if-neg (zero? (e .cells q)) (λ z. h .here (ap (e .cells) (sym c) ∙ z)) _ _ ∙ ap (e .cells) c
-      go (no c) ih = if-pos (zero? (e .cells q)) (h .below q (omega arith) (omega arith)) _ _ ∙ ih (omega arith)
+      go : Dec (q ≡ p) → (suc q ≤ p → lead O n (read e n (suc q)) ≡ e .cells p) → lead O (suc n) (read e (suc n) q) ≡ e .cells p
+      go (yes c) ih = lin.lead-here O L n _ (λ z. h .here (ap (e .cells) (sym c) ∙ z)) ∙ ap (e .cells) c
+      go (no c) ih = lin.lead-later O L n _ (h .below q (omega arith) (omega arith)) ∙ ih (omega arith)
 
   pub lead-none : (e : Line O) (n q : ℕ) → ((j : ℕ) → q ≤ j → j < q +ₙ n → e .cells j ≡ 𝟘) → lead O n (read e n q) ≡ 𝟘
   unfolding lead read
   lead-none e zero q h = refl
   lead-none e (suc n) q h =
-      if-pos (zero? (e .cells q)) (h q (omega arith) (omega arith)) _ _ ∙ lead-none e n (suc q) (λ j g l. h j (omega arith) (omega arith))
+      lin.lead-later O L n _ (h q (omega arith) (omega arith)) ∙ lead-none e n (suc q) (λ j g l. h j (omega arith) (omega arith))
 
   pub at-read : (e r : Line O) (n q p : ℕ) → Leads e q p → q ≤ p → p < q +ₙ n → at O n (read e n q) (read r n q) ≡ r .cells p
-  unfolding at read
+  unfolding read
   at-read e r zero q p h g l = absurd (omega arith)
   at-read e r (suc n) q p h g l = go (ℕ-discrete q p) (λ g′. at-read e r n (suc q) p (leads-on e q p h) g′ (omega arith))
     where
       go : Dec (q ≡ p) → (suc q ≤ p → at O n (read e n (suc q)) (read r n (suc q)) ≡ r .cells p)
-          → ite (zero? (e .cells q)) (at O n (read e n (suc q)) (read r n (suc q))) (r .cells q) ≡ r .cells p
-      go (yes c) ih = if-neg (zero? (e .cells q)) (λ z. h .here (ap (e .cells) (sym c) ∙ z)) _ _ ∙ ap (r .cells) c
-      go (no c) ih = if-pos (zero? (e .cells q)) (h .below q (omega arith) (omega arith)) _ _ ∙ ih (omega arith)
+          → at O (suc n) (read e (suc n) q) (read r (suc n) q) ≡ r .cells p
+      go (yes c) ih = lin.at-here O L n _ _ (λ z. h .here (ap (e .cells) (sym c) ∙ z)) ∙ ap (r .cells) c
+      go (no c) ih = lin.at-later O L n _ _ (h .below q (omega arith) (omega arith)) ∙ ih (omega arith)
 
   -- To add nothing changes nothing, so such rows may be passed over.
   pub add-line-zero : (k : K) (r e : Line O) → k ≡ 𝟘 → add-line k r e ≡ e

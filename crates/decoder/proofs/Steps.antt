@@ -1,6 +1,6 @@
 -- What each step of the receiver does to the table, as a whole: add an equation, move the base on, look a symbol up.
 use mathlib.Core.Path.{_≡_, refl, sym, ap, ap₂, _∙_}
-use mathlib.Core.Logic.{_≢_, ite, if-pos, if-neg}
+use mathlib.Core.Logic.{_≢_}
 use mathlib.Core.Bool.{Bool, true, false, true≢false}
 use mathlib.Core.Option.{none, some}
 use Prim.Native.Nat.{ℕ, zero, suc, _+_ as _+ₙ_, _≤_, _<_}
@@ -8,10 +8,12 @@ use native.Mathlib.Decide.{ℕ-discrete, decLt}
 use native.Mathlib.Omega.{arith}
 use native.Mathlib.Nat.{add-zero}
 use Rattle.decoder.specs.Field.{Ops, Laws}
-use Rattle.decoder.specs.Model.{Row, State, scale, lead, symbol, place, settle, insert, known}
+use Rattle.decoder.specs.Model.{Row, State, scale, lead, symbol, reduce, place, insert, known}
 use Rattle.decoder.specs.Table.{Line, Table, read, slot, view, Echelon}
 use Rattle.decoder.specs.TableSteps.{add-line, scale-line, step-by, sweep, Leads, Places, Moves}
+use Rattle.decoder.proofs.Linear as lin
 use Rattle.decoder.proofs.Refine as refine
+use Rattle.decoder.proofs.Chain as chain
 
 module _ {O : Ops} (L : Laws O) where
   open Ops O using (K, Sym, 𝟘, 𝟙, _+_, _*_, inv, zero?, null, _⊕_, _•_, null?)
@@ -66,36 +68,31 @@ module _ {O : Ops} (L : Laws O) where
   -- Adding an equation: sweep it, find where it leads, make that one, and place it.
 
   module _ (T : Table O) (b w : ℕ) (h : Echelon T b w) (e : Line O) where
-    swept : insert (view T w b) (read e w b) ≡ settle (view T w b) (read (sweep T w b e) w b)
-    unfolding insert
-    swept = ap (settle (view T w b)) (sym (refine.sweep-reduce L T b w h e))
-
-    settled : (R : Row O w) → lead O w R ≡ 𝟘 → settle (view T w b) R ≡ ite (null? (symbol O w R)) (some (view T w b)) none
-    unfolding settle
-    settled R z = if-pos (zero? (lead O w R)) z _ _
+    reduced : reduce (view T w b) (read e w b) ≡ read (sweep T w b e) w b
+    reduced = sym (refine.sweep-reduce L T b w h e)
 
     pub insert-implied : ((j : ℕ) → b ≤ j → j < b +ₙ w → sweep T w b e .cells j ≡ 𝟘) → sweep T w b e .sym ≡ null
         → insert (view T w b) (read e w b) ≡ some (view T w b)
     insert-implied z y =
-        swept ∙ settled _ (refine.lead-none L (sweep T w b e) w b z)
-        ∙ if-pos (null? _) (symbol-read (sweep T w b e) w b ∙ y) _ _
+        chain.reduced-implied L (view T w b) (read e w b) (ap (lead O w) reduced ∙ refine.lead-none L (sweep T w b e) w b z)
+        (ap (symbol O w) reduced ∙ symbol-read (sweep T w b e) w b ∙ y)
 
     pub insert-contradicts : ((j : ℕ) → b ≤ j → j < b +ₙ w → sweep T w b e .cells j ≡ 𝟘) → sweep T w b e .sym ≢ null
         → insert (view T w b) (read e w b) ≡ none
     insert-contradicts z y =
-        swept ∙ settled _ (refine.lead-none L (sweep T w b e) w b z)
-        ∙ if-neg (null? _) (λ x. y (sym (symbol-read (sweep T w b e) w b) ∙ x)) _ _
+        chain.reduced-contradicts L (view T w b) (read e w b) (ap (lead O w) reduced ∙ refine.lead-none L (sweep T w b e) w b z)
+        (λ x. y (sym (ap (symbol O w) reduced ∙ symbol-read (sweep T w b e) w b) ∙ x))
 
     pub insert-places : (p : ℕ) → b ≤ p → p < b +ₙ w → Leads (sweep T w b e) b p
         → (T′ : Table O) → Places T T′ b w p (scale-line (inv (sweep T w b e .cells p)) (sweep T w b e))
         → insert (view T w b) (read e w b) ≡ some (view T′ w b)
-    unfolding settle
+    unfolding chain.normal
     insert-places p g l d T′ f =
         let E = sweep T w b e in
         let a = E .cells p in
         let led = refine.lead-read L E w b p d g l in
-        swept
-        ∙ if-neg (zero? (lead O w (read E w b))) (λ z. d .here (sym led ∙ z)) _ _
+        chain.reduced-places L (view T w b) (read e w b) (λ z. d .here (sym led ∙ sym (ap (lead O w) reduced) ∙ z))
+        ∙ ap (λ r. some (place (view T w b) (scale O w (inv (lead O w r)) r))) reduced
         ∙ ap (λ k. some (place (view T w b) (scale O w (inv k) (read E w b)))) led
         ∙ ap (λ r. some (place (view T w b) r)) (sym (refine.read-scale L (inv a) E w b))
         ∙ ap some (sym (refine.view-place L T T′ b w p (scale-line (inv a) E) h f (free-at T b w h e p g l (d .here)) (leads-scaled E b p d) g l))
@@ -163,13 +160,14 @@ module _ {O : Ops} (L : Laws O) where
   -- Looking a symbol up: the row at its position has no other coefficient in the window.
 
   lead-nonzero : (e : Line O) (n q j : ℕ) → q ≤ j → j < q +ₙ n → e .cells j ≢ 𝟘 → lead O n (read e n q) ≢ 𝟘
-  unfolding lead read
+  unfolding read
   lead-nonzero e zero q j g l z = absurd (omega arith)
   lead-nonzero e (suc n) q j g l z = go (zero? (e .cells q)) (λ g′. lead-nonzero e n (suc q) j g′ (omega arith) z)
     where
-      go : (d : Dec (e .cells q ≡ 𝟘)) → (suc q ≤ j → lead O n (read e n (suc q)) ≢ 𝟘) → ite d (lead O n (read e n (suc q))) (e .cells q) ≢ 𝟘
-      go (yes y) ih = ih (let x : q ≢ j = (λ c. z (ap (e .cells) (sym c) ∙ y)) in omega arith)
-      go (no y) ih = y
+      go : Dec (e .cells q ≡ 𝟘) → (suc q ≤ j → lead O n (read e n (suc q)) ≢ 𝟘) → lead O (suc n) (read e (suc n) q) ≢ 𝟘
+      go (yes y) ih x =
+          ih (let c : q ≢ j = (λ c. z (ap (e .cells) (sym c) ∙ y)) in omega arith) (sym (lin.lead-later O L n (read e (suc n) q) y) ∙ x)
+      go (no y) ih x = y (sym (lin.lead-here O L n (read e (suc n) q) y) ∙ x)
 
   module _ (T : Table O) where
     known-later : {n : ℕ} (i : ℕ) (t : Bool) (r : Row O n) (S : State O n) → known (slot t r S) (suc i) ≡ known S i
@@ -197,13 +195,13 @@ module _ {O : Ops} (L : Laws O) where
       unfolding slot known
       known-row h z =
           known-slot true h
-          ∙ if-pos (zero? _) (refine.lead-none L (T .line p) m (suc p) (λ j g l. z j g (omega arith))) _ _
+          ∙ lin.only-if-holds (zero? _) _ (refine.lead-none L (T .line p) m (suc p) (λ j g l. z j g (omega arith)))
           ∙ ap some (symbol-read (T .line p) m (suc p))
 
       pub known-open : T .has p ≡ true → (j : ℕ) → p < j → j < q +ₙ n → T .line p .cells j ≢ 𝟘 → known (view T n q) i ≡ none
       unfolding slot known
       known-open h j g l z =
-          known-slot true h ∙ if-neg (zero? _) (lead-nonzero (T .line p) m (suc p) j g (omega arith) z) _ _
+          known-slot true h ∙ lin.only-if-fails (zero? _) _ (lead-nonzero (T .line p) m (suc p) j g (omega arith) z)
 
       pub known-free : T .has p ≡ false → known (view T n q) i ≡ none
       unfolding slot known

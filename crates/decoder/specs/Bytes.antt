@@ -11,6 +11,7 @@ use Rattle.field.specs.Gf256.{product, inverse}
 use Rattle.decoder.specs.Field.{Ops}
 use Rattle.decoder.specs.Symbols.{symbols}
 
+-- A number below 256.
 abbrev pub Byte : Type 0
 Byte = (n : ℕ) × (n < 256)
 
@@ -30,6 +31,7 @@ abbrev byte-zero? : (b : Byte) → Dec (b .0 ≡ 0) → Dec (b ≡ byte 0)
 byte-zero? b (yes p) = yes (byte-path p)
 byte-zero? b (no p) = no (λ e. p (ap (λ t. t .0) e))
 
+-- The sum and the product in GF(2^8).
 abbrev pub byte-sum : Byte → Byte → Byte
 byte-sum a b = byte (bitXor (a .0) (b .0))
 

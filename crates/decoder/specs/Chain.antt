@@ -1,5 +1,5 @@
--- Rows that join a system one after the other, in order of arrival: each is reduced by the system with the rows before it, and leads with one.
--- And what an equation becomes when these rows are eliminated from it in the same order.
+-- Contracts of inner functions: a reader need not believe these.
+-- Rows that join a system one after the other, in order of arrival, and what an equation becomes when they are eliminated from it in that order.
 use mathlib.Core.Path.{_≡_}
 use Prim.Native.Nat.{ℕ, zero, suc, _<_}
 use Rattle.decoder.specs.Field.{Ops}

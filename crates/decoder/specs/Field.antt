@@ -2,7 +2,7 @@
 use mathlib.Core.Path.{_≡_}
 use mathlib.Core.Logic.{_≢_}
 
--- The operations alone, which is all that the decoder's definitions run on: `K` the coefficients, `Sym` the symbols.
+-- The operations alone, on which the decoder's definitions run: `K` the coefficients, `Sym` the symbols, with sum `⊕` and multiple `•`.
 pub record Ops : Type 1 where
   pub K : Type 0
   pub Sym : Type 0

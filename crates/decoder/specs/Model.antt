@@ -6,12 +6,18 @@ use mathlib.Core.Logic.{ite}
 use Prim.Native.Nat.{ℕ, zero, suc}
 use Rattle.decoder.specs.Field.{Ops}
 
+-- Of what each position has: without the first, and with one more before it.
 abbrev pub tail : {A : Type 0} → (ℕ → A) → ℕ → A
 tail x i = x (suc i)
 
 abbrev pub ext : {A : Type 0} → A → (ℕ → A) → ℕ → A
 ext a x zero = a
 ext a x (suc i) = x i
+
+-- A value, if a condition holds.
+abbrev pub only-if : {P A : Type 0} → Dec P → A → Option A
+only-if (yes _) a = some a
+only-if (no _) a = none
 
 module _ (O : Ops) where
   open Ops O using (K, Sym, 𝟘, 𝟙, _+_, _*_, inv, zero?, null, _⊕_, _•_, null?)
@@ -20,7 +26,7 @@ module _ (O : Ops) where
   infixl 60 _*_
   infixl 50 _⊕_
   infixr 60 _•_
-  -- A filling gives a symbol to every position; here positions count from the window's base.
+  -- A filling gives a symbol to every position. Positions count from the window's base, or from the session's start.
   abbrev pub Filling : Type 0
   Filling = ℕ → Sym
 
@@ -29,7 +35,7 @@ module _ (O : Ops) where
   Row zero = Sym
   Row (suc n) = K × Row n
 
-  -- The affine form `c · x + s`. As an equation a row says that this is null, which is `c · x ≡ s`.
+  -- The value `c · x + s` at a filling `x`. As an equation a row says that it is null, which is `c · x ≡ s`.
   unfoldable pub eval : (n : ℕ) → Row n → Filling → Sym
   eval zero e x = e
   eval (suc n) e x = e .0 • x 0 ⊕ eval n (e .1) (tail x)
@@ -61,7 +67,7 @@ module _ (O : Ops) where
   push zero e = (𝟘, e)
   push (suc n) e = (e .0, push n (e .1))
 
-  -- A window of `n` positions. At a pivot the symbol is the row's form of the positions after it.
+  -- A system over a window of `n` positions, the oldest first. At a pivot the symbol is the row's value at the positions after it.
   pub data State : ℕ → Type 0 where
     end : State 0
     free : {n : ℕ} → State n → State (suc n)
@@ -80,13 +86,13 @@ module _ {O : Ops} where
   Sat (free S) x = Sat S (tail x)
   Sat (pivot {n} r S) x = (x 0 ≡ eval O n r (tail x)) × Sat S (tail x)
 
-  -- The coefficients are zero at every pivot.
+  -- The row's coefficients are zero at every pivot.
   abbrev pub Reduced : {n : ℕ} → State O n → Row O n → Type 0
   Reduced end e = Unit {0}
   Reduced (free S) e = Reduced S (e .1)
   Reduced (pivot r S) e = (e .0 ≡ 𝟘) × Reduced S (e .1)
 
-  -- Reduced row echelon form.
+  -- Reduced row echelon form: every row's coefficients are zero at every other pivot.
   abbrev pub Rref : {n : ℕ} → State O n → Type 0
   Rref end = Unit {0}
   Rref (free S) = Rref S
@@ -108,13 +114,17 @@ module _ {O : Ops} where
   place (free S) e = place-free (zero? (e .0)) (place S (e .1)) (e .1) S
   place (pivot {n} r S) e = pivot (axpy O n (at O n (e .1) r) (e .1) r) (place S (e .1))
 
-  -- Add an equation: `none` is a contradiction.
-  unfoldable pub settle : {n : ℕ} → State O n → Row O n → Option (State O n)
-  settle {n} S e =
-      ite (zero? (lead O n e))
-      (ite (null? (symbol O n e)) (some S) none)
-      (some (place S (scale O n (inv (lead O n e)) e)))
+  -- What becomes of a reduced equation: implied where nothing is left of it, a contradiction, `none`, where only a symbol is left,
+  -- else a new row, scaled to lead with one.
+  unfoldable pub settle-by : {n : ℕ} {a : K} {v : Sym} → Dec (a ≡ 𝟘) → Dec (v ≡ null) → State O n → Row O n → Option (State O n)
+  settle-by (yes _) (yes _) S e = some S
+  settle-by (yes _) (no _) S e = none
+  settle-by {n} (no _) _ S e = some (place S (scale O n (inv (lead O n e)) e))
 
+  unfoldable pub settle : {n : ℕ} → State O n → Row O n → Option (State O n)
+  settle {n} S e = settle-by (zero? (lead O n e)) (null? (symbol O n e)) S e
+
+  -- Add an equation.
   unfoldable pub insert : {n : ℕ} → State O n → Row O n → Option (State O n)
   insert S e = settle S (reduce S e)
 
@@ -123,7 +133,7 @@ module _ {O : Ops} where
   known end i = none
   known (free S) zero = none
   known (free S) (suc i) = known S i
-  known (pivot {n} r S) zero = ite (zero? (lead O n r)) (some (symbol O n r)) none
+  known (pivot {n} r S) zero = only-if (zero? (lead O n r)) (symbol O n r)
   known (pivot r S) (suc i) = known S i
 
   -- The window moves on by one position: the oldest leaves with its row, which alone can mention it, and a free one joins.

@@ -12,7 +12,7 @@ module _ (O : Ops) where
 
   infixl 50 _⊕_
   infixr 60 _•_
-  -- The combination of `n` symbols, and the row that says what it is.
+  -- The combination of `n` symbols with the coefficients `c`, and the row that says that it is `s`.
   unfoldable pub combine : (n : ℕ) → (ℕ → K) → Filling O → Sym
   combine zero c x = null
   combine (suc n) c x = c 0 • x 0 ⊕ combine n (tail c) (tail x)
@@ -33,6 +33,7 @@ module _ (O : Ops) where
   source-rows n zero i s = []
   source-rows n (suc m) i s = row n (only i) (s i) ∷ source-rows n m (suc i) s
 
+  -- The source packet of `n` symbols from position `p` on.
   unfoldable pub source : (first n : ℕ) → (ℕ → Sym) → Packet O
   source p n s = record { first = p; count = n; rows = source-rows n n 0 s }
 
@@ -41,9 +42,11 @@ module _ (O : Ops) where
     pub coefs : ℕ → K
     pub sym : Sym
 
+  -- The repair packet over the `n` positions from `p` on.
   unfoldable pub repair : (first n : ℕ) → List Repair → Packet O
   repair p n es = record { first = p; count = n; rows = map (λ e. row n (e .coefs) (e .sym)) es }
 
+  -- Each repair symbol is its combination of the filling.
   abbrev pub Combined : (n : ℕ) → List Repair → Filling O → Type 0
   Combined n [] x = Unit {0}
   Combined n (e ∷ es) x = (combine n (e .coefs) x ≡ e .sym) × Combined n es x

@@ -5,10 +5,11 @@ use mathlib.Core.Logic.{_≢_, _↔_}
 use mathlib.Core.Option.{Option, none, some}
 use mathlib.Core.List.{List}
 use Prim.Native.Nat.{ℕ, _+_, _≤_, _<_}
-use lib.Bits.{bitAnd}
+use lib.Bits.{bitXor, bitAnd}
 use Rattle.decoder.specs.Field.{Ops}
 use Rattle.decoder.specs.Model.{Filling, Row, eval, State, Sat, Rref, insert, known}
 use Rattle.decoder.specs.Receiver.{shift, Accepted, Packet, Satisfies, Satisfies-all, Receiver, advance-by, receive, Placed, Log, opened, run}
+use Rattle.decoder.specs.Packets.{source, Repair, repair, Combined}
 use Rattle.decoder.specs.Bytes.{Byte, byte, Coded}
 
 module _ {O : Ops} where
@@ -62,17 +63,25 @@ pub record Decoder (O : Ops) : Type 1 where
   pub known-right : {n : ℕ} (S : State O n) (i : ℕ) (v : O.Sym) → known S i ≡ some v → (x : Filling O) → Sat S x → x i ≡ v
   -- Canonical form: two reduced systems with the same fillings are equal.
   pub canonical : {n : ℕ} (S T : State O n) → Rref S → Rref T → ((x : Filling O) → Sat S x ↔ Sat T x) → S ≡ T
+  -- A source packet is satisfied exactly if its positions hold its symbols, a repair packet if each repair symbol is its combination.
+  pub source-says : (p n : ℕ) (s : ℕ → O.Sym) (f : Filling O) → Satisfies O (source O p n s) f ↔ ((i : ℕ) → i < n → f (p + i) ≡ s i)
+  pub repair-says : (p n : ℕ) (es : List (Repair O)) (f : Filling O) → Satisfies O (repair O p n es) f ↔ Combined O n es (shift p f)
+  -- Two receivers with one base whose accepted packets have the same fillings, in whatever order they came, know the same.
+  pub order : {w : ℕ} (A B : List (Packet O)) (r s : Receiver O w) → Faithful A r → Faithful B s → r .base ≡ s .base
+      → ((f : Filling O) → Satisfies-all O A f ↔ Satisfies-all O B f) → (i : ℕ) → known (r .window) i ≡ known (s .window) i
   -- Demand 3, after every list of calls.
   pub demand-3 : {w : ℕ} {Call : Type 0} (locate : Call → ℕ → Option (Packet O)) → Locates w locate
       → (cs : List Call) → Demand-3 (run locate (opened O w) cs)
 
--- At the field of bytes, for symbols of any length but zero and windows of any width.
+-- All this at the field of bytes, for symbols of any length but zero and windows of any width.
 abbrev pub Byte-decoder : Type 1
 Byte-decoder = (E : ℕ) → 0 < E → Decoder (Coded E)
 
--- Scheme 9 in the field of bytes: products of the coefficients 0 and 1 are AND, the inverse of 1 is 1, and a coefficient keeps a whole symbol or drops it.
-pub record Scheme-9 : Type 0 where
-  pub product : (E : ℕ) (c d : Byte) → c .0 < 2 → d .0 < 2 → Coded E ._*_ c d ≡ byte (bitAnd (c .0) (d .0))
-  pub inverse : (E : ℕ) → Coded E .inv (byte 1) ≡ byte 1
-  pub keeps : (E : ℕ) (v : Coded E .Sym) → Coded E ._•_ (byte 1) v ≡ v
-  pub drops : (E : ℕ) (v : Coded E .Sym) → Coded E ._•_ (byte 0) v ≡ Coded E .null
+-- Scheme 9 in the field of bytes: sums of the coefficients 0 and 1 are XOR and products AND, so 0 or 1 again, the inverse of 1 is 1,
+-- and a coefficient keeps a whole symbol or drops it.
+pub record Scheme-9 (E : ℕ) : Type 0 where
+  pub sum : (c d : Byte) → c .0 < 2 → d .0 < 2 → (Coded E ._+_ c d .0 ≡ bitXor (c .0) (d .0)) × (bitXor (c .0) (d .0) < 2)
+  pub product : (c d : Byte) → c .0 < 2 → d .0 < 2 → (Coded E ._*_ c d .0 ≡ bitAnd (c .0) (d .0)) × (bitAnd (c .0) (d .0) < 2)
+  pub inverse : Coded E .inv (byte 1) ≡ byte 1
+  pub keeps : (v : Coded E .Sym) → Coded E ._•_ (byte 1) v ≡ v
+  pub drops : (v : Coded E .Sym) → Coded E ._•_ (byte 0) v ≡ Coded E .null

@@ -11,14 +11,17 @@ abbrev pub shift : {A : Type 0} → ℕ → (ℕ → A) → ℕ → A
 shift zero x = x
 shift (suc d) x = shift d (tail x)
 
+-- Go on with a value, if there is one.
 abbrev pub and-then : {A B : Type 0} → Option A → (A → Option B) → Option B
 and-then none g = none
 and-then (some a) g = g a
 
+-- There is a value.
 abbrev pub Accepted : {A : Type 0} → Option A → Type 0
 Accepted none = ⊥
 Accepted (some _) = Unit {0}
 
+-- One if there is a value now and was none before; and how many of the first `m` are such.
 unfoldable pub is-new : {A : Type 0} → Option A → Option A → ℕ
 is-new none o = 0
 is-new (some _) none = 1
@@ -37,11 +40,12 @@ module _ (O : Ops) where
     pub count : ℕ
     pub rows : List (Row O count)
 
+  -- The filling satisfies all these equations.
   abbrev pub Hold : (n : ℕ) → List (Row O n) → Filling O → Type 0
   Hold n [] x = Unit {0}
   Hold n (e ∷ es) x = (eval O n e x ≡ null) × Hold n es x
 
-  -- The filling satisfies the packet; and every packet of a list.
+  -- The filling of the whole session satisfies the packet; and every packet of a list.
   abbrev pub Satisfies : Packet → Filling O → Type 0
   Satisfies p f = Hold (p .count) (p .rows) (shift (p .first) f)
 
@@ -60,10 +64,12 @@ module _ (O : Ops) where
   abbrev pub over : (w b : ℕ) → Packet → List (Row O w)
   over w b p = map (embed w (p .first - b) (p .count)) (p .rows)
 
+  -- The receiver: the window's base, which is the oldest position that it still has, and the system over the window.
   pub record Receiver (w : ℕ) : Type 0 where
     pub base : ℕ
     pub window : State O w
 
+  -- No equations yet.
   unfoldable pub empty : (w : ℕ) → State O w
   empty zero = end
   empty (suc w) = free (empty w)
@@ -74,6 +80,7 @@ module _ (O : Ops) where
 module _ {O : Ops} where
   open Ops O using (Sym)
 
+  -- The window moves on by several positions.
   unfoldable pub advance-by : {n : ℕ} → ℕ → State O n → State O n
   advance-by zero S = S
   advance-by (suc d) S = advance-by d (advance S)
@@ -110,6 +117,7 @@ pub record Log (O : Ops) (w : ℕ) : Type 0 where
 
 -- A list of calls. A call that is refused before 11 locates no packet at the base where it arrives.
 module _ {O : Ops} {w : ℕ} where
+  -- What a packet's answer adds to the log, what a call adds, and the log after all calls.
   abbrev pub answered : Log O w → Packet O → Option (Receiver O w) → Log O w
   answered l p none = l
   answered l p (some r) = record { receiver = r; accepted = p ∷ l .accepted }
@@ -122,5 +130,6 @@ module _ {O : Ops} {w : ℕ} where
   run locate l [] = l
   run locate l (c ∷ cs) = run locate (called l (locate c (l .receiver .base))) cs
 
+-- Before the first call.
 abbrev pub opened : (O : Ops) (w : ℕ) → Log O w
 opened O w = record { receiver = fresh O w; accepted = [] }

@@ -3,10 +3,12 @@ use mathlib.Core.Path.{_≡_, refl, ap, ap₂}
 use Prim.Native.Nat.{ℕ, zero, suc}
 use Rattle.decoder.specs.Field.{Ops}
 
+-- `n` values.
 abbrev pub Tuple : Type 0 → ℕ → Type 0
 Tuple A zero = Unit {0}
 Tuple A (suc n) = A × Tuple A n
 
+-- Whether two pairs are the same.
 abbrev both? : {A B : Type 0} {a c : A} {b d : B} → Dec (a ≡ c) → Dec (b ≡ d) → Dec (_≡_ {A = A × B} (a, b) (c, d))
 both? (yes p) (yes q) = yes (ap₂ (λ x y. (x, y)) p q)
 both? (yes p) (no q) = no (λ e. q (ap (λ t. t .1) e))
@@ -15,6 +17,7 @@ both? (no p) _ = no (λ e. p (ap (λ t. t .0) e))
 module _ (O : Ops) where
   open Ops O using (K, Sym, null, _⊕_, _•_, null?)
 
+  -- The null symbol, sum, multiple and test for null, byte by byte.
   abbrev pub nulls : (n : ℕ) → Tuple Sym n
   nulls zero = tt
   nulls (suc n) = (null, nulls n)
@@ -31,6 +34,7 @@ module _ (O : Ops) where
   nulls? zero v = yes refl
   nulls? (suc n) v = both? (null? (v .0)) (nulls? n (v .1))
 
+  -- The same coefficients, with symbols of `n`.
   abbrev pub symbols : ℕ → Ops
   symbols n = record {
     K = K;

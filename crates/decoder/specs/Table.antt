@@ -9,11 +9,12 @@ use Rattle.decoder.specs.Model.{Row, State, end, free, pivot}
 module _ (O : Ops) where
   open Ops O using (K, Sym)
 
-  -- A stretch of memory: a coefficient for each position, and a symbol.
+  -- What a row of memory holds: a coefficient for each position, and a symbol.
   pub record Line : Type 0 where
     pub cells : ℕ → K
     pub sym : Sym
 
+  -- Whether each position has a row, and the row.
   pub record Table : Type 0 where
     pub has : ℕ → Bool
     pub line : ℕ → Line
@@ -21,11 +22,12 @@ module _ (O : Ops) where
 module _ {O : Ops} where
   open Ops O using (𝟘, 𝟙)
 
-  -- The row that a line holds for the `n` positions from `q` on; and the window of `n` positions from `q` on.
+  -- The row that a line holds for the `n` positions from `q` on.
   unfoldable pub read : Line O → (n q : ℕ) → Row O n
   read e zero q = e .sym
   read e (suc n) q = (e .cells q, read e n (suc q))
 
+  -- The system of the `n` positions from `q` on: a pivot where there is a row, else free.
   unfoldable pub slot : {n : ℕ} → Bool → Row O n → State O n → State O (suc n)
   slot true r S = pivot r S
   slot false r S = free S

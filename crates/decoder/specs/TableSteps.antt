@@ -1,4 +1,5 @@
--- Steps on the table by position. Contracts of inner functions cite these: a reader need not believe them.
+-- Contracts of inner functions: a reader need not believe these.
+-- Steps on the table by position: row operations, the loop that reduces, a new row, a row that leaves.
 use mathlib.Core.Path.{_≡_}
 use mathlib.Core.Logic.{_≢_}
 use mathlib.Core.Bool.{Bool, true, false}
