@@ -1,6 +1,5 @@
 -- The system that a memory holds is what its rows say: a store in the header, or in a row's other flags, leaves it.
 use mathlib.Core.Path.{_≡_, refl, sym, ap, _∙_, subst}
-use mathlib.Core.Bool.{Bool}
 use mathlib.Core.List.{List, [], _∷_}
 use Prim.Native.Nat.{ℕ, zero, suc, _+_, _*_, _%_, _≤_, _<_}
 use native.Mathlib.Nat.{mod-lt}
@@ -8,12 +7,12 @@ use native.Mathlib.Decide.{decLt}
 use native.Mathlib.Omega.{arith}
 use lib.ListN.{length, getD}
 use lib.Dec.{ltb}
-use Rattle.memory.specs.Part.{part, splice}
-use Rattle.memory.proofs.Parts.{part-past, getD-part, getD-past, row-fits}
+use Rattle.memory.specs.Part.{splice}
+use Rattle.memory.proofs.Parts.{getD-part, getD-past, row-fits}
 use Rattle.decoder.specs.Model.{State}
-use Rattle.decoder.specs.Table.{Table, Line, Echelon, view}
+use Rattle.decoder.specs.Table.{Echelon, view}
 use Rattle.elimination.specs.Bytes.{Coded}
-use Rattle.elimination.specs.Window.{stride, place, row, inUse, line, table, Window, Fits}
+use Rattle.elimination.specs.Window.{stride, place, row, flag, inUse, line, table, Flags, Window, Fits}
 use Rattle.elimination.proofs.Lines.{line-same}
 
 -- Two memories whose rows agree up to their first flag hold the same system.
@@ -32,10 +31,19 @@ module _ (w E : ℕ) (m m′ : List ℕ) (pos : 0 < w)
   table-same : table w E m ≡ table w E m′
   table-same i = record { has = λ p. used (p % w) (mod-lt p pos) i; line = λ p. lines (p % w) (mod-lt p pos) i }
 
+  flags-same : Flags w E m → Flags w E m′
+  flags-same f r h = (
+    (λ t.
+        let (u, a) = f r h .0 (cell r h (w + E) (omega arith) ∙ t) in
+        (sym (used r h) ∙ u, λ j l d. sym (cell r h j (omega arith)) ∙ a j l d)),
+    λ s. sym (cell r h (w + E) (omega arith)) ∙ f r h .1 (used r h ∙ s .0, λ j l d. cell r h j (omega arith) ∙ s .1 j l d),
+  )
+
   pub window-same : (b : ℕ) (S : State (Coded E) w) → Window w E m b S → Window w E m′ b S
   window-same b S v = record {
     echelon = subst (λ T. Echelon T b w) table-same (v .echelon);
     reads = ap (λ T. view T w b) (sym table-same) ∙ v .reads;
+    flags = flags-same (v .flags);
   }
 
 -- What is stored in the header, as the base, leaves the system as it is.

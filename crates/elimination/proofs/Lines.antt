@@ -1,25 +1,24 @@
 -- Bytes of a row as a line of the model's table: sums, multiples, zeros.
 use mathlib.Core.Path.{_≡_, refl, sym, ap, ap₂, _∙_}
 use mathlib.Core.Logic.{_≢_}
-use mathlib.Core.List.{List, [], _∷_}
+use mathlib.Core.List.{List}
 use Prim.Native.Nat.{ℕ, zero, suc, _+_, _%_, _≤_, _<_}
 use native.Mathlib.Nat.{mod-lt, mod-eq-of-lt}
-use native.Mathlib.Decide.{decLt, ℕ-discrete}
+use native.Mathlib.Decide.{ℕ-discrete}
 use native.Mathlib.Omega.{arith}
-use lib.ListN.{length, getD, take, drop}
+use lib.ListN.{getD}
 use lib.Bits.{bitXor}
 use Rattle.field.specs.Gf256.{product, inverse}
 use Rattle.field.proofs.Laws.{product-lt}
 use Rattle.memory.specs.Number.{Bytes}
-use Rattle.decoder.specs.Field.{Ops}
-use Rattle.decoder.specs.Symbols.{Tuple, nulls, times}
-use Rattle.decoder.specs.Bytes.{Byte, byte, byte-path, null-byte, bytes}
+use Rattle.decoder.specs.Symbols.{nulls, times}
+use Rattle.decoder.specs.Bytes.{byte, byte-path, null-byte, bytes}
 use Rattle.decoder.specs.Bytes as gf-bytes
-use Rattle.decoder.specs.Table.{Line, add-line, scale-line}
+use Rattle.decoder.specs.Table.{add-line, scale-line}
 use Rattle.decoder.specs.Stretch.{symbol-at}
 use Rattle.decoder.specs.Stretch as stretch
 use Rattle.decoder.specs.Memory as flat
-use Rattle.elimination.specs.Bytes.{gf, Coded}
+use Rattle.elimination.specs.Bytes.{gf}
 use Rattle.elimination.specs.Window.{line}
 
 -- A byte is zero as an element of the field just where it is zero.

@@ -2,73 +2,64 @@
 use mathlib.Core.Path.{_≡_, refl, sym, ap, _∙_, subst}
 use mathlib.Core.Logic.{_≢_}
 use mathlib.Core.Bool.{Bool, true, false, true≢false}
-use mathlib.Core.List.{List, [], _∷_, _++_}
-use Prim.Native.Nat.{ℕ, zero, suc, _+_, _*_, _-_, _%_, _≤_, _<_}
+use mathlib.Core.List.{List}
+use Prim.Native.Nat.{ℕ, zero, suc, _+_, _-_, _%_, _≤_, _<_}
 use native.Mathlib.Nat.{mod-lt, mod-eq-of-lt, mod-add-mod, add-mod-mod, add-mod-right, add-zero}
 use native.Mathlib.Decide.{ℕ-discrete}
 use native.Mathlib.Numerals.{add-one}
 use native.Mathlib.Omega.{arith}
-use lib.ListN.{length, getD}
-use lib.Dec.{ltb}
-use Rattle.memory.specs.Part.{part, splice}
-use Rattle.memory.proofs.Parts.{length-part, getD-past, part-within, getD-part, row-fits}
+use lib.ListN.{getD}
 use Rattle.decoder.specs.Field.{Ops}
 use Rattle.decoder.specs.Bytes.{byte}
 use Rattle.decoder.specs.Model.{Row, State, end, free, pivot, advance}
 use Rattle.decoder.specs.Receiver.{advance-by, empty}
-use Rattle.decoder.specs.Table.{Table, Moves, Echelon, view, read, slot}
+use Rattle.decoder.specs.Table.{Table, Moves, view, read, slot}
 use Rattle.decoder.specs.Stretch.{remainders}
 use Rattle.decoder.specs.Refine.{view-advance}
 use Rattle.decoder.specs.Steps.{moves-echelon}
 use Rattle.decoder.specs.Jump.{advance-by-suc, advance-by-empty}
 use Rattle.elimination.specs.Bytes.{Coded, laws}
-use Rattle.elimination.specs.Window.{stride, place, row, inUse, line, table, unmarked, Window, Fits, Kept}
-use Rattle.elimination.specs.Steps.{Moved}
-use Rattle.elimination.proofs.Rows.{row-store, row-other, kept-store, kept-refl, kept-trans}
+use Rattle.elimination.specs.Window.{row, flag, inUse, line, table, flagged, Window, Fits, Kept}
+use Rattle.elimination.specs.Place.{Emptied, Moved}
+use Rattle.elimination.proofs.Rows.{kept-refl, kept-trans, fits-kept}
+use Rattle.elimination.proofs.Flags.{unused, unused-flag, flagged-unused, flagged-flag, flagged-rest, flagged-kept, flags-changed}
 
 -- Another position of the window has another row.
 pub other : (w b p q : ℕ) → b ≤ p → p < b + w → b ≤ q → q < b + w → q ≢ p → q % w ≢ p % w
 other w b p q c l d k n e = n (remainders w b q p d k c l e)
 
--- The byte that was stored.
-pub stored-at : (l : List ℕ) (i v : ℕ) → i < length l → getD (splice i (v ∷ []) l) i 0 ≡ v
-unfolding splice
-stored-at [] i v h = absurd (omega arith)
-stored-at (x ∷ l) zero v h = refl
-stored-at (x ∷ l) (suc i) v h = stored-at l i v (omega arith)
-
 module _ (w E : ℕ) (m : List ℕ) (fits : Fits w E m) where
-  pub length-row : (r : ℕ) → r < w → length (row w E r m) ≡ stride w E
-  length-row r h = length-part (place w E r) (stride w E) m (omega (arith, fits .room, row-fits w (stride w E) r h))
-
-  unmark-kept : (b q : ℕ) → b < q → q < b + w → row w E (q % w) (unmarked w E (b % w) m) ≡ row w E (q % w) m
-  unmark-kept b q c l =
-      row-other w E (b % w) (w + E) (0 ∷ []) m (fits .room) (mod-lt b (fits .some-width)) (omega arith)
+  free-kept : (b q : ℕ) → b < q → q < b + w → row w E (q % w) (flagged w E (b % w) 0 m) ≡ row w E (q % w) m
+  free-kept b q c l =
+      flagged-rest w E (b % w) 0 m fits (mod-lt b (fits .some-width))
       (q % w) (mod-lt q (fits .some-width)) (other w b b q (omega arith) (omega arith) (omega arith) l (omega arith))
 
-  unmark-moves : (b : ℕ) → Moves (table w E m) (table w E (unmarked w E (b % w) m)) b w
-  unmark-moves b =
+  free-moves : (b : ℕ) → Moves (table w E m) (table w E (flagged w E (b % w) 0 m)) b w
+  free-moves b =
       let r = b % w in
-      let h : r < w = mod-lt b (fits .some-width) in
       let same : (b + w) % w ≡ r = add-mod-right b w in
       record {
         has-last =
-            ap (λ x. inUse w E (row w E x (unmarked w E r m))) same
-            ∙ ap (inUse w E) (row-store w E r (w + E) (0 ∷ []) m (fits .room) h (omega arith))
-            ∙ ap (ltb 0) (stored-at (row w E r m) (w + E) 0 (omega (arith, length-row r h)));
-        has-kept = λ q c l. ap (inUse w E) (unmark-kept b q c l);
-        line-kept = λ q c l _. ap (line w E) (unmark-kept b q c l);
+            ap (λ x. inUse w E (row w E x (flagged w E r 0 m))) same
+            ∙ unused w E (row w E r (flagged w E r 0 m)) (flagged-flag w E r 0 m fits (mod-lt b (fits .some-width)));
+        has-kept = λ q c l. ap (inUse w E) (free-kept b q c l);
+        line-kept = λ q c l _. ap (line w E) (free-kept b q c l);
         wraps = λ q. ap (λ x. byte (getD (row w E (q % w) m) x 0)) same;
       }
 
-  window-unmark : (b : ℕ) (S : State (Coded E) w) → Window w E m b S → Window w E (unmarked w E (b % w) m) (suc b) (advance S)
-  window-unmark b S h =
+  window-free-one : (b : ℕ) (S : State (Coded E) w) → Window w E m b S → Window w E (flagged w E (b % w) 0 m) (suc b) (advance S)
+  window-free-one b S h =
       let L = laws E (omega (arith, fits .some-symbol)) in
+      let r = b % w in
+      let l : r < w = mod-lt b (fits .some-width) in
       let T = table w E m in
-      let T′ = table w E (unmarked w E (b % w) m) in
+      let T′ = table w E (flagged w E r 0 m) in
       record {
-        echelon = moves-echelon L T T′ b w (h .echelon) (unmark-moves b);
-        reads = view-advance L T T′ b w (h .echelon) (unmark-moves b) ∙ ap advance (h .reads);
+        echelon = moves-echelon L T T′ b w (h .echelon) (free-moves b);
+        reads = view-advance L T T′ b w (h .echelon) (free-moves b) ∙ ap advance (h .reads);
+        flags =
+            flags-changed w E r m (flagged w E r 0 m) (flagged-rest w E r 0 m fits l) (h .flags)
+            (flagged-unused w E r (row w E r (flagged w E r 0 m)) (flagged-flag w E r 0 m fits l));
       }
 
 pub moved-to : {w E base i k : ℕ} {m m′ : List ℕ} → i ≡ k → Moved w E base i m m′ → Moved w E base k m m′
@@ -80,18 +71,18 @@ unfolding advance-by
 moved-none w E base m = record { kept = kept-refl; moves = λ b S e h. rw add-zero h }
 
 pub moved-more : (w E base i : ℕ) (m m′ : List ℕ) → Fits w E m′ → Moved w E base i m m′
-    → Moved w E base (i + 1) m (unmarked w E ((base + i) % w) m′)
+    → Moved w E base (i + 1) m (flagged w E ((base + i) % w) 0 m′)
 moved-more w E base i m m′ fits f =
     let pos = fits .some-width in record {
-      kept = kept-trans (f .kept) (kept-store w E ((base + i) % w) (w + E) (0 ∷ []) m′ (fits .room) (mod-lt (base + i) pos) (omega arith));
+      kept = kept-trans (f .kept) (flagged-kept w E ((base + i) % w) 0 m′ fits (mod-lt (base + i) pos));
       moves = λ b S e h.
-          let turn = window-unmark w E m′ fits (b + i) (advance-by i S) (f .moves b S e h) in
+          let turn = window-free-one w E m′ fits (b + i) (advance-by i S) (f .moves b S e h) in
           let same : (b + i) % w ≡ (base + i) % w = sym (mod-add-mod b w i) ∙ ap (λ k. (k + i) % w) e in
           let next : suc (b + i) ≡ b + (i + 1) = omega arith in
           let done : advance (advance-by i S) ≡ advance-by (i + 1) S = sym (advance-by-suc i S) ∙ ap (λ k. advance-by k S) (sym (add-one i)) in
-          subst (λ k. Window w E (unmarked w E k m′) (b + (i + 1)) (advance-by (i + 1) S)) same
-          (subst (λ k. Window w E (unmarked w E ((b + i) % w) m′) k (advance-by (i + 1) S)) next
-          (subst (λ S′. Window w E (unmarked w E ((b + i) % w) m′) (suc (b + i)) S′) done turn));
+          subst (λ k. Window w E (flagged w E k 0 m′) (b + (i + 1)) (advance-by (i + 1) S)) same
+          (subst (λ k. Window w E (flagged w E ((b + i) % w) 0 m′) k (advance-by (i + 1) S)) next
+          (subst (λ S′. Window w E (flagged w E ((b + i) % w) 0 m′) (suc (b + i)) S′) done turn));
     }
 
 -- Each row has its position in the window.
@@ -137,15 +128,16 @@ module _ {O : Ops} where
   view-empty T (suc n) q h = ap (λ t. slot t (read (T .line q) n (suc q)) (view T n (suc q))) (h q) ∙ ap free (view-empty T n (suc q) h)
 
 -- A memory without rows holds the empty system, for a window from anywhere on.
-pub window-free : (w E b : ℕ) (m : List ℕ) → 0 < w → ((r : ℕ) → r < w → inUse w E (row w E r m) ≡ false) → Window w E m b (empty (Coded E) w)
+pub window-free : (w E b : ℕ) (m : List ℕ) → 0 < w → ((r : ℕ) → r < w → flag w E (row w E r m) ≡ 0) → Window w E m b (empty (Coded E) w)
 window-free w E b m pos h =
-    let none : (p : ℕ) → table w E m .has p ≡ false = (λ p. h (p % w) (mod-lt p pos)) in
+    let none : (p : ℕ) → table w E m .has p ≡ false = (λ p. unused w E (row w E (p % w) m) (h (p % w) (mod-lt p pos))) in
     record {
       echelon = record {
         one-at = λ q _ _ t. absurd (true≢false (sym t ∙ none q));
         zero-before = λ q _ _ t j _ _. absurd (true≢false (sym t ∙ none q));
       };
       reads = view-empty (table w E m) w b none;
+      flags = λ r l. flagged-unused w E r (row w E r m) (h r l);
     }
 
 window-anywhere : (w E b c : ℕ) (m : List ℕ) → 0 < w → Window w E m b (empty (Coded E) w) → Window w E m c (empty (Coded E) w)
@@ -153,7 +145,7 @@ window-anywhere w E b c m pos h =
     window-free w E c m pos
     (λ r l.
     let (q, g, k, e) = position w b r l in
-    ap (λ x. inUse w E (row w E x m)) (sym e) ∙ empty-view (table w E m) w b q (h .reads) g k)
+    unused-flag w E (row w E r m) (ap (λ x. inUse w E (row w E x m)) (sym e) ∙ empty-view (table w E m) w b q (h .reads) g k))
 
 pub moved-past : (w E base rise : ℕ) (m m′ : List ℕ) → 0 < w → w ≤ rise → Moved w E base w m m′ → Moved w E base rise m m′
 moved-past w E base rise m m′ pos g f = record {
@@ -163,3 +155,27 @@ moved-past w E base rise m m′ pos g f = record {
       (window-anywhere w E (b + w) (b + rise) m′ pos
       (subst (λ S′. Window w E m′ (b + w) S′) (advance-by-empty w S (omega arith)) (f .moves b S e h)));
 }
+
+-- The rows before `i` are not in use.
+pub record Emptying (w E i : ℕ) (m m′ : List ℕ) : Type 0 where
+  pub kept : Kept w E m m′
+  pub free : (q : ℕ) → q < i → flag w E (row w E q m′) ≡ 0
+
+pub emptying-none : (w E : ℕ) (m : List ℕ) → Emptying w E 0 m m
+emptying-none w E m = record { kept = kept-refl; free = λ q h. absurd (omega arith) }
+
+pub emptying-more : (w E i : ℕ) (m m′ : List ℕ) → Fits w E m → i < w → Emptying w E i m m′ → Emptying w E (i + 1) m (flagged w E i 0 m′)
+emptying-more w E i m m′ fits h f = record {
+  kept = kept-trans (f .kept) (flagged-kept w E i 0 m′ room h);
+  free = λ q l. go q l (ℕ-discrete q i);
+}
+  where
+    room : Fits w E m′
+    room = fits-kept fits (f .kept)
+
+    go : (q : ℕ) → q < i + 1 → Dec (q ≡ i) → flag w E (row w E q (flagged w E i 0 m′)) ≡ 0
+    go q l (yes e) = ap (λ x. flag w E (row w E x (flagged w E i 0 m′))) e ∙ flagged-flag w E i 0 m′ room h
+    go q l (no e) = ap (flag w E) (flagged-rest w E i 0 m′ room h q (omega arith) e) ∙ f .free q (omega arith)
+
+pub emptied : (w E i : ℕ) (m m′ : List ℕ) → 0 < w → i ≡ w → Emptying w E i m m′ → Emptied w E m m′
+emptied w E i m m′ pos e f = record { kept = f .kept; free = λ b. window-free w E b m′ pos (λ r l. f .free r (omega arith)) }

@@ -1,19 +1,23 @@
 -- Rows in memory: a store in one row, and what the others and the rest of the memory are after it.
 use mathlib.Core.Path.{_≡_, refl, sym, ap, _∙_}
 use mathlib.Core.Logic.{_≢_}
-use mathlib.Core.List.{List, [], _∷_, _++_}
+use mathlib.Core.List.{List, [], _∷_}
 use Prim.Native.Nat.{ℕ, zero, suc, _+_, _*_, _≤_, _<_}
-use native.Mathlib.Nat.{mul-le-mul-right, add-zero, not-suc-le-zero, le-of-suc-le-suc}
+use native.Mathlib.Nat.{mul-le-mul-right, not-suc-le-zero, le-of-suc-le-suc}
 use native.Mathlib.Decide.{decLt, ℕ-discrete}
 use native.Mathlib.Omega.{arith}
-use lib.ListN.{length, getD, set, take, drop}
+use lib.ListN.{length, getD, set, take}
 use Rattle.memory.specs.Part.{part, splice}
 use Rattle.memory.proofs.Parts.{length-part, length-splice, take-splice, past-splice, part-before, part-past, part-splice, splice-within, getD-part, getD-past, row-fits}
 use Rattle.elimination.specs.Window.{stride, place, row, Fits, Kept}
 
--- All rows take less than half a million bytes.
-pub rows-small : (w E : ℕ) → w ≤ 255 → E ≤ 1500 → w * stride w E ≤ 448545
-rows-small w E h k = omega (arith, mul-le-mul-right (stride w E) h)
+-- No row begins later than the last of the widest window and the longest symbols.
+pub small-row : (w E r : ℕ) → r ≤ w → (w ≤ 255) × (E ≤ 1500) → place w E r ≤ place 255 1500 255
+small-row w E r h k = let l : r ≤ 255 = omega arith in omega (arith, mul-le-mul-right (stride w E) l)
+
+-- A row ends within the rows.
+pub row-end : (w E r : ℕ) → r < w → place w E r + stride w E ≤ place w E w
+row-end w E r h = omega (arith, row-fits w (stride w E) r h)
 
 -- One byte stored.
 pub set-splice : (l : List ℕ) (i v : ℕ) → i < length l → set l i v ≡ splice i (v ∷ []) l

@@ -1,47 +1,46 @@
--- A position is known just where its row is in use and has no other coefficient.
-use mathlib.Core.Path.{_≡_, refl, sym, ap, ap₂, _∙_, subst}
+-- A position is known just where its row's first flag is 2; and how many are known.
+use mathlib.Core.Path.{_≡_, refl, sym, ap, _∙_}
 use mathlib.Core.Logic.{_≢_}
 use mathlib.Core.Bool.{Bool, true, false}
 use mathlib.Core.List.{List}
-use mathlib.Core.Option.{Option, none, some}
-use Prim.Native.Nat.{ℕ, suc, _+_, _*_, _-_, _%_, _≤_, _<_}
-use native.Mathlib.Nat.{mod-lt, mod-add-mod}
-use native.Mathlib.Numerals.{add-one}
+use mathlib.Core.Option.{Option, none, some, Option·some-ne-none}
+use Prim.Native.Nat.{ℕ, suc, _+_, _-_, _%_, _≤_, _<_}
+use native.Mathlib.Nat.{mod-lt}
 use native.Mathlib.Decide.{ℕ-discrete, decLt}
 use native.Mathlib.Omega.{arith}
-use lib.ListN.{length, getD, take, drop}
+use borrow.Author.Tests.{eqb-true, eqb-false}
+use lib.ListN.{getD}
+use lib.Dec.{eqb}
 use Rattle.memory.specs.Part.{part}
 use Rattle.memory.specs.Number.{Bytes}
-use Rattle.memory.proofs.Parts.{getD-part, part-part}
+use Rattle.memory.proofs.Parts.{part-part}
+use Rattle.memory.proofs.Number.{bytes-part}
 use Rattle.decoder.specs.Bytes.{byte}
 use Rattle.decoder.specs.Stretch.{bytes-of, bytes-of-symbol}
 use Rattle.decoder.specs.Model.{State, known}
-use Rattle.decoder.specs.Receiver.{is-new, count-new}
-use Rattle.decoder.specs.Counting.{count-all, count-more}
-use Rattle.decoder.specs.Table.{Table, Echelon, view}
+use Rattle.decoder.specs.Receiver.{is-new}
+use Rattle.decoder.specs.Counting.{count-all}
+use Rattle.decoder.proofs.Gaining.{total-rows}
+use Rattle.decoder.specs.Table.{view}
 use Rattle.decoder.specs.Steps.{known-row, known-open, known-free}
 use Rattle.elimination.specs.Bytes.{Coded, laws}
-use Rattle.elimination.specs.Window.{stride, place, row, inUse, line, table, Window, Fits}
-use Rattle.elimination.specs.Steps.{Zeros, Known, Counted, CountedRow}
+use Rattle.elimination.specs.Window.{stride, place, row, flag, inUse, line, table, Window, Fits}
+use Rattle.elimination.specs.Place.{Known}
+use Rattle.elimination.specs.RowSteps.{one-if-known, known-flag, known-flags}
 use Rattle.elimination.proofs.Lines.{byte-zero, byte-nonzero}
-use Rattle.elimination.proofs.Moving.{other, position, length-row}
-use Rattle.elimination.proofs.Sweeping.{bytes-part, flag-free, flag-used}
+use Rattle.elimination.proofs.Flags.{length-row, unused, used, not-known}
+use Rattle.elimination.proofs.Moving.{other, position}
 
--- What is counted for a position.
-abbrev pub if-known : Bool → ℕ
-if-known true = 1
-if-known false = 0
+else-zero : (a : ℕ) → (a ≢ 0 → ⊥) → a ≡ 0
+else-zero a h = go (ℕ-discrete a 0)
+  where
+    go : Dec (a ≡ 0) → a ≡ 0
+    go (yes z) = z
+    go (no z) = absurd (h z)
 
--- The code reads the row from `at` on.
-module _ (w E r : ℕ) (m : List ℕ) (fits : Fits w E m) (h : r < w) (at : ℕ) (here : at ≡ place w E r) where
-  cell : (j : ℕ) → j < w → getD (row w E r m) j 0 ≡ getD m (at + j) 0
-  cell j l = getD-part (place w E r) (stride w E) j m (omega arith) ∙ ap (λ a. getD m (a + j) 0) (sym here)
-
+module _ (w E r : ℕ) (m : List ℕ) (fits : Fits w E m) (h : r < w) (f : Bytes m) where
   positive : 0 < E
   positive = omega (arith, fits .some-symbol)
-
-  flag : {n : ℕ} → getD m (at + (w + E)) 0 ≡ n → getD m (place w E r + (w + E)) 0 ≡ n
-  flag e = ap (λ a. getD m (a + (w + E)) 0) (sym here) ∙ e
 
   module _ (b i : ℕ) (S : State (Coded E) w) (l : i < w) (e : (b + i) % w ≡ r) (v : Window w E m b S) where
     held : {o : Option (Coded E .Sym)} → known (view (table w E m) w b) i ≡ o → known S i ≡ o
@@ -68,8 +67,8 @@ module _ (w E r : ℕ) (m : List ℕ) (fits : Fits w E m) (h : r < w) (at : ℕ)
         ∙ ap (λ q. some (line w E (row w E q m) .sym)) e
 
     -- A coefficient elsewhere in the window stands after the pivot.
-    open-at : Bytes m → inUse w E (row w E r m) ≡ true → (j : ℕ) → j < w → j ≢ r → getD (row w E r m) j 0 ≢ 0 → known S i ≡ none
-    open-at f x j c d z =
+    open-at : inUse w E (row w E r m) ≡ true → (j : ℕ) → j < w → j ≢ r → getD (row w E r m) j 0 ≢ 0 → known S i ≡ none
+    open-at x j c d z =
         let (p, g, k, y) = position w b j c in
         let cells : table w E m .line (b + i) .cells p ≡ byte (getD (row w E r m) j 0) =
         ap (λ q. byte (getD (row w E q m) (p % w) 0)) e ∙ ap (λ q. byte (getD (row w E r m) q 0)) y in
@@ -82,27 +81,20 @@ module _ (w E r : ℕ) (m : List ℕ) (fits : Fits w E m) (h : r < w) (at : ℕ)
         after p g k y d full (yes u) = absurd (full (v .echelon .zero-before (b + i) (omega arith) (omega arith) (marked x) p g u))
         after p g k y d full (no u) = let n : p ≢ b + i = (λ q. d (sym y ∙ ap (λ k. k % w) q ∙ e)) in omega arith
 
-  pub known-unused : getD m (at + (w + E)) 0 ≡ 0 → Known w E r false m
-  known-unused z b i S l e v = shut b i S l e v (flag-free w E r m m (flag z))
-
-  module _ (f : Bytes m) (u : getD m (at + (w + E)) 0 ≢ 0) where
-    used : inUse w E (row w E r m) ≡ true
-    used = flag-used w E r m m (λ z. u (ap (λ a. getD m (a + (w + E)) 0) here ∙ z))
-
-    pub known-before : Zeros at (at + r) false m → Known w E r false m
-    known-before (j, g, k, z) b i S l e v =
-        let x : at + (j - at) ≡ j = omega arith in
-        open-at b i S l e v f used (j - at) (omega arith) (omega arith) (λ y. z (ap (λ q. getD m q 0) (sym x) ∙ sym (cell (j - at) (omega arith)) ∙ y))
-
-    pub known-after : (t : Bool) → Zeros at (at + r) true m → Zeros (at + (r + 1)) (at + w) t m → Known w E r t m
-    known-after false _ (j, g, k, z) =
-        let x : at + (j - at) ≡ j = omega arith in
-        λ b i S l e v. open-at b i S l e v f used (j - at) (omega arith) (omega arith) (λ y. z (ap (λ q. getD m q 0) (sym x) ∙ sym (cell (j - at) (omega arith)) ∙ y))
-    known-after true p q = λ b i S l e v. whole b i S l e v used (λ j c d. cell j c ∙ go j c d (decLt j r))
+    -- A row in use that is flagged otherwise has another coefficient.
+    not-two : flag w E (row w E r m) ≢ 2 → known S i ≡ none
+    not-two n = go (ℕ-discrete (flag w E (row w E r m)) 0) (known S i) refl
       where
-        go : (j : ℕ) → j < w → j ≢ r → Dec (j < r) → getD m (at + j) 0 ≡ 0
-        go j c d (yes k) = p (at + j) (omega arith) (omega arith)
-        go j c d (no k) = q (at + j) (omega arith) (omega arith)
+        go : Dec (flag w E (row w E r m) ≡ 0) → (o : Option (Coded E .Sym)) → known S i ≡ o → known S i ≡ none
+        go (yes z) o e = shut (unused w E (row w E r m) z)
+        go (no z) none e = e
+        go (no z) (some s) k =
+            let u = used w E (row w E r m) z in
+            absurd (n (v .flags r h .1 (u, λ j c d. else-zero (getD (row w E r m) j 0) (λ y. Option·some-ne-none s (sym k ∙ open-at u j c d y)))))
+
+  pub flag-known : (t : Bool) → eqb (flag w E (row w E r m)) 2 ≡ t → Known w E r t m
+  flag-known true e = λ b i S l p v. let s = v .flags r h .0 (eqb-true (flag w E (row w E r m)) 2 e) in whole b i S l p v (s .0) (s .1)
+  flag-known false e = λ b i S l p v. not-two b i S l p v (eqb-false (flag w E (row w E r m)) 2 e)
 
 -- The bytes of a row's symbol, where they lie.
 pub symbol-bytes : (w E r : ℕ) (m : List ℕ) → Fits w E m → r < w → Bytes m → bytes-of E (line w E (row w E r m) .sym) ≡ part (place w E r + w) E m
@@ -113,22 +105,20 @@ symbol-bytes w E r m fits h f =
 
 -- ---- counting
 
-pub counted-row : (w E r : ℕ) (m : List ℕ) (t : Bool) → Known w E r t m → CountedRow w E r (if-known t) m
+-- What a flag adds to the count, as the model counts.
+one-known : (w E r : ℕ) (m : List ℕ) → Fits w E m → r < w → Bytes m → (b i : ℕ) (S : State (Coded E) w) → i < w → (b + i) % w ≡ r → Window w E m b S
+    → is-new (known S i) none ≡ one-if-known (flag w E (row w E r m))
 unfolding is-new
-counted-row w E r m true k = record { most = omega arith; count = λ b i S l e v. ap (λ o. is-new o none) (sym (k b i S l e v)) }
-counted-row w E r m false k = record { most = omega arith; count = λ b i S l e v. ap (λ o. is-new o none) (sym (k b i S l e v)) }
+one-known w E r m fits h f b i S l p v = go (ℕ-discrete (flag w E (row w E r m)) 2)
+  where
+    go : Dec (flag w E (row w E r m) ≡ 2) → is-new (known S i) none ≡ one-if-known (flag w E (row w E r m))
+    go (yes e) =
+        let s = v .flags r h .0 e in
+        ap (λ o. is-new o none) (whole w E r m fits h f b i S l p v (s .0) (s .1)) ∙ ap one-if-known (sym e)
+    go (no e) = ap (λ o. is-new o none) (not-two w E r m fits h f b i S l p v e) ∙ sym (not-known (flag w E (row w E r m)) e)
 
-pub counted-none : (w E base : ℕ) (m : List ℕ) → Counted w E base 0 0 m
-unfolding count-new
-counted-none w E base m = record { most = omega arith; count = λ b S e v. refl }
-
-pub counted-more : (w E base i n k : ℕ) (m : List ℕ) → i < w → Counted w E base i n m → CountedRow w E ((base + i) % w) k m → Counted w E base (i + 1) (n + k) m
-counted-more w E base i n k m h f g = record {
-  most = omega (arith, f .most, g .most);
-  count = λ b S e v.
-      let here : (b + i) % w ≡ (base + i) % w = sym (mod-add-mod b w i) ∙ ap (λ k. (k + i) % w) e in
-      ap₂ _+_ (f .count b S e v) (g .count b i S h here v) ∙ sym (count-more i (known S) (λ _. none)) ∙ ap (λ j. count-all j (known S)) (sym (add-one i));
-}
-
-pub counted-all : {w E base i k n : ℕ} {m : List ℕ} → i ≡ k → Counted w E base i n m → Counted w E base k n m
-counted-all {w} {E} {base} {i} {k} {n} {m} e f = subst (λ x. Counted w E base x n m) e f
+-- As many flags are 2 as there are positions known.
+pub count-known : (w E b : ℕ) (m : List ℕ) (S : State (Coded E) w) → Fits w E m → Bytes m → Window w E m b S → known-flags w E m ≡ count-all w (known S)
+count-known w E b m S fits f v =
+    total-rows (known-flag w E m) w b (known S) (λ _. none)
+    (λ i l. sym (one-known w E ((b + i) % w) m fits (mod-lt (b + i) (fits .some-width)) f b i S l refl v))

@@ -1,57 +1,41 @@
--- A packet's equations: they are gathered in working memory, laid out like the receiver's, beside the system that the receiver holds,
--- which stays as it is until all are known to agree with it. Then they join it.
+-- A packet's equations in working memory: 64 bytes, then `w + 1` rows laid out as the state's, in order of arrival. Row `k` holds the `k`th
+-- equation that was kept, and its first flag the column of its pivot. The state stays as it is until all are known to agree with it.
 use mathlib.Core.Path.{_≡_}
-use mathlib.Core.List.{List, [], _∷_, _++_}
-use mathlib.Core.Option.{Option, none, some}
-use Prim.Native.Nat.{ℕ, _+_, _%_}
-use Rattle.decoder.specs.Model.{Row, State, Rref}
-use Rattle.decoder.specs.Receiver.{empty, advance-by, insert-all, newly}
-use Rattle.decoder.specs.Together.{Gathered}
+use mathlib.Core.List.{List}
+use mathlib.Core.Option.{some}
+use Prim.Native.Nat.{ℕ, _+_, _%_, _≤_, _<_}
+use lib.ListN.{length, getD}
+use Rattle.decoder.specs.Model.{Row, State}
+use Rattle.decoder.specs.Receiver.{insert-all}
+use Rattle.decoder.specs.Chain.{Chain, place-rows}
+use Rattle.decoder.specs.Table.{Leads}
 use Rattle.elimination.specs.Bytes.{Coded}
-use Rattle.elimination.specs.declared.Inserted.{Inserted}
-use Rattle.elimination.specs.declared.Inserted.the-variants.{Placed, Implied, Contradiction}
-use Rattle.elimination.specs.Laying.{Laid}
-use Rattle.elimination.specs.Window.{equation, Window, Kept}
+use Rattle.elimination.specs.Window.{place, row, line, equation}
 
--- The memory holds a system without rows, for a window from anywhere on.
-pub record Emptied (w E : ℕ) (m m′ : List ℕ) : Type 0 where
-  pub kept : Kept w E m m′
-  pub free : (b : ℕ) → Window w E m′ b (empty (Coded E) w)
+-- Sizes for which working memory has room. Each of its first `kept` rows has a column of the window in its flag.
+pub record Works (w E kept : ℕ) (work : List ℕ) : Type 0 where
+  pub some-width : 0 < w
+  pub wide : w ≤ 255
+  pub some-symbol : 4 ≤ E
+  pub long : E ≤ 1500
+  pub room : place w E (w + 1) ≤ length work
+  pub within : kept ≤ w
+  pub columns : (k : ℕ) → k < kept → getD (row w E k work) (w + E) 0 < w
 
--- The working memory holds a system gathered from the equations `es` beside the system `S`, for the window from `b` on.
-pub record Beside (w E b : ℕ) (S : State (Coded E) w) (work : List ℕ) (es : List (Row (Coded E) w)) : Type 0 where
-  pub system : State (Coded E) w
-  pub window : Window w E work b system
-  pub gathered : Gathered S system es
+-- The equation that each row of working memory spells over the window from `b` on.
+abbrev pub spelled : (w E b : ℕ) → List ℕ → ℕ → Row (Coded E) w
+spelled w E b work k = equation w E b (row w E k work)
 
--- All of `es` agree with `S`, and are gathered; or they contradict it.
-abbrev pub Verdict : (w E b : ℕ) (S : State (Coded E) w) (work : List ℕ) (es : List (Row (Coded E) w)) → Inserted → Type 0
-Verdict w E b S work es Placed = Beside w E b S work es
-Verdict w E b S work es Implied = Beside w E b S work es
-Verdict w E b S work es Contradiction = insert-all es S ≡ none
+-- A row's oldest coefficient stands at a position of the window from `b` on, whose column is in the row's flag.
+pub record PivotMarked (w E b : ℕ) (l : List ℕ) : Type 0 where
+  pub position : ℕ
+  pub from : b ≤ position
+  pub before : position < b + w
+  pub leads : Leads (line w E l) b position
+  pub column : getD l (w + E) 0 ≡ position % w
 
--- The equation of the working row `l` has been considered, for a window that is to move on by `rise`.
-pub record Considered (w E base rise : ℕ) (answer : Inserted) (l m work work′ : List ℕ) : Type 0 where
-  pub kept : Kept w E work work′
-  pub verdict : (b : ℕ) (S : State (Coded E) w) (es : List (Row (Coded E) w)) → b % w ≡ base → Window w E m b S → Rref S
-      → Beside w E (b + rise) (advance-by rise S) work es
-      → Verdict w E (b + rise) (advance-by rise S) work′ (es ++ (equation w E (b + rise) l ∷ [])) answer
-
--- The gathered equations have joined the system.
-pub record JoinedAll (w E base : ℕ) (work m m′ : List ℕ) : Type 0 where
-  pub kept : Kept w E m m′
-  pub outcome : (b : ℕ) (S : State (Coded E) w) (es : List (Row (Coded E) w)) → b % w ≡ base → Window w E m b S → Rref S → Beside w E b S work es
-      → (S′ : State (Coded E) w) × (insert-all es S ≡ some S′) × Window w E m′ b S′
-
--- The window has moved on by `rise`, the gathered equations have joined the system, and `count` positions have become known.
-pub record Committed (w E base rise count : ℕ) (work m m′ : List ℕ) : Type 0 where
-  pub kept : Kept w E m m′
-  pub outcome : (b : ℕ) (S : State (Coded E) w) (es : List (Row (Coded E) w)) → b % w ≡ base → Window w E m b S → Rref S
-      → Beside w E (b + rise) (advance-by rise S) work es
-      → (S′ : State (Coded E) w) × (insert-all es (advance-by rise S) ≡ some S′) × Window w E m′ (b + rise) S′
-      × (count ≡ newly (record { base = b; window = S }) (record { base = b + rise; window = S′ }))
-
--- The equation with the coefficients `cs`, of positions from the one in column `first` on, and this symbol has been considered.
-abbrev pub Admitted : (w E base rise first : ℕ) → Inserted → (cs symbol m work work′ : List ℕ) → Type 0
-Admitted w E base rise first answer cs symbol m work work′ =
-    (l : List ℕ) × Laid w E first cs symbol l × Considered w E base rise answer l m work work′
+-- The first `kept` rows are what the system `S` makes of the equations `es`: placed one after the other, they give what `es` give.
+pub record Gathered (w E b : ℕ) (S : State (Coded E) w) (work : List ℕ) (kept : ℕ) (es : List (Row (Coded E) w)) : Type 0 where
+  pub chain : Chain S (spelled w E b work) kept
+  pub marked : (k : ℕ) → k < kept → PivotMarked w E b (row w E k work)
+  pub inserted : insert-all es S ≡ some (place-rows (spelled w E b work) kept S)

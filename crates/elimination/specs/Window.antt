@@ -1,7 +1,8 @@
--- The window's equations in lent memory: 64 bytes of header, then `w` rows, each of `w` coefficients, `E` bytes of symbol and 4 flags,
--- of which the first says that the row is in use. Row and column of a position are its remainder by `w`.
+-- The window's equations in lent memory: 64 bytes of header, then `w` rows, each of `w` coefficients, `E` bytes of symbol and 4 flags.
+-- Row and column of a position are its remainder by `w`. A row's first flag: 0 no row, 1 a row, 2 a row with no coefficient but its pivot's.
 use mathlib.Core.Path.{_≡_}
-use mathlib.Core.Bool.{Bool, true, false}
+use mathlib.Core.Logic.{_≢_, _↔_}
+use mathlib.Core.Bool.{Bool, true}
 use mathlib.Core.List.{List, [], _∷_}
 use Prim.Native.Nat.{ℕ, _+_, _*_, _%_, _≤_, _<_}
 use lib.ListN.{length, take, drop, getD}
@@ -24,9 +25,12 @@ place w E r = 64 + r * stride w E
 abbrev pub row : ℕ → ℕ → ℕ → List ℕ → List ℕ
 row w E r m = part (place w E r) (stride w E) m
 
--- What the bytes of a row say: whether it is in use, and its coefficients and symbol.
+-- What the bytes of a row say: its first flag, whether it is in use, and its coefficients and symbol.
+abbrev pub flag : ℕ → ℕ → List ℕ → ℕ
+flag w E l = getD l (w + E) 0
+
 abbrev pub inUse : ℕ → ℕ → List ℕ → Bool
-inUse w E l = ltb 0 (getD l (w + E) 0)
+inUse w E l = ltb 0 (flag w E l)
 
 abbrev pub line : (w E : ℕ) → List ℕ → Line (Coded E)
 line w E l = line-of product inverse gf w E l
@@ -39,10 +43,22 @@ table w E m = record { has = λ p. inUse w E (row w E (p % w) m); line = λ p. l
 abbrev pub equation : (w E b : ℕ) → List ℕ → Row (Coded E) w
 equation w E b l = read (line w E l) w b
 
+-- The row with pivot column `r` has no other coefficient.
+abbrev pub Alone : (w r : ℕ) → List ℕ → Type 0
+Alone w r l = (j : ℕ) → j < w → j ≢ r → getD l j 0 ≡ 0
+
+-- Every row's first flag is 2 just where the row is in use and has no other coefficient.
+abbrev pub Flagged : (w E r : ℕ) → List ℕ → Type 0
+Flagged w E r l = (flag w E l ≡ 2) ↔ ((inUse w E l ≡ true) × Alone w r l)
+
+abbrev pub Flags : (w E : ℕ) → List ℕ → Type 0
+Flags w E m = (r : ℕ) → r < w → Flagged w E r (row w E r m)
+
 -- The memory holds the system `S` for the window from `b` on.
 pub record Window (w E : ℕ) (m : List ℕ) (b : ℕ) (S : State (Coded E) w) : Type 0 where
   pub echelon : Echelon (table w E m) b w
   pub reads : view (table w E m) w b ≡ S
+  pub flags : Flags w E m
 
 -- Sizes for which the memory has room.
 pub record Fits (w E : ℕ) (m : List ℕ) : Type 0 where
@@ -59,6 +75,6 @@ pub record Kept (w E : ℕ) (m m′ : List ℕ) : Type 0 where
   pub past : drop (place w E w) m′ ≡ drop (place w E w) m
   pub flags : (r k : ℕ) → r < w → w + E < k → k < stride w E → getD m′ (place w E r + k) 0 ≡ getD m (place w E r + k) 0
 
--- The memory with the row `r` unmarked.
-abbrev pub unmarked : (w E r : ℕ) → List ℕ → List ℕ
-unmarked w E r m = splice (place w E r + (w + E)) (0 ∷ []) m
+-- The memory with `v` for the first flag of the row `r`.
+abbrev pub flagged : (w E r v : ℕ) → List ℕ → List ℕ
+flagged w E r v m = splice (place w E r + (w + E)) (v ∷ []) m

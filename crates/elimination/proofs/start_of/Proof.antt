@@ -1,39 +1,36 @@
 -- `elimination::start_of` meets its contract.
+use Prim.Native.Nat.{_+_}
 use native.Mathlib.Omega.{arith}
 use Rattle.memory.proofs.Parts.{row-fits}
 use Rattle.elimination.specs.Window.{stride}
-use Rattle.elimination.proofs.Rows.{rows-small}
+use Rattle.elimination.proofs.Rows.{small-row}
 use borrow.Author.Needs.{needs}
 use Rattle.elimination.proofs.start_of.Statement.{statement}
 use Rattle.elimination.proofs.start_of.Tie as tie
 use Rattle.elimination.proofs.start_of.Reads as reads
 use Rattle.elimination.proofs.start_of.Lts as lts
 
--- src/lib.rt:16:15
 add-result : tie.Need-add-result
 add-result c = search needs
 
--- src/lib.rt:16:15
 add-result-2 : tie.Need-add-result-2
 add-result-2 c = search needs
 
--- src/lib.rt:16:10
 mul-result : tie.Need-mul-result
-mul-result c =
-    let a = c .args in
-    omega (arith, row-fits (a .w) (stride (a .w) (a .e)) (a .r) (omega arith), rows-small (a .w) (a .e) (omega arith) (omega arith))
+mul-result c = let a = c .before .args in omega (arith, small-row (a .shape .width) (a .shape .size) (a .r) (omega arith) (omega arith))
 
--- src/lib.rt:16:5
 add-result-3 : tie.Need-add-result-3
-add-result-3 c =
-    let a = c .args in
-    omega (arith, row-fits (a .w) (stride (a .w) (a .e)) (a .r) (omega arith), rows-small (a .w) (a .e) (omega arith) (omega arith))
+add-result-3 c = let a = c .before .args in omega (arith, small-row (a .shape .width) (a .shape .size) (a .r) (omega arith) (omega arith))
 
--- src/lib.rt:12:1
 returns : tie.Need-returns
 returns c =
-    let a = c .args in
-    omega (arith, row-fits (a .w) (stride (a .w) (a .e)) (a .r) (omega arith), rows-small (a .w) (a .e) (omega arith) (omega arith))
+    let a = c .before .args in
+    let s = a .shape in
+    record {
+      start = omega arith;
+      end = omega (arith, row-fits (s .width + 1) (stride (s .width) (s .size)) (a .r) (omega arith));
+      small = omega (arith, small-row (s .width) (s .size) (a .r) (omega arith) (omega arith));
+    }
 
 pub start-of-spec : {M : Type 1} → statement M
 start-of-spec = tie.close (tie.spec add-result add-result-2 mul-result add-result-3 returns)

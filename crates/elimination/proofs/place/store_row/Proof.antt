@@ -1,0 +1,57 @@
+use mathlib.Core.Path.{ap, _∙_}
+use Prim.Native.Nat.{_+_}
+use native.Mathlib.Omega.{arith}
+use Rattle.memory.specs.Part.{splice}
+use Rattle.memory.proofs.Parts.{whole}
+use Rattle.elimination.proofs.Placing.{stored}
+use Rattle.elimination.proofs.Rows.{row-end}
+use borrow.Author.Needs.{needs}
+use Rattle.elimination.proofs.place.store_row.Statement.{statement}
+use Rattle.elimination.proofs.place.store_row.Tie as tie
+use Rattle.elimination.proofs.place.store_row.Reads as reads
+use Rattle.elimination.proofs.place.store_row.Lts as lts
+use Rattle.elimination.proofs.place.mark.Reads as mark-reads
+use Rattle.elimination.proofs.start_of.Reads as start-of-reads
+use Rattle.memory.proofs.copy_part.Reads as copy-part-reads
+
+-- src/place.rt:116:9
+start-of-requires : tie.Need-start-of-requires
+start-of-requires c κs = search needs
+
+-- src/place.rt:117:13
+add-n : tie.Need-add-n
+add-n c = search needs
+
+-- src/place.rt:118:5
+copy-part-requires : tie.Need-copy-part-requires
+copy-part-requires c κs =
+    let a = c .before .before .before .before .before .args in
+    (omega (arith, row-end (a .shape .width) (a .shape .size) (a .r) (omega arith)), search needs)
+
+-- src/place.rt:119:5
+mark-requires : tie.Need-mark-requires
+mark-requires c κs = search needs
+
+-- src/place.rt:112:1
+same-length : tie.Need-same-length
+same-length c = search needs
+
+-- src/place.rt:112:1
+returns : tie.Need-returns
+returns c =
+    let start = c .before .before .before .before .before .before .before .before .before .before .before .before in
+    let a = start .args in
+    let w = a .shape .width in
+    let E = a .shape .size in
+    let at = c .before .before .before .before .before .before .before .before .before .start-of in
+    let copied = c .before .before .before .before .before .before .copy-part in
+    stored w E (a .r) _ (a .row .now) (a .mem .now) (copied .last .0) _ (start .pre .0) (omega arith) (omega arith)
+    (copied .ensures
+    ∙ ap (λ x. splice (at .result) x (a .mem .now)) (whole (w + E) (a .row .now) (omega arith))
+    ∙ ap (λ k. splice k (a .row .now) (a .mem .now)) (at .ensures .start))
+    (c .before .before .mark .ensures)
+
+pub store-row-spec : {M : Type 1} → statement M
+store-row-spec =
+    tie.close
+    (tie.spec start-of-requires add-n copy-part-requires mark-requires same-length returns)
