@@ -21,11 +21,10 @@ module _ {O : Ops} where
   Apart (pivot r S) (pivot q T) = ⊥
 
 module _ {O : Ops} (L : Laws O) where
-  open Ops O using (K, Sym, 𝟘, 𝟙, _+_, _*_, inv, zero?, null, _⊕_, _•_, null?)
-  open Laws L using (⊕-comm, ⊕-assoc, ⊕-null, ⊕-self, +-•, *-•, 𝟘-•, +-self, +-𝟘, unit, unit≢null)
+  open Ops O using (K, 𝟘, _+_, inv, zero?, null, _⊕_, _•_, null?)
+  open Laws L using (⊕-self, +-•, unit, unit≢null)
 
   infixl 50 _+_
-  infixl 60 _*_
   infixl 50 _⊕_
   infixr 60 _•_
   -- Where two coefficients have the same product with a symbol that is not null, their sum is zero.

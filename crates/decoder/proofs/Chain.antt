@@ -16,10 +16,9 @@ use Rattle.decoder.proofs.Canonical as canonical
 use Rattle.decoder.proofs.Jump.{insert-all-append}
 
 module _ {O : Ops} (L : Laws O) where
-  open Ops O using (K, Sym, 𝟘, 𝟙, _+_, _*_, inv, zero?, null, _⊕_, _•_, null?)
+  open Ops O using (K, 𝟘, 𝟙, _*_, inv, zero?, null, _⊕_, _•_, null?)
   open Laws L using (*-comm, *-𝟙, *-inv, 𝟙≢𝟘, ⊕-null, 𝟙-•)
 
-  infixl 50 _+_
   infixl 60 _*_
   infixl 50 _⊕_
   infixr 60 _•_

@@ -61,7 +61,7 @@ module _ {O : Ops} where
       go false u f (no x) ih = ih f (omega arith)
 
 module _ {O : Ops} (L : Laws O) where
-  open Ops O using (K, Sym, 𝟘, 𝟙, _+_, _*_, inv, _⊕_, _•_)
+  open Ops O using (K, Sym, 𝟘, _+_, _*_, inv, _⊕_, _•_)
   open Laws L using (+-comm, +-assoc, ⊕-comm, ⊕-assoc)
 
   infixl 50 _+_

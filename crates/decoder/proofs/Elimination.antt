@@ -10,7 +10,7 @@ use Rattle.decoder.proofs.Linear as lin
 
 module _ {O : Ops} (L : Laws O) where
   open Ops O using (K, Sym, 𝟘, 𝟙, _+_, _*_, inv, zero?, null, _⊕_, _•_, null?)
-  open Laws L using (⊕-comm, ⊕-assoc, ⊕-null, ⊕-self, *-•, 𝟙-•, 𝟘-•, +-self, *-comm, *-assoc, *-𝟘, *-𝟙, *-inv, 𝟙≢𝟘, unit, unit≢null)
+  open Laws L using (⊕-comm, ⊕-null, *-•, 𝟙-•, 𝟘-•, +-self, *-comm, *-assoc, *-𝟘, *-𝟙, *-inv, 𝟙≢𝟘, unit, unit≢null)
 
   infixl 50 _+_
   infixl 60 _*_

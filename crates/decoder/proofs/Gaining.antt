@@ -59,7 +59,7 @@ count-steps m f g h p q =
     omega arith
 
 module _ {O : Ops} (L : Laws O) where
-  open Ops O using (K, 𝟘, 𝟙)
+  open Ops O using (𝟘, 𝟙)
 
   -- A row joins the table.
   module _ (T T′ : Table O) (b w p : ℕ) (e : Line O) (h : Echelon T b w) (f : Places T T′ b w p e) (c : b ≤ p) (l : p < b +ₙ w) where

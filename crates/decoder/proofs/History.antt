@@ -1,6 +1,6 @@
 -- The receiver against its whole history: it accepts what some filling allows, and shows what all fillings agree on.
 use mathlib.Core.Path.{_≡_, refl, sym, ap, _∙_, subst}
-use mathlib.Core.Logic.{_↔_, ⊎-elim, Iff·rfl, Iff·and}
+use mathlib.Core.Logic.{_≢_, _↔_, ⊎-elim, Iff·rfl, Iff·and}
 use mathlib.Core.Option.{Option, none, some}
 use mathlib.Core.List.{List, [], _∷_, map, List·Memᴰ, List·Memᴰ·head, List·Memᴰ·tail, List·Memᴰ·not-nil, List·Memᴰ·cases-cons}
 use Prim.Native.Nat.{ℕ, zero, suc, _+_, _-_, _≤_}
@@ -24,8 +24,7 @@ shift-at zero i x = rw zero-add
 shift-at (suc d) i x = rw suc-add (shift-at d i (tail x))
 
 module _ {O : Ops} (L : Laws O) where
-  open Ops O using (K, Sym, 𝟘, 𝟙, _⊕_, _•_, null)
-  open Laws L using (𝟘-•)
+  open Ops O using (Sym, _⊕_, _•_, null)
 
   infixl 50 _⊕_
   infixr 60 _•_
@@ -159,28 +158,29 @@ module _ {O : Ops} (L : Laws O) where
         let S = r .window in
         let (f, a, _) = h .complete (elimination.solution L S) (elimination.solution-sat L S) in
         (f, a);
-    shown = λ i v k f a.
-        sym (shift-at (r .base) i f) ∙ elimination.known-sound L (r .window) i v k (shift (r .base) f) (h .sound f a);
-    hidden = λ i k.
-        let (x, y, s, t, q) = elimination.known-complete L (r .window) i (h .rref) k in
-        let (f, a, e) = h .complete x s in
-        let (g, b, e′) = h .complete y t in
-        (f, g, a, b, λ z. q (at i f x e ∙ z ∙ sym (at i g y e′)));
+    shown = shown;
+    hidden = hidden;
+    exactly = λ i. agreed i (known (r .window) i) refl;
   }
     where
       at : (i : ℕ) (f x : Filling O) → shift (r .base) f ≡ x → x i ≡ f (r .base + i)
       at i f x e = sym (ap (λ z. z i) e) ∙ shift-at (r .base) i f
 
-  -- A position is shown exactly if all fillings of the accepted packets agree there.
-  pub shown-exactly : {w : ℕ} (A : List (Packet O)) (r : Receiver O w) → Faithful A r → (i : ℕ)
-      → Accepted (known (r .window) i)
-      ↔ ((f g : Filling O) → Satisfies-all O A f → Satisfies-all O A g → f (r .base + i) ≡ g (r .base + i))
-  shown-exactly A r h i = go (known (r .window) i) refl
-    where
-      go : (o : Option Sym) → known (r .window) i ≡ o
+      shown : (i : ℕ) (v : Sym) → known (r .window) i ≡ some v → (f : Filling O) → Satisfies-all O A f → f (r .base + i) ≡ v
+      shown i v k f a = sym (shift-at (r .base) i f) ∙ elimination.known-sound L (r .window) i v k (shift (r .base) f) (h .sound f a)
+
+      hidden : (i : ℕ) → known (r .window) i ≡ none
+          → (f g : Filling O) × Satisfies-all O A f × Satisfies-all O A g × (f (r .base + i) ≢ g (r .base + i))
+      hidden i k =
+          let (x, y, s, t, q) = elimination.known-complete L (r .window) i (h .rref) k in
+          let (f, a, e) = h .complete x s in
+          let (g, b, e′) = h .complete y t in
+          (f, g, a, b, λ z. q (at i f x e ∙ z ∙ sym (at i g y e′)))
+
+      agreed : (i : ℕ) (o : Option Sym) → known (r .window) i ≡ o
           → Accepted o ↔ ((f g : Filling O) → Satisfies-all O A f → Satisfies-all O A g → f (r .base + i) ≡ g (r .base + i))
-      go none k = ((λ x. absurd x), (λ a. let (f, g, s, t, q) = h .hidden i k in q (a f g s t)))
-      go (some v) k = ((λ _ f g s t. h .shown i v k f s ∙ sym (h .shown i v k g t)), (λ _. tt))
+      agreed i none k = ((λ x. absurd x), (λ a. let (f, g, s, t, q) = hidden i k in q (a f g s t)))
+      agreed i (some v) k = ((λ _ f g s t. shown i v k f s ∙ sym (shown i v k g t)), (λ _. tt))
 
   -- All packets of a list, each by itself: the order is nothing to it.
   pub satisfies-members : (A : List (Packet O)) (f : Filling O)

@@ -15,11 +15,10 @@ only-if-fails (yes p) a n = absurd (n p)
 only-if-fails (no _) a n = refl
 
 module _ (O : Ops) (L : Laws O) where
-  open Ops O using (K, Sym, 𝟘, 𝟙, _+_, _*_, inv, zero?, null, _⊕_, _•_, null?)
-  open Laws L using (+-comm, +-assoc, +-𝟘, ⊕-comm, ⊕-assoc, ⊕-null, ⊕-self, •-⊕, +-•, *-•, 𝟙-•, 𝟘-•, +-self, *-𝟘, *-𝟙, *-inv, 𝟙≢𝟘, unit, unit≢null)
+  open Ops O using (K, Sym, 𝟘, _+_, zero?, null, _⊕_, _•_)
+  open Laws L using (+-comm, +-assoc, +-𝟘, ⊕-comm, ⊕-assoc, ⊕-null, ⊕-self, •-⊕, +-•, *-•, 𝟘-•, +-self)
 
   infixl 50 _+_
-  infixl 60 _*_
   infixl 50 _⊕_
   infixr 60 _•_
   -- Two coefficients whose sum is zero are the same.

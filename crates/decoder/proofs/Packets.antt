@@ -14,7 +14,7 @@ use Rattle.decoder.proofs.Linear as lin
 use Rattle.decoder.proofs.History.{shift-at}
 
 module _ {O : Ops} (L : Laws O) where
-  open Ops O using (K, Sym, 𝟘, 𝟙, null, _⊕_, _•_)
+  open Ops O using (K, Sym, 𝟘, null, _⊕_, _•_)
   open Laws L using (⊕-assoc, ⊕-null, 𝟘-•, 𝟙-•)
 
   infixl 50 _⊕_

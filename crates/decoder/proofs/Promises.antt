@@ -6,7 +6,7 @@ use mathlib.Core.List.{List}
 use Prim.Native.Nat.{ℕ, _<_}
 use native.Mathlib.Omega.{arith}
 use lib.Bits.{xor-lt, and-lt}
-use Rattle.field.proofs.Fields.{product-binary}
+use Rattle.field.proofs.Binary.{product-binary}
 use Rattle.field.proofs.Laws.{inverse-is, product-one}
 use Rattle.decoder.specs.Field.{Ops, Laws}
 use Rattle.decoder.specs.Model.{Filling, Row, eval, State, Sat, Rref, insert, known}

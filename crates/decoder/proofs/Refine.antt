@@ -12,8 +12,8 @@ use Rattle.decoder.specs.TableSteps.{add-line, scale-line, step-by, swee
 use Rattle.decoder.proofs.Linear as lin
 
 module _ {O : Ops} (L : Laws O) where
-  open Ops O using (K, Sym, 𝟘, 𝟙, _+_, _*_, inv, zero?, _⊕_, _•_)
-  open Laws L using (+-𝟘, +-self, *-comm, *-𝟘, *-𝟙, 𝟙≢𝟘, 𝟘-•, ⊕-null)
+  open Ops O using (K, 𝟘, 𝟙, _+_, _*_, zero?, _⊕_, _•_)
+  open Laws L using (+-𝟘, +-self, *-comm, *-𝟘, *-𝟙, 𝟘-•, ⊕-null)
 
   infixl 50 _+_
   infixl 60 _*_

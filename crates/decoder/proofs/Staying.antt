@@ -19,8 +19,6 @@ if-below (yes _) t = t
 if-below (no _) t = false
 
 module _ {O : Ops} (L : Laws O) (T : Table O) (b w : ℕ) (wraps : (q j : ℕ) → T .line q .cells (j +ₙ w) ≡ T .line q .cells j) (h : Echelon T b w) where
-  open Ops O using (K)
-
   -- The table without rows past the window.
   abbrev cut : Table O
   cut = record { has = λ p. if-below (decLt p (b +ₙ w)) (T .has p); line = T .line }

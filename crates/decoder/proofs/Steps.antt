@@ -16,7 +16,7 @@ use Rattle.decoder.proofs.Refine as refine
 use Rattle.decoder.proofs.Chain as chain
 
 module _ {O : Ops} (L : Laws O) where
-  open Ops O using (K, Sym, 𝟘, 𝟙, _+_, _*_, inv, zero?, null, _⊕_, _•_, null?)
+  open Ops O using (𝟘, 𝟙, _+_, _*_, inv, zero?, null)
   open Laws L using (+-𝟘, +-self, *-comm, *-𝟘, *-𝟙, *-inv, 𝟙≢𝟘)
 
   infixl 50 _+_

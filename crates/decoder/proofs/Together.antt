@@ -26,10 +26,9 @@ module _ {O : Ops} where
     pub fillings : (x : Filling O) → Sat S x → Sat G x ↔ Hold O n es x
 
 module _ {O : Ops} (L : Laws O) where
-  open Ops O using (K, Sym, 𝟘, 𝟙, _+_, null, _⊕_, _•_)
-  open Laws L using (𝟙-•, 𝟘-•)
+  open Ops O using (𝟘, null, _⊕_, _•_)
+  open Laws L using (𝟙-•)
 
-  infixl 50 _+_
   infixl 50 _⊕_
   infixr 60 _•_
   pub gathered-none : {n : ℕ} (S : State O n) → Gathered S (empty O n) []

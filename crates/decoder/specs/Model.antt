@@ -20,7 +20,7 @@ only-if (yes _) a = some a
 only-if (no _) a = none
 
 module _ (O : Ops) where
-  open Ops O using (K, Sym, 𝟘, 𝟙, _+_, _*_, inv, zero?, null, _⊕_, _•_, null?)
+  open Ops O using (K, Sym, 𝟘, _+_, _*_, zero?, _⊕_, _•_)
 
   infixl 50 _+_
   infixl 60 _*_
@@ -74,12 +74,8 @@ module _ (O : Ops) where
     pivot : {n : ℕ} → Row n → State n → State (suc n)
 
 module _ {O : Ops} where
-  open Ops O using (K, Sym, 𝟘, 𝟙, _+_, _*_, inv, zero?, null, _⊕_, _•_, null?)
+  open Ops O using (K, Sym, 𝟘, inv, zero?, null, null?)
 
-  infixl 50 _+_
-  infixl 60 _*_
-  infixl 50 _⊕_
-  infixr 60 _•_
   -- The filling satisfies every row.
   abbrev pub Sat : {n : ℕ} → State O n → Filling O → Type 0
   Sat end x = Unit {0}

@@ -31,6 +31,9 @@ module _ {O : Ops} where
     -- Where nothing is shown, two such fillings differ.
     pub hidden : (i : ℕ) → known (r .window) i ≡ none
         → (f g : Filling O) × Satisfies-all O A f × Satisfies-all O A g × (f (r .base + i) ≢ g (r .base + i))
+    -- So a position is known exactly if all such fillings agree there.
+    pub exactly : (i : ℕ)
+        → Accepted (known (r .window) i) ↔ ((f g : Filling O) → Satisfies-all O A f → Satisfies-all O A g → f (r .base + i) ≡ g (r .base + i))
 
   -- Demand 3 of a receiver and the packets that it has accepted: besides, the next packet is accepted exactly if some filling satisfies it
   -- and all accepted before.

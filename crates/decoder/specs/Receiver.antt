@@ -32,7 +32,7 @@ count-new zero now before = 0
 count-new (suc m) now before = is-new (now 0) (before 0) + count-new m (tail now) (tail before)
 
 module _ (O : Ops) where
-  open Ops O using (Sym, 𝟘, null)
+  open Ops O using (𝟘, null)
 
   -- Equations over `count` positions from `first` on: a row for each symbol of a source packet, and for each repair symbol.
   pub record Packet : Type 0 where
@@ -78,8 +78,6 @@ module _ (O : Ops) where
   fresh w = record { base = 0; window = empty w }
 
 module _ {O : Ops} where
-  open Ops O using (Sym)
-
   -- The window moves on by several positions.
   unfoldable pub advance-by : {n : ℕ} → ℕ → State O n → State O n
   advance-by zero S = S

@@ -1,8 +1,8 @@
 -- The laws of GF(2^8).
 use mathlib.Core.Path.{_≡_, refl, sym, ap, ap₂, _∙_}
 use mathlib.Core.Bool.{Bool, true, false}
-use mathlib.Core.List.{List, [], _∷_}
-use Prim.Native.Nat.{ℕ, zero, suc, _+_, _-_, _*_, _≤_, _<_}
+use mathlib.Core.List.{List}
+use Prim.Native.Nat.{ℕ, zero, suc, _+_, _-_, _≤_, _<_}
 use native.Mathlib.Nat.{add-zero, zero-add, add-suc, suc-add, le-of-suc-le-suc, not-suc-le-zero}
 use native.Mathlib.Omega.{arith}
 use lib.Arith.{lt-of-le-ne}
@@ -10,7 +10,7 @@ use lib.Bits.{bitXor}
 use lib.Dec.{T, eqb, ltb, eqb→eq, ltb→lt}
 use lib.ListN.{length, getD}
 use borrow.Author.Tests.{eqb-true, eqb-false}
-use Rattle.field.specs.Gf256.{product, times, remainder, reduce, power, inverse-below, inverse}
+use Rattle.field.specs.Gf256.{product, times, remainder, power, inverse-below, inverse}
 use Rattle.field.specs.Tables.{doublings, logarithmTable}
 use Rattle.field.specs.Logarithm.{IsLogarithm}
 use Rattle.field.proofs.Polynomial.{times-comm, times-assoc, times-one, times-xor-left, remainder-xor, remainder-times, remainder-id, remainder-lt}

@@ -1,7 +1,7 @@
 -- Polynomials over GF(2): the product is a commutative ring's, and the remainder passes through it.
 use mathlib.Core.Path.{_≡_, refl, sym, ap, ap₂, _∙_}
-use Prim.Native.Nat.{ℕ, zero, suc, _+_, _*_, _/_, _%_, _^_, _<_}
-use native.Mathlib.Nat.{mod-lt, zero-lt-suc, zero-mul, one-mul, mul-one, mul-assoc, mul-mod-left, mul-div-cancel}
+use Prim.Native.Nat.{ℕ, _*_, _/_, _%_, _^_, _<_}
+use native.Mathlib.Nat.{zero-lt-suc, zero-mul, one-mul, mul-one, mul-assoc, mul-mod-left, mul-div-cancel}
 use native.Mathlib.Omega.{arith}
 use lib.Arith.{bin-ind}
 use lib.Bits.{bitXor, xor-shr, xor-mod, xor-self, xor-lt}

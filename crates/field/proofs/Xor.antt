@@ -1,9 +1,9 @@
 -- Laws of `bitXor` that `lib.Bits` lacks, and induction on binary digits.
 use mathlib.Core.Path.{_≡_, refl, sym, ap, ap₂, _∙_}
-use Prim.Native.Nat.{ℕ, zero, suc, _+_, _*_, _/_, _%_, _^_, _<_}
+use Prim.Native.Nat.{ℕ, zero, suc, _+_, _*_, _/_, _%_, _<_}
 use native.Mathlib.Nat.{mod-lt, div-add-mod', zero-lt-suc, le-of-suc-le-suc, not-suc-le-zero, zero-mul, one-mul, add-zero}
 use lib.Arith.{bin-ind}
-use lib.Bits.{bitXor, differ, xor-step, xor-shr, xor-mod, xor-comm, xor-self, xor-zero-r, xor-block, xor-shifted}
+use lib.Bits.{bitXor, differ, xor-shr, xor-mod, xor-comm, xor-self, xor-zero-r, xor-block, xor-shifted}
 
 -- what holds of 0 and of 1 holds of a binary digit
 pub digit : (P : ℕ → Type 0) → P 0 → P 1 → (n : ℕ) → P (n % 2)

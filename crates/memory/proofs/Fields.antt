@@ -38,7 +38,8 @@ field-store (w ∷ ws) m zero v h k f =
 field-store (w ∷ ws) m (suc i) v h k f =
     let o = offset-le ws i in
     cons-eq (ap number (take-splice w (w + offset ws i) (bytes (getD ws i 0) v) m (omega arith) (omega arith)))
-    (ap (fields ws) (drop-splice w (offset ws i) (bytes (getD ws i 0) v) m (omega arith)) ∙ field-store ws (drop w m) i v (le-of-suc-le-suc h) (simp length-drop (omega arith)) f)
+    (ap (fields ws) (drop-splice w (offset ws i) (bytes (getD ws i 0) v) m (omega arith))
+    ∙ field-store ws (drop w m) i v (le-of-suc-le-suc h) (simp length-drop (omega arith)) f)
 
 -- a change past the fields leaves them
 pub fields-kept : (ws m x : List ℕ) (a : ℕ) → total ws ≤ a → a ≤ length m → fields ws (splice a x m) ≡ fields ws m

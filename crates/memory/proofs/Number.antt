@@ -33,7 +33,16 @@ number-bytes n v h = number-mod n v ∙ mod-eq-of-lt h
 pub number-append : (x y : List ℕ) → number (x ++ y) ≡ number x * 256 ^ length y + number y
 number-append [] y = rw (zero-mul, zero-add)
 number-append (b ∷ x) y =
-    cc (number-append x y, length-append x y, pow-add 256 (length x) (length y), add-mul (b * 256 ^ length x) (number x) (256 ^ length y), mul-assoc b (256 ^ length x) (256 ^ length y), add-assoc (b * (256 ^ length x * 256 ^ length y)) (number x * 256 ^ length y) (number y))
+    let p = 256 ^ length x in
+    let q = 256 ^ length y in
+    cc (
+      number-append x y,
+      length-append x y,
+      pow-add 256 (length x) (length y),
+      add-mul (b * p) (number x) q,
+      mul-assoc b p q,
+      add-assoc (b * (p * q)) (number x * q) (number y),
+    )
 
 pub number-part : (a n k : ℕ) (m : List ℕ) → a + (n + k) ≤ length m
     → number (part a (n + k) m) ≡ number (part a n m) * 256 ^ k + number (part (a + n) k m)

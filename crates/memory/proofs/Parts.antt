@@ -1,6 +1,6 @@
 -- Laws of `part` and `splice`, at any place and size.
 use mathlib.Core.Path.{_≡_, refl, sym, ap, _∙_}
-use mathlib.Core.Logic.{_⊎_, inl, inr}
+use mathlib.Core.Logic.{inl, inr}
 use Prim.Native.Nat.{ℕ, zero, suc, _+_, _-_, _*_, _≤_, _<_}
 use native.Mathlib.Nat.{le-of-suc-le-suc, not-suc-le-zero, suc-add, zero-add, add-zero, suc-mul, mul-le-mul-right}
 use native.Mathlib.Numerals.{add-one}
@@ -27,7 +27,8 @@ pub cut : (a n : ℕ) (m : List ℕ) → take (a + n - a) (drop a m) ≡ part a 
 unfolding part
 cut a n m = let e : a + n - a ≡ n = omega arith in rw e
 
-pub put : (a n : ℕ) (x m : List ℕ) → a + n ≤ length m → length x ≡ length (take (a + n - a) (drop a m)) → take a m ++ (x ++ drop (a + n - a) (drop a m)) ≡ splice a x m
+pub put : (a n : ℕ) (x m : List ℕ) → a + n ≤ length m → length x ≡ length (take (a + n - a) (drop a m))
+    → take a m ++ (x ++ drop (a + n - a) (drop a m)) ≡ splice a x m
 unfolding splice
 put a n x m h l = let e : a + n - a ≡ length x = omega (arith, simp (length-take, length-drop) at l) in rw e
 
@@ -200,7 +201,8 @@ pub splice-comm : (a b : ℕ) (x y m : List ℕ) → a + length x ≤ b → b �
 unfolding splice
 splice-comm zero b x y m h k =
     let e : b ≡ length x + (b - length x) = omega arith in
-    rw e (ap (λ (l : List ℕ). x ++ l) (drop-splice (length x) (b - length x) y m (omega arith)) ∙ sym (splice-append-add x (drop (length x) m) y (b - length x)))
+    rw e (ap (λ (l : List ℕ). x ++ l) (drop-splice (length x) (b - length x) y m (omega arith))
+    ∙ sym (splice-append-add x (drop (length x) m) y (b - length x)))
 splice-comm (suc a) zero x y m h k = absurd (omega arith)
 splice-comm (suc a) (suc b) x y [] h k = absurd (not-suc-le-zero k)
 splice-comm (suc a) (suc b) x y (z ∷ m) h k = ap (λ (l : List ℕ). z ∷ l) (splice-comm a b x y m (omega arith) (omega arith))

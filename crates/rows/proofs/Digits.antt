@@ -1,24 +1,22 @@
 -- A combination of rows, digit by digit of the coefficients: the rows whose coefficients are odd, added to twice the combination that has
 -- the halves of the coefficients.
 use mathlib.Core.Path.{_≡_, refl, sym, ap, ap₂, _∙_}
-use Prim.Native.Nat.{ℕ, zero, suc, _+_, _*_, _/_, _%_, _^_, _≤_, _<_}
+use Prim.Native.Nat.{ℕ, zero, suc, _+_, _/_, _%_, _^_, _≤_, _<_}
 use native.Mathlib.Nat.{pow-suc, div-div-eq-div-mul, div-eq-of-lt, div-one}
 use native.Mathlib.Numerals.{add-one}
 use native.Mathlib.Omega.{arith}
 use mathlib.Core.List.{List}
-use lib.Bits.{bitXor, xor-zero-r, xor-comm}
-use lib.ListN.{length, getD, replicate, length-replicate, getD-replicate}
+use lib.Bits.{bitXor, xor-comm}
+use lib.ListN.{length, getD}
 use lib.Seq.{ext-getD}
-use lib.Dec.{lit<}
 use Rattle.field.specs.Gf256.{product, power, inverse}
 use Rattle.field.proofs.Xor.{xor-assoc}
 use Rattle.field.proofs.Laws.{product-sum-right, product-inverse}
 use Rattle.memory.specs.Number.{Bytes}
-use Rattle.memory.proofs.Parts.{row-fits, length-part}
-use Rattle.rows.specs.Rows.{addScaled, scaled}
+use Rattle.rows.specs.Rows.{scaled}
 use Rattle.rows.specs.Combination.{dot, combined, coefficient}
 use Rattle.rows.specs.Digits.{shifted, digit}
-use Rattle.rows.proofs.Sums.{length-addScaled, getD-addScaled, length-scaled, getD-scaled, addScaled-zero, scaled-scaled, scaled-one}
+use Rattle.rows.proofs.Sums.{length-scaled, getD-scaled, addScaled-zero, scaled-scaled, scaled-one}
 use Rattle.rows.proofs.Dot.{dot-halves}
 use Rattle.rows.proofs.Combinations.{length-combined, getD-combined}
 

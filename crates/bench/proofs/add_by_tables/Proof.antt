@@ -1,19 +1,17 @@
 -- `bench::add_by_tables` meets its contract. The loop: the first i elements are those of the result.
 use mathlib.Core.Path.{_≡_}
-use Prim.Native.Nat.{_≤_, _<_, _-_}
+use Prim.Native.Nat.{_≤_, _-_}
 use native.Mathlib.Omega.{arith}
 use lib.ListN.{length}
 use Rattle.field.specs.Tables.{powerTable, logarithmTable}
-use Rattle.memory.proofs.Loop.{turned, turned-rest, turn, turned-all}
-use Rattle.rows.specs.Rows.{addScaled}
-use Rattle.rows.proofs.Sums.{length-addScaled, getD-addScaled}
+use Rattle.rows.proofs.Turns.{summed, summed-turn, summed-end}
 use borrow.Author.Needs.{needs}
 use Rattle.bench.proofs.add_by_tables.Statement.{statement}
 use Rattle.bench.proofs.add_by_tables.Tie as tie
 
 abbrev Inv-loop : tie.InvT-loop
 Inv-loop dst₀ src c powers logarithms i₀ i-end dst i =
-    (i ≤ length dst₀) × (dst ≡ turned dst₀ (addScaled c dst₀ src) i) × (length dst ≡ length dst₀)
+    (i ≤ length dst₀) × (dst ≡ summed c dst₀ src i) × (length dst ≡ length dst₀)
     × (powers ≡ powerTable) × (logarithms ≡ logarithmTable)
 
 abbrev μ-loop : tie.MeasureT-loop
@@ -49,12 +47,9 @@ loop-less c = search needs
 loop-again : tie.Need-loop-again Inv-loop μ-loop
 loop-again c =
     let a = c .before .before .before .before .before .before .before .before .before .before .before .args in
-    let i = c .before .before .before .before .before .before .loop .i in
-    let r = addScaled (a .c) (a .dst .now) (a .src .now) in
-    let l : length r ≡ length (a .dst .now) = length-addScaled (a .c) (a .dst .now) (a .src .now) in
-    let h : i < length (a .dst .now) = omega arith in (
+    let i = c .before .before .before .before .before .before .loop .i in (
       search needs,
-      cc (turn (a .dst .now) r i h (omega arith), turned-rest (a .dst .now) r i, getD-addScaled (a .c) (a .dst .now) (a .src .now) i h (omega arith)),
+      cc (summed-turn (a .c) (a .dst .now) (a .src .now) i (omega arith) (omega arith)),
       search needs,
       search needs,
       search needs,
@@ -66,7 +61,7 @@ same-length c = search needs
 returns : tie.Need-returns Inv-loop μ-loop
 returns c =
     let a = c .before .before .before .before .before .before .args in
-    cc (turned-all (a .dst .now) (addScaled (a .c) (a .dst .now) (a .src .now)) (c .before .loop .i) (length-addScaled (a .c) (a .dst .now) (a .src .now)) (omega arith))
+    cc (summed-end (a .c) (a .dst .now) (a .src .now) (c .before .loop .i) (omega arith))
 
 pub add-by-tables-spec : {M : Type 1} → statement M
 add-by-tables-spec =

@@ -38,7 +38,12 @@ same-length c = search needs
 returns : tie.Need-returns
 returns c =
     let a = c .before .before .before .before .before .before .before .args in
-    cc (put (a .a) (a .n) (c .before .before .add-scaled .last .0) (a .mem .now) (omega arith) (c .before .before .add-scaled .kept .0), cut (a .a) (a .n) (a .mem .now), cut (a .b) (a .n) (a .src .now))
+    let r = c .before .before .add-scaled in
+    cc (
+      put (a .a) (a .n) (r .last .0) (a .mem .now) (omega arith) (r .kept .0),
+      cut (a .a) (a .n) (a .mem .now),
+      cut (a .b) (a .n) (a .src .now),
+    )
 
 pub add-part-spec : {M : Type 1} → statement M
 add-part-spec =

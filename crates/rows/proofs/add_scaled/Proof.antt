@@ -64,7 +64,8 @@ loop-again : tie.Need-loop-again Inv-loop μ-loop
 loop-again c =
     let a = c .before .before .before .before .before .before .before .before .before .before .before .before .before .args in
     let k = c .before .before .before .before .before .before .multiples .result .0 in
-    (search needs, cc (summed-turn k (a .dst .now) (a .src .now) (c .before .before .before .before .before .loop .i) (omega arith) (omega arith)), search needs)
+    let i = c .before .before .before .before .before .loop .i in
+    (search needs, cc (summed-turn k (a .dst .now) (a .src .now) i (omega arith) (omega arith)), search needs)
 
 same-length-2 : tie.Need-same-length-2 Inv-loop μ-loop
 same-length-2 c = search needs

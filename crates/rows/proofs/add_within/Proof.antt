@@ -74,9 +74,10 @@ loop-again : tie.Need-loop-again Inv-loop μ-loop
 loop-again c =
     let s = c .before .before .before .before .before .before .before .before .before .before .before .before in
     let a = s .args in
+    let i = c .before .before .before .before .before .loop .i in
     let k = c .before .before .before .before .before .before .multiples .result .0 in (
       search needs,
-      cc (within-turn k (a .a) (a .b) (a .n) (a .mem .now) (omega arith) (omega arith) (s .pre .2) (c .before .before .before .before .before .loop .i) (omega arith)),
+      cc (within-turn k (a .a) (a .b) (a .n) (a .mem .now) (omega arith) (omega arith) (s .pre .2) i (omega arith)),
       search needs,
     )
 

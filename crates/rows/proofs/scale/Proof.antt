@@ -46,7 +46,8 @@ loop-less c = search needs
 loop-again : tie.Need-loop-again Inv-loop μ-loop
 loop-again c =
     let k = c .before .before .before .before .multiples .result .0 in
-    (search needs, cc (multiplied-turn k (c .before .before .before .before .before .before .before .before .args .row .now) (c .before .before .before .loop .i) (omega arith)), search needs)
+    let row = c .before .before .before .before .before .before .before .before .args .row .now in
+    (search needs, cc (multiplied-turn k row (c .before .before .before .loop .i) (omega arith)), search needs)
 
 same-length : tie.Need-same-length Inv-loop μ-loop
 same-length c = search needs

@@ -32,7 +32,9 @@ same-length-2 : tie.Need-same-length-2
 same-length-2 c = search needs
 
 returns-2 : tie.Need-returns-2
-returns-2 c = cc (scaled-back (c .before .before .before .before .before .before .before .before .before .before .before .before .before .before .before .args .dst .now) (λ i. c .before .before .before .before .before .before .before .before .before .before .before .before .before .before .slice-known .given i .fits))
+returns-2 c =
+    let s = c .before .before .before .before .before .before .before .before .before .before .before .before .before .before in
+    cc (scaled-back (s .before .args .dst .now) (λ i. s .slice-known .given i .fits))
 
 pub add-combination-spec : {M : Type 1} → statement M
 add-combination-spec =

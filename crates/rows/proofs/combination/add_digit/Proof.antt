@@ -48,7 +48,11 @@ unfolding digit
 loop-again c =
     let a = c .before .before .before .before .before .before .before .before .before .before .args in
     let t = c .before .before .before .before .before .before .loop in
-    (search needs, row-added (digit (a .cs .now) (a .e)) (a .mem .now) (a .a) (a .s) (t .k) (a .dst .now) (t .dst) _ (t .inv .1) (t .inv .2) (c .before .before .add-row .ensures), search needs)
+    let row = c .before .before .add-row in (
+      search needs,
+      row-added (digit (a .cs .now) (a .e)) (a .mem .now) (a .a) (a .s) (t .k) (a .dst .now) (t .dst) _ (t .inv .1) (t .inv .2) (row .ensures),
+      search needs,
+    )
 
 same-length : tie.Need-same-length Inv-loop μ-loop
 same-length c = search needs

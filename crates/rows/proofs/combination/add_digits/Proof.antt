@@ -27,7 +27,10 @@ loop-holds c =
     let d = a .dst .now in
     let row = rowAt (a .mem .now) (a .a) (a .s) (length d) in (
       omega arith,
-      cc (combined-start row (a .cs .now) (length (a .cs .now)) (scaled (power 0) d) (λ i. c .before .shared-slice-known .given i .fits), scaled-start d (λ i. c .before .before .slice-known .given i .fits)),
+      cc (
+        combined-start row (a .cs .now) (length (a .cs .now)) (scaled (power 0) d) (λ i. c .before .shared-slice-known .given i .fits),
+        scaled-start d (λ i. c .before .before .slice-known .given i .fits),
+      ),
       refl,
     )
 
@@ -54,9 +57,13 @@ loop-again c =
     let n = length (a .cs .now) in
     let e : 8 - j ≡ suc (7 - j) = omega arith in
     let f : 8 - (j + 1) ≡ 7 - j = omega arith in
+    let row = rowAt (a .mem .now) (a .a) (a .s) (length d) in
     let long = long-rows (a .mem .now) (a .a) (a .s) (length d) n (omega arith) (omega arith) in (
       search needs,
-      cc (combined-shifted (rowAt (a .mem .now) (a .a) (a .s) (length d)) (length d) n long (a .cs .now) (7 - j) (scaled (power j) d) (length-scaled (power j) d), scaled-next j d),
+      cc (
+        combined-shifted row (length d) n long (a .cs .now) (7 - j) (scaled (power j) d) (length-scaled (power j) d),
+        scaled-next j d,
+      ),
       search needs,
     )
 

@@ -34,7 +34,9 @@ loop-less : tie.Need-loop-less Inv-loop μ-loop
 loop-less c = search needs
 
 loop-again : tie.Need-loop-again Inv-loop μ-loop
-loop-again c = (search needs, cc (multiplied-turn 2 (c .before .before .before .before .before .args .row .now) (c .before .before .before .loop .i) (omega arith)), search needs)
+loop-again c =
+    let row = c .before .before .before .before .before .args .row .now in
+    (search needs, cc (multiplied-turn 2 row (c .before .before .before .loop .i) (omega arith)), search needs)
 
 same-length : tie.Need-same-length Inv-loop μ-loop
 same-length c = search needs
