@@ -1,0 +1,4 @@
+pub mod Carrying
+pub mod Demand
+pub mod Reading
+pub mod Sent

@@ -1,0 +1,5 @@
+pub mod Symbol
+pub mod History
+pub mod Model
+pub mod Header
+pub mod Promises
