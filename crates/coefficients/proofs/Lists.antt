@@ -13,7 +13,7 @@ use Rattle.memory.specs.Number.{Bytes}
 use Rattle.wire.specs.declared.Scheme.{Scheme}
 use Rattle.wire.specs.declared.Scheme.the-variants.{Gf2, Gf256}
 use Rattle.coefficients.specs.declared.Coefficient.{Coefficient}
-use Rattle.coefficients.specs.Coefficients.{nonzeroFrom, bitOf, byteOf, coefficientOf, Coefficients, extend, coefficientsOf, keys, allOk}
+use Rattle.coefficients.specs.Coefficients.{lastZero, nonzeroFrom, bitOf, byteOf, coefficientOf, Coefficients, extend, coefficientsOf, keys, allOk}
 
 -- one coefficient more after a list that was not refused, and after one that was
 module _ (scheme : Scheme) (dt : ℕ) (l : Coefficients) where
@@ -92,8 +92,8 @@ value-lt : (scheme : Scheme) (dt : ℕ) (s : List ℕ) → coefficientOf scheme 
 unfolding byteOf
 value-lt Gf2 dt s = omega (arith, bit-small dt s)
 value-lt Gf256 dt s =
-    cond-both (λ (c : Coefficient). c .value < 256) (eqb dt 15) (nonzero-byte-lt 16 0 s)
-    (cond-both (λ (c : Coefficient). c .value < 256) (leb (low4 (drawOf s .value)) dt) (nonzero-byte-lt 16 1 (drawOf s .state)) (lit< tt))
+    cond-both (λ (c : Coefficient). c .value < 256) (eqb dt 15) (nonzero-byte-lt lastZero 0 s)
+    (cond-both (λ (c : Coefficient). c .value < 256) (leb (low4 (drawOf s .value)) dt) (nonzero-byte-lt lastZero 1 (drawOf s .state)) (lit< tt))
 
 -- every element is below b
 abbrev pub Below : ℕ → List ℕ → Type 0

@@ -12,8 +12,8 @@ use lib.Dec.{ltb}
 use Rattle.memory.specs.Part.{splice}
 use Rattle.memory.proofs.Parts.{length-part, getD-part, row-fits}
 use Rattle.decoder.specs.Combination.{total}
-use Rattle.elimination.specs.Window.{stride, place, row, flag, inUse, line, Flagged, Flags, flagged, Fits, Kept}
-use Rattle.elimination.specs.RowSteps.{one-if-known, known-flag}
+use Rattle.elimination.specs.Window.{stride, place, row, flag, inUse, line, Flagged, Flags, Fits, Kept}
+use Rattle.elimination.specs.RowSteps.{one-if-known, known-flag, flagged}
 use Rattle.elimination.proofs.Rows.{row-store, row-other, kept-store}
 use Rattle.elimination.proofs.Lines.{line-same}
 use Rattle.elimination.proofs.Holding.{getD-before}

@@ -73,7 +73,8 @@ module _ (w E b n : ℕ) (T : State (Coded E) w) (l m m′ : List ℕ) (fits : F
 
   pub placed : Window w E m′ b (place-row T (equation w E b l)) × (n + known-flags w E m ≡ known-flags w E m′)
   placed =
-      let (echelon, reads) = place-line L (table w E m) (table w E m′) b w (p .position) (line w E l) (v .echelon) step (p .from) (p .before) reduced (p .leads) one in
+      let (echelon, reads) =
+      place-line L (table w E m) (table w E m′) b w (p .position) (line w E l) (v .echelon) step (p .from) (p .before) reduced (p .leads) one in
       let flags = s .flags free (v .flags) in (
         record { echelon = echelon; reads = reads ∙ ap (λ X. place-row X (equation w E b l)) (v .reads); flags = flags .0 },
         flags .1,
@@ -95,7 +96,8 @@ joined-more w E k n i work m m₁ m₂ fits f s = record {
       let chain = subst (Chain S (spelled w E b work)) (add-one k) c in
       let before = f .joins b S v (chain-before (laws E (omega (arith, fits .some-symbol))) S (spelled w E b work) k chain) (λ j h. p j (omega arith)) in
       let now =
-      placed w E b i (place-rows (spelled w E b work) k S) (row w E k work) m₁ m₂ room (before .0) s (p k (omega arith)) (chain .reduced k (omega arith)) (chain .leads k (omega arith)) in (
+      placed w E b i (place-rows (spelled w E b work) k S) (row w E k work) m₁ m₂ room (before .0) s (p k (omega arith))
+      (chain .reduced k (omega arith)) (chain .leads k (omega arith)) in (
         subst (λ j. Window w E m₂ b (place-rows (spelled w E b work) j S)) (sym (add-one k)) (now .0),
         omega (arith, before .1, now .1),
       );

@@ -21,15 +21,20 @@ use Rattle.decoder.specs.Memory as flat
 use Rattle.elimination.specs.Bytes.{gf}
 use Rattle.elimination.specs.Window.{line}
 
+-- A number that is not other than zero.
+pub else-zero : (a : ℕ) → (a ≢ 0 → ⊥) → a ≡ 0
+else-zero a h = go (ℕ-discrete a 0)
+  where
+    go : Dec (a ≡ 0) → a ≡ 0
+    go (yes z) = z
+    go (no z) = absurd (h z)
+
 -- A byte is zero as an element of the field just where it is zero.
 pub byte-zero : (n : ℕ) → n ≡ 0 → byte n ≡ null-byte
 byte-zero n z = byte-path (ap (λ k. k % 256) z)
 
 pub byte-nonzero : (n : ℕ) → n < 256 → n ≢ 0 → byte n ≢ null-byte
 byte-nonzero n l z e = z (sym (mod-eq-of-lt l) ∙ ap (λ t. t .0) e)
-
-pub byte-number : (n : ℕ) → n < 256 → byte n .0 ≡ n
-byte-number n l = mod-eq-of-lt l
 
 cell-times : (k a : ℕ) → k < 256 → a < 256 → byte (product k a) ≡ gf-bytes.product product inverse gf (byte k) (byte a)
 cell-times k a x y = byte-path (mod-eq-of-lt (product-lt k a) ∙ simp (mod-eq-of-lt x, mod-eq-of-lt y))

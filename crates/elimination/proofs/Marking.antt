@@ -52,7 +52,10 @@ module _ (w E r : ℕ) (m : List ℕ) (h : r < w) (at : ℕ) (here : at ≡ plac
       most = omega arith;
       alone = (
         (λ e. absurd (omega arith)),
-        λ a. absurd (n (both-zero x y (f .1 (λ i c d. at-zero i c (omega arith) (omega arith) a)) (g .1 (λ i c d. at-zero i (omega arith) (omega arith) (omega arith) a)))),
+        λ a.
+            let before = f .1 (λ i c d. at-zero i c (omega arith) (omega arith) a) in
+            let after = g .1 (λ i c d. at-zero i (omega arith) (omega arith) (omega arith) a) in
+            absurd (n (both-zero x y before after)),
       );
     }
       where

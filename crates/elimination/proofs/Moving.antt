@@ -4,7 +4,7 @@ use mathlib.Core.Logic.{_≢_}
 use mathlib.Core.Bool.{Bool, true, false, true≢false}
 use mathlib.Core.List.{List}
 use Prim.Native.Nat.{ℕ, zero, suc, _+_, _-_, _%_, _≤_, _<_}
-use native.Mathlib.Nat.{mod-lt, mod-eq-of-lt, mod-add-mod, add-mod-mod, add-mod-right, add-zero}
+use native.Mathlib.Nat.{mod-lt, mod-eq-of-lt, mod-add-mod, add-mod-mod, add-mod-right, add-zero, add-assoc}
 use native.Mathlib.Decide.{ℕ-discrete}
 use native.Mathlib.Numerals.{add-one}
 use native.Mathlib.Omega.{arith}
@@ -19,8 +19,9 @@ use Rattle.decoder.specs.Refine.{view-advance}
 use Rattle.decoder.specs.Steps.{moves-echelon}
 use Rattle.decoder.specs.Jump.{advance-by-suc, advance-by-empty}
 use Rattle.elimination.specs.Bytes.{Coded, laws}
-use Rattle.elimination.specs.Window.{row, flag, inUse, line, table, flagged, Window, Fits, Kept}
+use Rattle.elimination.specs.Window.{row, flag, inUse, line, table, Window, Fits, Kept}
 use Rattle.elimination.specs.Place.{Emptied, Moved}
+use Rattle.elimination.specs.RowSteps.{flagged}
 use Rattle.elimination.proofs.Rows.{kept-refl, kept-trans, fits-kept}
 use Rattle.elimination.proofs.Flags.{unused, unused-flag, flagged-unused, flagged-flag, flagged-rest, flagged-kept, flags-changed}
 
@@ -66,11 +67,11 @@ pub moved-to : {w E base i k : ℕ} {m m′ : List ℕ} → i ≡ k → Moved w 
 moved-to {w} {E} {base} {i} {k} {m} {m′} e f = subst (λ x. Moved w E base x m m′) e f
 
 -- No turn yet, one more, and as many as there are rows.
-pub moved-none : (w E base : ℕ) (m : List ℕ) → Moved w E base 0 m m
+moved-none : (w E base : ℕ) (m : List ℕ) → Moved w E base 0 m m
 unfolding advance-by
 moved-none w E base m = record { kept = kept-refl; moves = λ b S e h. rw add-zero h }
 
-pub moved-more : (w E base i : ℕ) (m m′ : List ℕ) → Fits w E m′ → Moved w E base i m m′
+moved-more : (w E base i : ℕ) (m m′ : List ℕ) → Fits w E m′ → Moved w E base i m m′
     → Moved w E base (i + 1) m (flagged w E ((base + i) % w) 0 m′)
 moved-more w E base i m m′ fits f =
     let pos = fits .some-width in record {
@@ -84,6 +85,29 @@ moved-more w E base i m m′ fits f =
           (subst (λ k. Window w E (flagged w E ((b + i) % w) 0 m′) k (advance-by (i + 1) S)) next
           (subst (λ S′. Window w E (flagged w E ((b + i) % w) 0 m′) (suc (b + i)) S′) done turn));
     }
+
+-- So far: the window has moved on by `i`, and `oldest` is the row of its oldest position.
+pub record Leaving (w E base i oldest : ℕ) (m m′ : List ℕ) : Type 0 where
+  pub within : oldest < w
+  pub here : oldest ≡ (base + i) % w
+  pub moved : Moved w E base i m m′
+
+pub leaving-none : (w E base : ℕ) (m : List ℕ) → base < w → Leaving w E base 0 base m m
+leaving-none w E base m h = record {
+  within = h;
+  here = sym (ap (λ k. k % w) (add-zero base) ∙ mod-eq-of-lt h);
+  moved = moved-none w E base m;
+}
+
+pub leaving-more : (w E base i oldest next : ℕ) (m m₁ m₂ : List ℕ) → Fits w E m → Leaving w E base i oldest m m₁
+    → m₂ ≡ flagged w E oldest 0 m₁ → (next ≡ (oldest + 1) % w) × (next < w) → Leaving w E base (i + 1) next m m₂
+leaving-more w E base i oldest next m m₁ m₂ fits f e n = record {
+  within = n .1;
+  here = n .0 ∙ ap (λ k. (k + 1) % w) (f .here) ∙ mod-add-mod (base + i) w 1 ∙ ap (λ k. k % w) (add-assoc base i 1);
+  moved =
+      subst (λ x. Moved w E base (i + 1) m x) (ap (λ k. flagged w E k 0 m₁) (sym (f .here)) ∙ sym e)
+      (moved-more w E base i m m₁ (fits-kept fits (f .moved .kept)) (f .moved));
+}
 
 -- Each row has its position in the window.
 pub position : (w b r : ℕ) → r < w → (p : ℕ) × (b ≤ p) × (p < b + w) × (p % w ≡ r)
@@ -164,18 +188,19 @@ pub record Emptying (w E i : ℕ) (m m′ : List ℕ) : Type 0 where
 pub emptying-none : (w E : ℕ) (m : List ℕ) → Emptying w E 0 m m
 emptying-none w E m = record { kept = kept-refl; free = λ q h. absurd (omega arith) }
 
-pub emptying-more : (w E i : ℕ) (m m′ : List ℕ) → Fits w E m → i < w → Emptying w E i m m′ → Emptying w E (i + 1) m (flagged w E i 0 m′)
-emptying-more w E i m m′ fits h f = record {
-  kept = kept-trans (f .kept) (flagged-kept w E i 0 m′ room h);
-  free = λ q l. go q l (ℕ-discrete q i);
-}
+pub emptying-more : (w E i : ℕ) (m m₁ m₂ : List ℕ) → Fits w E m → i < w → Emptying w E i m m₁ → m₂ ≡ flagged w E i 0 m₁ → Emptying w E (i + 1) m m₂
+emptying-more w E i m m₁ m₂ fits h f e =
+    subst (λ x. Emptying w E (i + 1) m x) (sym e) record {
+      kept = kept-trans (f .kept) (flagged-kept w E i 0 m₁ room h);
+      free = λ q l. go q l (ℕ-discrete q i);
+    }
   where
-    room : Fits w E m′
+    room : Fits w E m₁
     room = fits-kept fits (f .kept)
 
-    go : (q : ℕ) → q < i + 1 → Dec (q ≡ i) → flag w E (row w E q (flagged w E i 0 m′)) ≡ 0
-    go q l (yes e) = ap (λ x. flag w E (row w E x (flagged w E i 0 m′))) e ∙ flagged-flag w E i 0 m′ room h
-    go q l (no e) = ap (flag w E) (flagged-rest w E i 0 m′ room h q (omega arith) e) ∙ f .free q (omega arith)
+    go : (q : ℕ) → q < i + 1 → Dec (q ≡ i) → flag w E (row w E q (flagged w E i 0 m₁)) ≡ 0
+    go q l (yes e) = ap (λ x. flag w E (row w E x (flagged w E i 0 m₁))) e ∙ flagged-flag w E i 0 m₁ room h
+    go q l (no e) = ap (flag w E) (flagged-rest w E i 0 m₁ room h q (omega arith) e) ∙ f .free q (omega arith)
 
 pub emptied : (w E i : ℕ) (m m′ : List ℕ) → 0 < w → i ≡ w → Emptying w E i m m′ → Emptied w E m m′
 emptied w E i m m′ pos e f = record { kept = f .kept; free = λ b. window-free w E b m′ pos (λ r l. f .free r (omega arith)) }

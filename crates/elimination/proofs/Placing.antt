@@ -20,11 +20,12 @@ use Rattle.decoder.specs.Bytes.{byte}
 use Rattle.decoder.specs.Table.{Places, add-line}
 use Rattle.decoder.specs.Refine.{add-line-zero}
 use Rattle.elimination.specs.Bytes.{laws}
-use Rattle.elimination.specs.Window.{stride, place, row, flag, inUse, line, table, Flagged, flagged, Fits, Kept}
-use Rattle.elimination.specs.RowSteps.{one-if-known, known-flag, known-flags, Marked, Changed, ClearedRow, Stored, Cleared, Settled}
+use Rattle.elimination.specs.Window.{stride, place, row, flag, inUse, line, table, Flagged, Flags, Fits, Kept}
+use Rattle.elimination.specs.RowSteps.{one-if-known, known-flag, known-flags, Marked, Changed, ClearedRow, Stored, Settled, flagged}
 use Rattle.elimination.proofs.Rows.{row-store, row-other, kept-store, kept-refl, kept-trans, fits-kept}
 use Rattle.elimination.proofs.Lines.{byte-zero, line-add, line-same}
-use Rattle.elimination.proofs.Flags.{flag-at, unused, used, unused-flag, not-known, flagged-flag, flagged-cell, flagged-line, flagged-rest, flagged-kept, flags-changed, count-changed}
+use Rattle.elimination.proofs.Flags.{flag-at, unused, used, unused-flag, not-known, flags-changed, count-changed}
+use Rattle.elimination.proofs.Flags.{flagged-flag, flagged-cell, flagged-line, flagged-rest, flagged-kept}
 use Rattle.elimination.proofs.Moving.{other}
 
 -- A byte of a row whose first bytes have been replaced.
@@ -186,6 +187,16 @@ module _ (w E r q n : ℕ) (l m m₁ m′ : List ℕ) (fits : Fits w E m) (c : r
         let none : known-flag w E m q ≡ 0 = not-known (flag w E (row w E q m)) (was-open d s) in
         (done .flags .0, omega (arith, done .flags .1));
   }
+
+-- The column `r` has been cleared in the rows in use before the row `i`, of which `n` have become known.
+pub record Cleared (w E r i n : ℕ) (l m m′ : List ℕ) : Type 0 where
+  pub kept : Kept w E m m′
+  pub most : n ≤ i
+  pub used : (q : ℕ) → q < w → inUse w E (row w E q m′) ≡ inUse w E (row w E q m)
+  pub sum : (q : ℕ) → q < i → inUse w E (row w E q m) ≡ true
+      → line w E (row w E q m′) ≡ add-line (byte (getD (row w E q m) r 0)) (line w E l) (line w E (row w E q m))
+  pub rest : (q : ℕ) → i ≤ q → q < w → row w E q m′ ≡ row w E q m
+  pub flags : inUse w E (row w E r m) ≡ false → Flags w E m → Flags w E m′ × (n + known-flags w E m ≡ known-flags w E m′)
 
 -- The column is cleared in one row after the other.
 module _ (w E r : ℕ) (l m : List ℕ) where

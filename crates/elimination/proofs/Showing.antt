@@ -27,16 +27,9 @@ use Rattle.elimination.specs.Bytes.{Coded, laws}
 use Rattle.elimination.specs.Window.{stride, place, row, flag, inUse, line, table, Window, Fits}
 use Rattle.elimination.specs.Place.{Known}
 use Rattle.elimination.specs.RowSteps.{one-if-known, known-flag, known-flags}
-use Rattle.elimination.proofs.Lines.{byte-zero, byte-nonzero}
+use Rattle.elimination.proofs.Lines.{else-zero, byte-zero, byte-nonzero}
 use Rattle.elimination.proofs.Flags.{length-row, unused, used, not-known}
 use Rattle.elimination.proofs.Moving.{other, position}
-
-else-zero : (a : ℕ) → (a ≢ 0 → ⊥) → a ≡ 0
-else-zero a h = go (ℕ-discrete a 0)
-  where
-    go : Dec (a ≡ 0) → a ≡ 0
-    go (yes z) = z
-    go (no z) = absurd (h z)
 
 module _ (w E r : ℕ) (m : List ℕ) (fits : Fits w E m) (h : r < w) (f : Bytes m) where
   positive : 0 < E

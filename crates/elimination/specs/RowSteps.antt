@@ -3,16 +3,17 @@
 use mathlib.Core.Path.{_≡_}
 use mathlib.Core.Logic.{_≢_, _↔_}
 use mathlib.Core.Bool.{true, false}
-use mathlib.Core.List.{List}
+use mathlib.Core.List.{List, [], _∷_}
 use Prim.Native.Nat.{ℕ, zero, suc, _+_, _*_, _≤_, _<_}
 use lib.ListN.{length, getD}
+use Rattle.memory.specs.Part.{splice}
 use Rattle.decoder.specs.Bytes.{byte}
 use Rattle.decoder.specs.Model.{State}
 use Rattle.decoder.specs.Chain.{Chain, place-rows}
 use Rattle.decoder.specs.Table.{add-line}
 use Rattle.decoder.specs.Combination.{total}
 use Rattle.elimination.specs.Bytes.{Coded}
-use Rattle.elimination.specs.Window.{stride, place, row, flag, inUse, line, Alone, Flagged, Flags, flagged, Window, Kept}
+use Rattle.elimination.specs.Window.{stride, place, row, flag, inUse, line, Alone, Flagged, Flags, Window, Kept}
 use Rattle.elimination.specs.Packet.{spelled, PivotMarked}
 
 -- The row `r` of `w + 1` begins at `at`.
@@ -37,6 +38,10 @@ known-flag w E m r = one-if-known (flag w E (row w E r m))
 
 abbrev pub known-flags : (w E : ℕ) → List ℕ → ℕ
 known-flags w E m = total (known-flag w E m) w
+
+-- The memory with `v` for the first flag of the row `r`.
+abbrev pub flagged : (w E r v : ℕ) → List ℕ → List ℕ
+flagged w E r v m = splice (place w E r + (w + E)) (v ∷ []) m
 
 -- Whether the row `r` has no coefficient but its own: `n` is 1, else 0.
 pub record Tested (w E r n : ℕ) (m : List ℕ) : Type 0 where
@@ -69,16 +74,6 @@ pub record Stored (w E r n : ℕ) (l m m′ : List ℕ) : Type 0 where
   pub used : inUse w E (row w E r m′) ≡ true
   pub new : line w E (row w E r m′) ≡ line w E l
   pub flags : Flagged w E r (row w E r m′) × (n ≡ known-flag w E m′ r)
-
--- The column `r` has been cleared in the rows in use before the row `i`, of which `n` have become known.
-pub record Cleared (w E r i n : ℕ) (l m m′ : List ℕ) : Type 0 where
-  pub kept : Kept w E m m′
-  pub most : n ≤ i
-  pub used : (q : ℕ) → q < w → inUse w E (row w E q m′) ≡ inUse w E (row w E q m)
-  pub sum : (q : ℕ) → q < i → inUse w E (row w E q m) ≡ true
-      → line w E (row w E q m′) ≡ add-line (byte (getD (row w E q m) r 0)) (line w E l) (line w E (row w E q m))
-  pub rest : (q : ℕ) → i ≤ q → q < w → row w E q m′ ≡ row w E q m
-  pub flags : inUse w E (row w E r m) ≡ false → Flags w E m → Flags w E m′ × (n + known-flags w E m ≡ known-flags w E m′)
 
 -- The working row `l` has become the row `r`, and its column has been cleared in the other rows in use: `n` positions have become known.
 pub record Settled (w E r n : ℕ) (l m m′ : List ℕ) : Type 0 where

@@ -3,12 +3,12 @@
 use mathlib.Core.Path.{_≡_}
 use mathlib.Core.Logic.{_≢_, _↔_}
 use mathlib.Core.Bool.{Bool, true}
-use mathlib.Core.List.{List, [], _∷_}
+use mathlib.Core.List.{List}
 use Prim.Native.Nat.{ℕ, _+_, _*_, _%_, _≤_, _<_}
 use lib.ListN.{length, take, drop, getD}
 use lib.Dec.{ltb}
 use Rattle.field.specs.Gf256.{product, inverse}
-use Rattle.memory.specs.Part.{part, splice}
+use Rattle.memory.specs.Part.{part}
 use Rattle.decoder.specs.Model.{Row, State}
 use Rattle.decoder.specs.Table.{Line, Table, read, view, Echelon}
 use Rattle.decoder.specs.Stretch.{line-of}
@@ -47,7 +47,7 @@ equation w E b l = read (line w E l) w b
 abbrev pub Alone : (w r : ℕ) → List ℕ → Type 0
 Alone w r l = (j : ℕ) → j < w → j ≢ r → getD l j 0 ≡ 0
 
--- Every row's first flag is 2 just where the row is in use and has no other coefficient.
+-- The first flag of the row `r` is 2 just where the row is in use and has no other coefficient; and so it is in every row.
 abbrev pub Flagged : (w E r : ℕ) → List ℕ → Type 0
 Flagged w E r l = (flag w E l ≡ 2) ↔ ((inUse w E l ≡ true) × Alone w r l)
 
@@ -74,7 +74,3 @@ pub record Kept (w E : ℕ) (m m′ : List ℕ) : Type 0 where
   pub header : take 64 m′ ≡ take 64 m
   pub past : drop (place w E w) m′ ≡ drop (place w E w) m
   pub flags : (r k : ℕ) → r < w → w + E < k → k < stride w E → getD m′ (place w E r + k) 0 ≡ getD m (place w E r + k) 0
-
--- The memory with `v` for the first flag of the row `r`.
-abbrev pub flagged : (w E r v : ℕ) → List ℕ → List ℕ
-flagged w E r v m = splice (place w E r + (w + E)) (v ∷ []) m

@@ -1,13 +1,12 @@
 // What changes the window's equations: no rows at all, the window moves on, and a packet's rows join those of the window.
 // And whether a position is known, which its row's first flag says.
 ghost use mathlib.Core.Path.{_≡_};
-ghost use mathlib.Core.Logic.{_↔_};
-ghost use Prim.Native.Nat.{_+_, _<_, _≤_};
+ghost use Prim.Native.Nat.{_+_, _<_};
 ghost use lib.ListN.{length};
-ghost use Rattle.elimination.specs.Window.{flagged, Fits};
+ghost use Rattle.elimination.specs.Window.{Fits};
 ghost use Rattle.elimination.specs.Place.{Emptied, Moved, Known, Committed};
 ghost use Rattle.elimination.specs.Packet.{Works};
-ghost use Rattle.elimination.specs.RowSteps.{Zero-from, Tested, Marked, ClearedRow, Stored, Settled, KeptRow, PlacedKept, Joined};
+ghost use Rattle.elimination.specs.RowSteps.{flagged, Tested, Marked, ClearedRow, Stored, Settled, KeptRow, PlacedKept, Joined};
 use super::Shape;
 use field::Gf256;
 
@@ -44,7 +43,7 @@ pub fn move_on(mem: &mut [u8], shape: Shape, rise: usize)
             return;
         }
         set_flag(mem, shape, oldest, 0);
-        oldest = super::next_row(oldest, w);
+        oldest = super::next(oldest, w);
     }
 }
 
@@ -58,26 +57,14 @@ pub fn is_known(mem: &[u8], shape: Shape, r: usize) -> bool
     mem[at + n] == 2
 }
 
-// The bytes from `from` on and before `to`, or-ed: zero just where all are.
-fn or_all(bytes: &[u8], from: usize, to: usize) -> u8
-    requires { ⌜ (from ≤ to) × (to ≤ length (now bytes)) ⌝ }
-    ensures { λ x. ⌜ (x ≡ 0) ↔ Zero-from from to (now (bytes .entry)) ⌝ }
-{
-    let mut x: u8 = 0;
-    for i in from..to {
-        x = x | bytes[i];
-    }
-    x
-}
-
 // One if the row `r` has no coefficient but its own, else zero.
 fn is_alone(mem: &[u8], shape: Shape, r: usize) -> u8
     requires { ⌜ Fits (shape .width) (shape .size) (now mem) × (r < shape .width) ⌝ }
     ensures { λ n. ⌜ Tested (shape .width) (shape .size) r n (now (mem .entry)) ⌝ }
 {
     let at = super::start_of(shape, r);
-    let before = or_all(mem, at, at + r);
-    let after = or_all(mem, at + (r + 1), at + shape.width);
+    let before = super::or_all(mem, at, at + r);
+    let after = super::or_all(mem, at + (r + 1), at + shape.width);
     if before | after == 0 { 1 } else { 0 }
 }
 

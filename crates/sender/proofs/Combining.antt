@@ -1,185 +1,179 @@
--- Combinations of the window's symbols, and the keys of a packet, one after the other.
+-- The repair symbols of a packet: each combined by slot, and one after the other in the output.
 use mathlib.Core.Path.{_≡_, refl, sym, ap, _∙_}
-use mathlib.Core.Bool.{Bool, true, false, _&&_}
-use Prim.Native.Nat.{ℕ, zero, suc, _+_, _-_, _*_, _%_, _≤_, _<_}
-use native.Mathlib.Nat.{not-suc-le-zero, le-of-suc-le-suc, add-zero, add-mul, one-mul, zero-mul}
+use mathlib.Core.Bool.{Bool, true, false, _||_, not}
+use mathlib.Core.Option.{some}
+use Prim.Native.Nat.{ℕ, zero, suc, _+_, _*_, _%_, _≤_, _<_}
+use native.Mathlib.Nat.{zero-mul, add-mul, one-mul, le-of-suc-le-suc, not-suc-le-zero}
 use native.Mathlib.Numerals.{add-one}
 use native.Mathlib.Omega.{arith}
-use mathlib.Core.List.{List, [], _∷_, _++_, map, append-assoc, append-nil}
-use lib.ListN.{length, take, drop, getD, length-replicate, length-append, length-map, List·getD-map, take-append-drop}
-use lib.Seq.{drop-cons, drop-length, drop-nil, take-suc, take-all}
+use mathlib.Core.List.{List, [], _∷_, _++_, map, append-nil, append-assoc}
+use lib.ListN.{length, take, getD, replicate, length-append, length-map, take-append-drop}
+use lib.Seq.{take-suc, take-all, take-at, drop-at}
 use Rattle.memory.specs.Part.{part, splice}
-use Rattle.memory.proofs.Parts.{part-splice, splice-splice, splice-next}
-use Rattle.rows.specs.Rows.{addScaled}
-use Rattle.rows.proofs.Sums.{length-addScaled}
-use Rattle.coefficients.specs.declared.Scheme.{Scheme}
-use Rattle.coefficients.specs.declared.Filled.{Filled}
-use Rattle.coefficients.specs.Coefficients.{Run, runOf, answerOf, Fills}
-use Rattle.wire.specs.Numbers.{keyAfter}
-use Rattle.wire.specs.Packets.{zeros, joined}
-use Rattle.sender.proofs.Opened.{both}
-use Rattle.sender.specs.Window.{stored}
-use Rattle.sender.specs.Repair.{combination, keys, allDrawn, repairSymbol}
+use Rattle.memory.proofs.Parts.{splice-next, cons-eq}
+use lib.Dec.{ltb}
+use Rattle.wire.specs.declared.Scheme.{Scheme}
+use Rattle.wire.specs.declared.Refusal.the-variants.{Draws}
+use Rattle.wire.specs.Numbers.{within, esiBefore}
+use Rattle.wire.specs.Packets.{Sized, joined, chunks, repairHeader, repairPacket}
+use Rattle.wire.proofs.Adui.{front-next, length-chunks, getD-chunks}
+use Rattle.wire.proofs.Reading.{repair-length}
+use Rattle.wire.proofs.Settings.{both}
+use Rattle.rows.specs.Combination.{coefficient, combination, combined, rowAt}
+use Rattle.rows.proofs.Dot.{dot-same}
+use Rattle.rows.proofs.Combinations.{long-rows, length-combination, combined-sums}
+use Rattle.coefficients.specs.Coefficients.{coefficientsOf, keys, listsOf, allOk}
+use Rattle.coefficients.proofs.Lists.{list-length, length-keys}
+use Rattle.sender.specs.declared.Header.{Header}
+use Rattle.sender.specs.declared.Answer.{Answer}
+use Rattle.sender.specs.declared.Answer.the-variants.{Done, Refused}
+use Rattle.sender.specs.State.{headerIn}
+use Rattle.sender.specs.Calls.{done, repairing}
+use Rattle.sender.specs.Promises.{Promise}
+use Rattle.sender.specs.Repair.{repairSymbol, writtenKey}
+use Rattle.sender.specs.Inner.{firstSlot, windowIn, Laid, symbolsFrom, packetFrom, PacketOr10, Packed}
+use Rattle.sender.proofs.Heads.{Opened, opened}
+use Rattle.sender.proofs.Promising.{promise-refused, promise-done}
+use Rattle.sender.proofs.Repairing.{length-stored, getD-stored, packet-of, repairing-draws, repairing-done}
 
--- ---- a combination
+-- ---- one repair symbol
 
-pub length-combination : (size : ℕ) (cs : List ℕ) (xs : List (List ℕ)) → length (combination size cs xs) ≡ size
-unfolding combination
-length-combination size [] xs = length-replicate size 0
-length-combination size (c ∷ cs) [] = length-replicate size 0
-length-combination size (c ∷ cs) (x ∷ xs) = length-addScaled c (combination size cs xs) x ∙ length-combination size cs xs
+-- coefficients laid by slot combine the slots to what the list combines the window to
+pub symbol-made : (h : Header) (m list cs : List ℕ) → Opened m h → length list ≡ h .held → length cs ≡ h .setting .width → Laid (firstSlot h) list cs
+    → combined (coefficient cs) (rowAt m 32 (h .setting .size) (h .setting .size)) (length cs) (replicate (h .setting .size) 0)
+    ≡ combination (h .setting .size) list (windowIn h m)
+unfolding rowAt
+symbol-made h m list cs o ll lc laid =
+    let e = h .setting .size in
+    let row = rowAt m 32 e e in
+    let lw : length (windowIn h m) ≡ length list = length-stored e (h .setting .width) m (firstSlot h) (h .held) ∙ sym ll in
+    let room : 32 + length cs * e ≤ length m = rw lc (o .room) in
+    let slot : (i j : ℕ) → j < length list → getD (row ((firstSlot h + j) % length cs)) i 0 ≡ getD (getD (windowIn h m) j []) i 0 =
+    λ i j g. rw lc (ap (λ (x : List ℕ). getD x i 0) (sym (getD-stored e (h .setting .width) m (firstSlot h) (h .held) j (rw ll at g)))) in
+    combined-sums e row (coefficient cs) (length cs) (long-rows m 32 e e (length cs) (omega arith) room) list (windowIn h m)
+    (λ i k.
+    laid .sum (λ k. getD (row k) i 0)
+    ∙ rw lw (dot-same (coefficient list) (λ j. getD (row ((firstSlot h + j) % length cs)) i 0) (coefficient list) (λ j. getD (getD (windowIn h m) j []) i 0) (length list) (λ j g. refl) (slot i)))
 
-pub combination-none : (size : ℕ) (cs : List ℕ) (xs : List (List ℕ)) → combination size (drop (length cs) cs) xs ≡ zeros size
-unfolding combination
-combination-none size cs xs = rw (drop-length cs)
-
--- one symbol more, in front
-pub combination-more : (size : ℕ) (cs : List ℕ) (xs : List (List ℕ)) (i : ℕ) → i < length cs → i < length xs
-    → combination size (drop i cs) (drop i xs) ≡ addScaled (getD cs i 0) (combination size (drop (i + 1) cs) (drop (i + 1) xs)) (getD xs i [])
-unfolding combination
-combination-more size cs xs i h k = rw (add-one, drop-cons cs i 0 h, drop-cons xs i [] k)
-
--- a part of the output that is built up in place
-pub built : (at size c : ℕ) (x y out : List ℕ) → length x ≡ size → at + size ≤ length out
-    → splice at (addScaled c (part at size (splice at x out)) y) (splice at x out) ≡ splice at (addScaled c x y) out
-built at size c x y out l h =
-    let e : part at size (splice at x out) ≡ x = rw l at (part-splice at x out (omega arith)) in
-    rw e (splice-splice at (addScaled c x y) x out (length-addScaled c x y) (omega arith))
-
--- ---- the symbols as they stand
-
-pub length-stored : (size width : ℕ) (m : List ℕ) (first n : ℕ) → length (stored size width m first n) ≡ n
-length-stored size width m first zero = refl
-length-stored size width m first (suc n) = ap suc (length-stored size width m (first + 1) n)
-
-pub getD-stored : (size width : ℕ) (m : List ℕ) (first n i : ℕ) → i < n → getD (stored size width m first n) i [] ≡ part (32 + (first + i) % width * size) size m
-getD-stored size width m first zero i h = absurd (not-suc-le-zero h)
-getD-stored size width m first (suc n) zero h = rw (add-zero first)
-getD-stored size width m first (suc n) (suc i) h =
-    let e : first + suc i ≡ first + 1 + i = omega arith in
-    rw e (getD-stored size width m (first + 1) n i (le-of-suc-le-suc h))
-
--- the output's part is cleared, and then symbols are added from the last to the first
-pub combine-start : (at size : ℕ) (row entry out : List ℕ) (xs : List (List ℕ)) → out ≡ splice at (zeros size) entry → at + size ≤ length entry
-    → out ≡ splice at (combination size (drop (length row) row) xs) out
-combine-start at size row entry out xs e h =
-    rw (combination-none size row xs, e) (sym (splice-splice at (zeros size) (zeros size) entry refl (omega arith)))
-
-pub combine-turn : (at size width first : ℕ) (mem row start out : List ℕ) (i j : ℕ) → j ≡ i + 1 → i < length row → at + size ≤ length start
-    → out ≡ splice at (combination size (drop j row) (drop j (stored size width mem first (length row)))) start
-    → splice at (addScaled (getD row i 0) (part at size out) (part (32 + (first + i) % width * size) size mem)) out
-    ≡ splice at (combination size (drop i row) (drop i (stored size width mem first (length row)))) start
-combine-turn at size width first mem row start out i j ej h k e =
-    let xs = stored size width mem first (length row) in
-    let n = length-stored size width mem first (length row) in
-    rw (combination-more size row xs i h (omega arith), getD-stored size width mem first (length row) i h, ← ej, e)
-    (built at size (getD row i 0) (combination size (drop j row) (drop j xs)) _ start (length-combination size _ _) k)
-
-pub combine-end : (at size : ℕ) (x entry start : List ℕ) → length x ≡ size → start ≡ splice at (zeros size) entry → at + size ≤ length entry
-    → splice at x start ≡ splice at x entry
-combine-end at size x entry start l e h = rw e (splice-splice at x (zeros size) entry (l ∙ sym (length-replicate size 0)) (omega arith))
-
--- ---- keys
-
--- the key i after a key
-abbrev pub later : ℕ → ℕ → ℕ
-later zero key = key
-later (suc i) key = keyAfter (later i key)
-
-later-first : (i key : ℕ) → later i (keyAfter key) ≡ later (suc i) key
-later-first zero key = refl
-later-first (suc i) key = ap keyAfter (later-first i key)
-
-pub later-more : (i key : ℕ) → keyAfter (later i key) ≡ later (i + 1) key
-later-more i key = rw (add-one i)
-
-pub length-keys : (key n : ℕ) → length (keys key n) ≡ n
-length-keys key zero = refl
-length-keys key (suc n) = ap suc (length-keys (keyAfter key) n)
-
-pub getD-keys : (key n i : ℕ) → i < n → getD (keys key n) i 0 ≡ later i key
-getD-keys key zero i h = absurd (not-suc-le-zero h)
-getD-keys key (suc n) zero h = refl
-getD-keys key (suc n) (suc i) h = getD-keys (keyAfter key) n i (le-of-suc-le-suc h) ∙ later-first i key
-
-drop-all : (l : List ℕ) (i : ℕ) → length l ≤ i → drop i l ≡ []
-drop-all [] i h = drop-nil i
-drop-all (x ∷ l) zero h = absurd (not-suc-le-zero h)
-drop-all (x ∷ l) (suc i) h = drop-all l i (le-of-suc-le-suc h)
-
--- ---- drawing for a list of keys, one after the other
-
-module _ (scheme : Scheme) (dt n key count : ℕ) where
-  -- what is left to draw after i keys
-  abbrev pub left : ℕ → Bool
-  left i = allDrawn scheme dt n (drop i (keys key count))
-
-  left-cons : (i : ℕ) → i < count → left i ≡ (runOf scheme (later i key) dt n .ok && left (suc i))
-  left-cons i h = rw (drop-cons (keys key count) i 0 (rw (length-keys key count) h), getD-keys key count i h)
-
-  pub drawn-more : (i : ℕ) → i < count → runOf scheme (later i key) dt n .ok ≡ true → left (i + 1) ≡ left i
-  drawn-more i h ok = rw (add-one, left-cons i h, ok)
-
-  pub drawn-refused : (i : ℕ) → i < count → runOf scheme (later i key) dt n .ok ≡ false → false ≡ left i
-  drawn-refused i h ok = rw (left-cons i h, ok)
-
-  pub drawn-all : (i : ℕ) → count ≤ i → left i ≡ true
-  drawn-all i h = rw (drop-all (keys key count) i (rw (length-keys key count) h))
-
-  -- if all are drawn, each is
-  drawn-left : left 0 ≡ true → (i : ℕ) → i ≤ count → left i ≡ true
-  drawn-left all zero h = all
-  drawn-left all (suc i) h = both (runOf scheme (later i key) dt n .ok) (left (suc i)) (sym (left-cons i h) ∙ drawn-left all i (omega arith)) .1
-
-  pub drawn-each : left 0 ≡ true → (i : ℕ) → i < count → runOf scheme (later i key) dt n .ok ≡ true
-  drawn-each all i h = both (runOf scheme (later i key) dt n .ok) (left (suc i)) (sym (left-cons i h) ∙ drawn-left all i (omega arith)) .0
-
--- ---- a repair symbol, and the symbols of a packet
-
-pub fills-ok : {run : Run} {filled : Filled} {out : List ℕ} → Fills run filled out → run .ok ≡ true → out ≡ run .list
-fills-ok f ok = f .bytes (f .answer ∙ ap answerOf ok)
-
-pub symbol-made : (scheme : Scheme) (dt size width first n key : ℕ) (mem row : List ℕ) → row ≡ runOf scheme key dt n .list → length row ≡ n
-    → combination size row (stored size width mem first (length row)) ≡ repairSymbol scheme dt size (stored size width mem first n) key
-unfolding repairSymbol
-symbol-made scheme dt size width first n key mem row e l = rw (length-stored size width mem first n, l, e)
-
-pub length-symbol : (scheme : Scheme) (dt size : ℕ) (window : List (List ℕ)) (key : ℕ) → length (repairSymbol scheme dt size window key) ≡ size
-unfolding repairSymbol
-length-symbol scheme dt size window key = length-combination size _ window
+-- ---- symbols one after the other in the output
 
 joined-more : (xs : List (List ℕ)) (x : List ℕ) → joined (xs ++ (x ∷ [])) ≡ joined xs ++ x
 joined-more [] x = append-nil x
 joined-more (y ∷ xs) x = rw (joined-more xs x, append-assoc)
 
--- the first i symbols of a packet
-abbrev pub firsts : (ℕ → List ℕ) → ℕ → ℕ → ℕ → List ℕ
-firsts f key count i = joined (take i (map f (keys key count)))
+-- the first i symbols stand in the output
+pub record Carried (xs : List (List ℕ)) (size : ℕ) (out : List ℕ) (i : ℕ) (out′ : List ℕ) : Type 0 where
+  pub size-of : length (joined (take i xs)) ≡ i * size
+  pub bytes : out′ ≡ splice 8 (joined (take i xs)) out
 
-firsts-more : (f : ℕ → List ℕ) (key count i : ℕ) → i < count → firsts f key count (i + 1) ≡ firsts f key count i ++ f (later i key)
-firsts-more f key count i h =
-    let k : i < length (map f (keys key count)) = rw (length-map, length-keys key count) h in
-    rw (add-one, take-suc (map f (keys key count)) i (f 0) k, List·getD-map f (keys key count) i 0, getD-keys key count i h, joined-more)
-
--- what stands in the output after i symbols
-pub record Carried (f : ℕ → List ℕ) (size key count : ℕ) (out : List ℕ) (i : ℕ) (out′ : List ℕ) : Type 0 where
-  pub size-of : length (firsts f key count i) ≡ i * size
-  pub bytes : out′ ≡ splice 8 (firsts f key count i) out
-
-module _ (f : ℕ → List ℕ) (size key count : ℕ) (out : List ℕ) where
-  pub carried-none : Carried f size key count out 0 out
+module _ (xs : List (List ℕ)) (size : ℕ) (out : List ℕ) where
+  pub carried-none : Carried xs size out 0 out
   unfolding splice
   carried-none = record { size-of = sym (zero-mul size); bytes = sym (take-append-drop 8 out) }
 
-  pub carried-more : ((key : ℕ) → length (f key) ≡ size) → 8 ≤ length out → (i : ℕ) (out′ : List ℕ) → i < count → Carried f size key count out i out′
-      → Carried f size key count out (i + 1) (splice (8 + i * size) (f (later i key)) out′)
-  carried-more sized room i out′ h k =
-      let l = k .size-of in
+  pub carried-more : (i : ℕ) (out′ : List ℕ) → i < length xs → length (getD xs i []) ≡ size → 8 ≤ length out → Carried xs size out i out′
+      → Carried xs size out (i + 1) (splice (8 + i * size) (getD xs i []) out′)
+  carried-more i out′ h lx room c =
+      let l = c .size-of in
+      let e : joined (take (i + 1) xs) ≡ joined (take i xs) ++ getD xs i [] = rw (add-one, take-suc xs i [] h, joined-more) in
       record {
-        size-of = rw (firsts-more f key count i h) (length-append (firsts f key count i) _ ∙ omega (arith, l, sized (later i key), add-mul i 1 size, one-mul size));
-        bytes = rw (k .bytes, ← l, firsts-more f key count i h) (splice-next 8 (firsts f key count i) (f (later i key)) out (omega arith));
+        size-of = rw e (length-append (joined (take i xs)) (getD xs i []) ∙ omega (arith, l, lx, add-mul i 1 size, one-mul size));
+        bytes = rw (c .bytes, ← l, e) (splice-next 8 (joined (take i xs)) (getD xs i []) out room);
       }
 
-  pub carried-all : (i : ℕ) (out′ : List ℕ) → count ≤ i → Carried f size key count out i out′ → out′ ≡ splice 8 (joined (map f (keys key count))) out
-  carried-all i out′ h k =
-      k .bytes ∙ ap (λ (xs : List (List ℕ)). splice 8 (joined xs) out) (take-all i (map f (keys key count)) (rw (length-map, length-keys key count) h))
+  pub carried-all : (i : ℕ) (out′ : List ℕ) → length xs ≤ i → Carried xs size out i out′ → out′ ≡ splice 8 (joined xs) out
+  carried-all i out′ h c = c .bytes ∙ ap (λ (ys : List (List ℕ)). splice 8 (joined ys) out) (take-all i xs h)
+
+getD-map-in : (f : List ℕ → List ℕ) (l : List (List ℕ)) (i : ℕ) → i < length l → getD (map f l) i [] ≡ f (getD l i [])
+getD-map-in f [] i h = absurd (not-suc-le-zero h)
+getD-map-in f (x ∷ l) zero h = refl
+getD-map-in f (x ∷ l) (suc i) h = getD-map-in f l i (le-of-suc-le-suc h)
+
+module _ (h : Header) (m : List ℕ) (count : ℕ) (lists : List ℕ) where
+  pub length-symbols : length (symbolsFrom h m count lists) ≡ count
+  unfolding symbolsFrom
+  length-symbols = length-map (chunks count (h .held) lists) _ ∙ length-chunks count (h .held) lists
+
+  pub getD-symbols : (i : ℕ) → i < count → getD (symbolsFrom h m count lists) i [] ≡ combination (h .setting .size) (part (i * h .held) (h .held) lists) (windowIn h m)
+  unfolding symbolsFrom
+  getD-symbols i k =
+      getD-map-in (λ (cs : List ℕ). combination (h .setting .size) cs (windowIn h m)) (chunks count (h .held) lists) i (rw (length-chunks count (h .held) lists) k)
+      ∙ ap (λ (cs : List ℕ). combination (h .setting .size) cs (windowIn h m)) (getD-chunks count (h .held) lists i k)
+
+-- ---- the packet
+
+cut-lists : (n : ℕ) (ls : List (List ℕ)) (rest : List ℕ) → Sized n ls → chunks (length ls) n (joined ls ++ rest) ≡ ls
+cut-lists n [] rest s = refl
+cut-lists n (l ∷ ls) rest s =
+    rw (append-assoc l (joined ls) rest, take-at l (joined ls ++ rest) n (s .0), drop-at l (joined ls ++ rest) n (s .0)) (cons-eq refl (cut-lists n ls rest (s .1)))
+
+sized-lists : (scheme : Scheme) (dt n : ℕ) (ks : List ℕ) → allOk scheme dt n ks ≡ true → Sized n (listsOf scheme dt n ks)
+sized-lists scheme dt n [] e = tt
+sized-lists scheme dt n (k ∷ ks) e =
+    let b = both (coefficientsOf scheme k dt n .ok) (allOk scheme dt n ks) e in
+    (list-length scheme k dt n (b .0), sized-lists scheme dt n ks (b .1))
+
+symbols-of : (scheme : Scheme) (dt size : ℕ) (window : List (List ℕ)) (n : ℕ) → length window ≡ n → (ks : List ℕ)
+    → map (λ (cs : List ℕ). combination size cs window) (listsOf scheme dt n ks) ≡ map (repairSymbol scheme dt size window) ks
+unfolding repairSymbol
+symbols-of scheme dt size window n e [] = refl
+symbols-of scheme dt size window n e (k ∷ ks) = cons-eq (rw e) (symbols-of scheme dt size window n e ks)
+
+-- ---- what a call comes to after the lists were drawn
+
+module _ (h : Header) (key dt count : ℕ) (m out : List ℕ) (written : ℕ) (ew : written ≡ writtenKey (h .setting .scheme) key dt) where
+  -- a list was refused
+  pub packed-refused : allOk (h .setting .scheme) dt (h .held) (keys written count) ≡ false → Packed h key dt count m out (Refused Draws) out
+  packed-refused e = rw (← ew, e) (refl, refl)
+
+  -- the header was written, and then the symbols
+  pub packed-done : allOk (h .setting .scheme) dt (h .held) (keys written count) ≡ true → (first : ℕ) (rest lists out₁ out₂ : List ℕ)
+      → first ≡ esiBefore (h .esi .0) (h .held)
+      → lists ≡ joined (listsOf (h .setting .scheme) dt (h .held) (keys written count)) ++ rest
+      → out₁ ≡ splice 0 (repairHeader written dt (h .held) first) out
+      → out₂ ≡ splice 8 (joined (symbolsFrom h m count lists)) out₁
+      → Packed h key dt count m out (Done (8 + count * h .setting .size)) out₂
+  unfolding symbolsFrom packetFrom repairPacket repairHeader
+  packed-done ok first rest lists out₁ out₂ ef el e₁ e₂ =
+      let scheme = h .setting .scheme in
+      let ls = listsOf scheme dt (h .held) (keys written count) in
+      let n : length ls ≡ count = length-map (keys written count) _ ∙ length-keys written count in
+      let c : chunks count (h .held) lists ≡ ls =
+      ap (λ (k : ℕ). chunks k (h .held) lists) (sym n) ∙ rw el (cut-lists (h .held) ls rest (sized-lists scheme dt (h .held) (keys written count) ok)) in
+      let s = symbols-of scheme dt (h .setting .size) (windowIn h m) (h .held) (length-stored _ _ m _ (h .held)) (keys written count) in
+      rw (← ew, ok) (refl, rw (e₂, e₁, c, s, ef) (front-next 8 (repairHeader written dt (h .held) (esiBefore (h .esi .0) (h .held))) _ out refl))
+
+sized-map : (f : ℕ → List ℕ) (size : ℕ) → ((key : ℕ) → length (f key) ≡ size) → (ks : List ℕ) → Sized size (map f ks)
+sized-map f size e [] = tt
+sized-map f size e (k ∷ ks) = (e k, sized-map f size e ks)
+
+length-packet : (h : Header) (m : List ℕ) (key dt count : ℕ) → 0 < h .setting .size → length (packetFrom h m key dt count) ≡ 8 + count * h .setting .size
+unfolding packetFrom repairSymbol
+length-packet h m key dt count z =
+    let f = repairSymbol (h .setting .scheme) dt (h .setting .size) (windowIn h m) in
+    repair-length key dt (h .held) (esiBefore (h .esi .0) (h .held)) (h .setting .size) (map f (keys key count))
+    (sized-map f (h .setting .size) (λ k. length-combination (h .setting .size) _ (windowIn h m)) (keys key count)) z
+    ∙ ap (λ (n : ℕ). 8 + n * h .setting .size) (length-map (keys key count) f ∙ length-keys key count)
+
+-- the promise of a call that passed the checks before the draws
+pub repairs : (h : Header) (key dt count : ℕ) (m out : List ℕ) → headerIn m ≡ some h → (ltb 15 dt || not (within 1 16 count)) ≡ false → (h .held ≡ 0 → ⊥)
+    → 8 + count * h .setting .size ≤ length out → (r : Answer) (out′ : List ℕ) → Packed h key dt count m out r out′
+    → Promise (λ s. repairing s key dt count (length out)) m out r m out′
+repairs h key dt count m out o g n room r out′ p =
+    go (allOk (h .setting .scheme) dt (h .held) (keys (writtenKey (h .setting .scheme) key dt) count)) refl p
+  where
+    go : (b : Bool) → allOk (h .setting .scheme) dt (h .held) (keys (writtenKey (h .setting .scheme) key dt) count) ≡ b
+        → PacketOr10 b h (writtenKey (h .setting .scheme) key dt) dt count m out r out′ → Promise (λ s. repairing s key dt count (length out)) m out r m out′
+    go false e q =
+        rw (q .0, q .1)
+        (promise-refused (λ s. repairing s key dt count (length out)) m out h o Draws (λ z. omega arith) (λ s k i. repairing-draws key dt count (length out) s g h i n room e))
+    go true e q =
+        rw (q .0)
+        (promise-done (λ s. repairing s key dt count (length out)) m out h o (packetFrom h m (writtenKey (h .setting .scheme) key dt) dt count) (8 + count * h .setting .size) m out′
+        (length-packet h m _ dt count (omega (arith, opened m h o .valid .size-least))) room (q .1) refl refl
+        (λ s k i. (
+          s,
+          repairing-done key dt count (length out) s g h i n room e ∙ ap (λ (x : List ℕ). done x s) (sym (rw i (packet-of m s k _ dt count))),
+          k,
+          ap (λ (x : Header). x .setting) i,
+        )))

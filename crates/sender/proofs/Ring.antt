@@ -1,4 +1,4 @@
--- The window's symbols stand at their position modulo the width: what one symbol more does.
+-- The window's symbols stand in the slots of their positions modulo the width: what one symbol more does.
 use mathlib.Core.Path.{_≡_, refl, sym, _∙_}
 use Prim.Native.Nat.{ℕ, _+_, _-_, _*_, _/_, _%_, _≤_, _<_}
 use native.Mathlib.Nat.{mul-le-mul-left, mul-le-mul-right, mul-suc, suc-mul, div-add-mod, mod-lt, mod-add-mod}
@@ -8,10 +8,9 @@ use mathlib.Core.List.{List, [], _∷_, _++_, append-assoc, append-nil}
 use lib.ListN.{length, getD, length-append, List·getD-append}
 use lib.Seq.{getD-append-seam}
 use Rattle.memory.specs.Part.{part, splice}
-use Rattle.memory.proofs.Parts.{length-splice, part-splice, part-before, part-past, past-splice}
-use Rattle.memory.proofs.Fields.{fields-kept}
-use Rattle.sender.specs.State.{layout, header, memorySize, Places}
-use Rattle.sender.specs.Window.{Placed}
+use Rattle.memory.proofs.Parts.{length-splice, take-splice, part-splice, part-before, part-past, past-splice}
+use Rattle.sender.specs.State.{InSlots}
+use Rattle.sender.specs.Inner.{Placed}
 
 -- below or not
 pub below : {P : Type 0} (a b : ℕ) → (a < b → P) → (b ≤ a → P) → P
@@ -21,8 +20,8 @@ below {P} a b f g = go (decLt a b)
     go (yes l) = f l
     go (no n) = g (omega arith)
 
--- two positions less than the width apart have places of their own
-mod-apart : (w p t : ℕ) → p < t → t < p + w → p % w ≡ t % w → ⊥
+-- two positions less than the width apart have slots of their own
+pub mod-apart : (w p t : ℕ) → p < t → t < p + w → p % w ≡ t % w → ⊥
 mod-apart w p t h k e =
     below (p / w) (t / w)
     (λ l. omega (arith, div-add-mod p w, div-add-mod t w, mul-le-mul-left w l, mul-suc w (p / w)))
@@ -33,13 +32,13 @@ before : (e r q : ℕ) → r < q → r * e + e ≤ q * e
 before e r q h = omega (arith, mul-le-mul-right e h, suc-mul r e)
 
 module _ (e w : ℕ) (z : 0 < w) where
-  -- a place lies in the memory
-  pub place-fits : (m : List ℕ) (q : ℕ) → q < w → memorySize e w ≤ length m → 32 + q * e + e ≤ length m
-  place-fits m q l h = omega (arith, before e q w l)
+  -- a slot lies in the memory
+  pub slot-fits : (m : List ℕ) (q : ℕ) → q < w → 32 + w * e ≤ length m → 32 + q * e + e ≤ length m
+  slot-fits m q l h = omega (arith, before e q w l)
 
-  module _ (m : List ℕ) (xs : List (List ℕ)) (x : List ℕ) (lx : length x ≡ e) (room : memorySize e w ≤ length m) (old : Places e w m xs) where
+  module _ (m : List ℕ) (xs : List (List ℕ)) (x : List ℕ) (lx : length x ≡ e) (room : 32 + w * e ≤ length m) (old : InSlots e w m xs) where
     ends : 32 + length xs % w * e + e ≤ length m
-    ends = place-fits m (length xs % w) (mod-lt (length xs) z) room
+    ends = slot-fits m (length xs % w) (mod-lt (length xs) z) room
 
     new : part (32 + length xs % w * e) e (splice (32 + length xs % w * e) x m) ≡ x
     new = rw lx at (part-splice (32 + length xs % w * e) x m (omega (arith, ends)))
@@ -53,8 +52,8 @@ module _ (e w : ℕ) (z : 0 < w) where
         past : length xs % w ≤ p % w → length xs % w < p % w
         past b = below (length xs % w) (p % w) (λ l. l) (λ g. absurd (mod-apart w p (length xs) h k (omega arith)))
 
-    pub places-more : Places e w (splice (32 + length xs % w * e) x m) (xs ++ (x ∷ []))
-    places-more p h k = go (ℕ-discrete p (length xs))
+    pub slots-more : InSlots e w (splice (32 + length xs % w * e) x m) (xs ++ (x ∷ []))
+    slots-more p h k = go (ℕ-discrete p (length xs))
       where
         go : Dec (p ≡ length xs) → part (32 + p % w * e) e (splice (32 + length xs % w * e) x m) ≡ getD (xs ++ (x ∷ [])) p []
         go (yes i) = rw i (new ∙ sym (getD-append-seam xs x [] []))
@@ -64,33 +63,32 @@ module _ (e w : ℕ) (z : 0 < w) where
 
 -- ---- placing symbols one after the other
 
-module _ (e w : ℕ) (m : List ℕ) (place : ℕ) where
-  pub placed-none : place < w → Placed e w m place [] m place
+module _ (e w : ℕ) (m : List ℕ) (first : ℕ) where
+  pub placed-none : first < w → Placed e w m first [] m first
   placed-none h = record {
     same = refl;
     head = refl;
     past = refl;
     within = h;
-    next = λ xs q. rw append-nil q;
-    held = λ xs q old. rw append-nil old;
+    slot = λ xs q. rw append-nil q;
+    slots = λ xs q old. rw append-nil old;
   }
 
-  module _ (new : List (List ℕ)) (m′ : List ℕ) (place′ : ℕ) (before· : Placed e w m place new m′ place′) (x : List ℕ) (lx : length x ≡ e) (room : memorySize e w ≤ length m) where
+  module _ (new : List (List ℕ)) (m′ : List ℕ) (next : ℕ) (p : Placed e w m first new m′ next) (x : List ℕ) (lx : length x ≡ e) (room : 32 + w * e ≤ length m) where
     z : 0 < w
-    z = omega (arith, before· .within)
+    z = omega (arith, p .within)
 
-    fits′ : 32 + place′ * e + e ≤ length m′
-    fits′ = place-fits e w z m′ place′ (before· .within) (omega (arith, before· .same))
+    ends′ : 32 + next * e + e ≤ length m′
+    ends′ = slot-fits e w z m′ next (p .within) (omega (arith, p .same))
 
-    pub placed-more : Placed e w m place (new ++ (x ∷ [])) (splice (32 + place′ * e) x m′) ((place′ + 1) % w)
-    unfolding header
+    pub placed-more : Placed e w m first (new ++ (x ∷ [])) (splice (32 + next * e) x m′) ((next + 1) % w)
     placed-more = record {
-      same = length-splice (32 + place′ * e) x m′ (omega (arith, fits′)) ∙ before· .same;
-      head = fields-kept layout m′ x (32 + place′ * e) (omega arith) (omega (arith, fits′)) ∙ before· .head;
-      past = past-splice (memorySize e w) (32 + place′ * e) x m′ (omega (arith, before e place′ w (before· .within))) (omega (arith, fits′)) ∙ before· .past;
-      within = mod-lt (place′ + 1) z;
-      next = λ xs q. rw (before· .next xs q, mod-add-mod, ← append-assoc xs new (x ∷ []), length-append (xs ++ new) (x ∷ []));
-      held = λ xs q old.
-          rw (← append-assoc xs new (x ∷ []), before· .next xs q)
-          (places-more e w z m′ (xs ++ new) x lx (omega (arith, before· .same)) (before· .held xs q old));
+      same = length-splice (32 + next * e) x m′ (omega (arith, ends′)) ∙ p .same;
+      head = take-splice 32 (32 + next * e) x m′ (omega arith) (omega (arith, ends′)) ∙ p .head;
+      past = past-splice (32 + w * e) (32 + next * e) x m′ (omega (arith, before e next w (p .within))) (omega (arith, ends′)) ∙ p .past;
+      within = mod-lt (next + 1) z;
+      slot = λ xs q. rw (p .slot xs q, mod-add-mod, ← append-assoc xs new (x ∷ []), length-append (xs ++ new) (x ∷ []));
+      slots = λ xs q old.
+          rw (← append-assoc xs new (x ∷ []), p .slot xs q)
+          (slots-more e w z m′ (xs ++ new) x lx (omega (arith, p .same)) (p .slots xs q old));
     }

@@ -1,74 +1,74 @@
--- What a sender holds (document 01, "Packets"; RFC 8681, section 3.3), and how its memory holds it.
+-- What a sender is (document 01, "Packets"; RFC 8681, section 3.3), and how its memory holds it: a header of 32 bytes, then a slot of E bytes for
+-- each symbol of the window.
 use mathlib.Core.Path.{_≡_}
-use mathlib.Core.Bool.{Bool, _&&_}
-use Prim.Native.Nat.{ℕ, _+_, _-_, _*_, _%_, _^_, _≤_, _<_, min}
-use mathlib.Core.List.{List, [], _∷_, _++_}
+use mathlib.Core.Bool.{cond, _&&_}
+use mathlib.Core.Option.{Option, none, some}
+use Prim.Native.Nat.{ℕ, _+_, _-_, _*_, _%_, _^_, _≤_, _<_}
+use mathlib.Core.List.{List, [], _++_}
 use lib.ListN.{length, drop, getD}
-use lib.Dec.{eqb, leb, ltb}
+use lib.Dec.{leb, ltb}
 use Rattle.memory.specs.Part.{part}
-use Rattle.memory.specs.Fields.{fields}
+use Rattle.memory.specs.Number.{number}
+use Rattle.wire.specs.declared.Setting.{Setting}
+use Rattle.wire.specs.Settings.{settingIn}
 use Rattle.wire.specs.Packets.{sourceSymbols}
+use Rattle.sender.specs.declared.Header.{Header}
 
--- a sender: scheme, bytes in a symbol (E), width of the window, and the source symbols of all ADUs that it took, the oldest first
+-- a sender: its setting, and the source symbols of all ADUs that it took, the oldest first
 pub record Sender : Type 0 where
-  pub scheme : ℕ
-  pub size : ℕ
-  pub width : ℕ
+  pub setting : Setting
   pub symbols : List (List ℕ)
 
 -- the position of the window's first symbol: how many symbols have left the window
 abbrev pub windowStart : Sender → ℕ
-windowStart s = length (s .symbols) - s .width
+windowStart s = length (s .symbols) - s .setting .width
 
--- the window: the last `width` symbols, the oldest leaving one by one
+-- the window: the last `width` symbols
 abbrev pub window : Sender → List (List ℕ)
 window s = drop (windowStart s) (s .symbols)
 
-abbrev pub within : ℕ → ℕ → ℕ → Bool
-within low high x = leb low x && leb x high
+-- a sender that took nothing
+abbrev pub fresh : Setting → Sender
+fresh t = record { setting = t; symbols = [] }
 
--- scheme, E and width have their values
-unfoldable pub inRange : ℕ → ℕ → ℕ → Bool
-inRange scheme size width = within 9 10 scheme && (within 4 1500 size && within 1 255 width)
-
--- the memory that a sender needs
-abbrev pub memorySize : ℕ → ℕ → ℕ
-memorySize size width = 32 + width * size
-
--- the sender after taking an ADU: its symbols join those before
+-- the sender after taking an ADU of a flow: its symbols join those before
 abbrev pub taken : Sender → ℕ → List ℕ → Sender
-taken s flow adu = record { scheme = s .scheme; size = s .size; width = s .width; symbols = s .symbols ++ sourceSymbols flow adu (s .size) }
+taken s flow adu = record { setting = s .setting; symbols = s .symbols ++ sourceSymbols flow adu (s .setting .size) }
 
--- ---- the memory: a header, then a place for each symbol of the window, that of position p the (p mod width)th
+-- ---- the memory
 
--- the header's fields: 1, which says that a sender lies here; scheme, E, width; how many symbols the window has;
--- the place of the next symbol; the ESI of the next symbol
-abbrev pub layout : List ℕ
-layout = 2 ∷ 2 ∷ 2 ∷ 2 ∷ 2 ∷ 2 ∷ 4 ∷ []
+-- the bytes of memory that a sender needs
+abbrev pub memorySize : Setting → ℕ
+memorySize t = 32 + t .width * t .size
 
-unfoldable pub header : List ℕ → List ℕ
-header m = fields layout m
+-- the header of a sender of the setting: how many symbols the window has, and the slot and the ESI of the next symbol; none where the memory is
+-- too short for the setting, or the numbers are not of its window
+abbrev pub headerWith : List ℕ → Option Setting → Option Header
+headerWith m none = none
+headerWith m (some t) =
+    cond (leb (memorySize t) (length m) && (leb (number (part 8 2 m)) (t .width) && ltb (number (part 10 2 m)) (t .width)))
+    (some (record { setting = t; held = number (part 8 2 m); next = number (part 10 2 m); esi = record { 0 = number (part 12 4 m) } }))
+    none
 
-abbrev pub field : ℕ → List ℕ → ℕ
-field i m = getD (header m) i 0
+-- the sender's header at the front of a memory; refusal 3 where there is none
+unfoldable pub headerIn : List ℕ → Option Header
+headerIn m = headerWith m (settingIn 1 m)
 
--- the test for refusal 3: a sender's header, on memory that is long enough for it
-unfoldable pub opened : List ℕ → Bool
-opened m =
-    leb 32 (length m)
-    && (eqb (field 0 m) 1
-    && (inRange (field 1 m) (field 2 m) (field 3 m)
-    && (leb (memorySize (field 2 m) (field 3 m)) (length m)
-    && (leb (field 4 m) (field 3 m)
-    && ltb (field 5 m) (field 3 m)))))
+-- the header of a sender
+abbrev pub headerOf : Sender → Header
+headerOf s = record {
+  setting = s .setting;
+  held = length (window s);
+  next = length (s .symbols) % s .setting .width;
+  esi = record { 0 = length (s .symbols) % 2 ^ 32 };
+}
 
--- the symbols of the window stand at their places
-abbrev pub Places : ℕ → ℕ → List ℕ → List (List ℕ) → Type 0
-Places size width m symbols = (p : ℕ) → p < length symbols → length symbols ≤ p + width → part (32 + p % width * size) size m ≡ getD symbols p []
+-- each symbol of the window stands in its slot, that of position p in slot p mod width
+abbrev pub InSlots : ℕ → ℕ → List ℕ → List (List ℕ) → Type 0
+InSlots size width m symbols =
+    (p : ℕ) → p < length symbols → length symbols ≤ p + width → part (32 + p % width * size) size m ≡ getD symbols p []
 
 -- the memory m holds the sender s
 pub record Holds (m : List ℕ) (s : Sender) : Type 0 where
-  pub range : inRange (s .scheme) (s .size) (s .width) ≡ Bool.true
-  pub room : memorySize (s .size) (s .width) ≤ length m
-  pub head : header m ≡ 1 ∷ s .scheme ∷ s .size ∷ s .width ∷ min (length (s .symbols)) (s .width) ∷ length (s .symbols) % s .width ∷ length (s .symbols) % 2 ^ 32 ∷ []
-  pub places : Places (s .size) (s .width) m (s .symbols)
+  pub header : headerIn m ≡ some (headerOf s)
+  pub slots : InSlots (s .setting .size) (s .setting .width) m (s .symbols)

@@ -6,7 +6,7 @@ use mathlib.Core.List.{List}
 use lib.ListN.{length}
 use borrow.Author.Tests.{le-leb, lt-leb, eq-eqb, ne-eqb}
 use Rattle.wire.specs.Numbers.{within}
-use Rattle.wire.specs.Packets.{sourceForm, repairForm, repairCount}
+use Rattle.wire.specs.Packets.{sourceForm, mostRepairs, repairForm, repairCount}
 use Rattle.wire.specs.Headers.{sourceFields, sourceHeaderOf, repairFields, repairHeaderOf}
 use Rattle.wire.specs.declared.Refusal.the-variants.{Form}
 use Rattle.wire.specs.declared.SourceHeader.the-variants.{Source, NoSource}
@@ -25,7 +25,7 @@ module _ (E : ℕ) (p : List ℕ) where
   pub no-repair : repairForm E p ≡ false → NoRepair Form ≡ repairHeaderOf E p
   no-repair h = rw h
 
-  pub no-count : within 1 16 (repairCount E p) ≡ false → repairForm E p ≡ false
+  pub no-count : within 1 mostRepairs (repairCount E p) ≡ false → repairForm E p ≡ false
   unfolding repairForm
   no-count h = rw h
 
@@ -33,16 +33,16 @@ module _ (E : ℕ) (p : List ℕ) where
   pub no-symbols : repairCount E p ≡ 0 → repairForm E p ≡ false
   no-symbols e = no-count (rw e)
 
-  pub uneven : within 1 16 (repairCount E p) ≡ true → (length p ≡ 8 + repairCount E p * E → ⊥) → repairForm E p ≡ false
+  pub uneven : within 1 mostRepairs (repairCount E p) ≡ true → (length p ≡ 8 + repairCount E p * E → ⊥) → repairForm E p ≡ false
   unfolding repairForm
   uneven h n = rw (h, ne-eqb (length p) (8 + repairCount E p * E) n)
 
-  even : within 1 16 (repairCount E p) ≡ true → length p ≡ 8 + repairCount E p * E → repairForm E p ≡ true
+  even : within 1 mostRepairs (repairCount E p) ≡ true → length p ≡ 8 + repairCount E p * E → repairForm E p ≡ true
   unfolding repairForm
   even h n = rw (h, eq-eqb (length p) (8 + repairCount E p * E) n)
 
   pub repair-read : repairForm E p ≡ true → Repair (repairFields E p) ≡ repairHeaderOf E p
   repair-read h = rw h
 
-  pub even-read : within 1 16 (repairCount E p) ≡ true → length p ≡ 8 + repairCount E p * E → Repair (repairFields E p) ≡ repairHeaderOf E p
+  pub even-read : within 1 mostRepairs (repairCount E p) ≡ true → length p ≡ 8 + repairCount E p * E → Repair (repairFields E p) ≡ repairHeaderOf E p
   even-read h n = repair-read (even h n)

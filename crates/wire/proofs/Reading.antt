@@ -13,7 +13,7 @@ use Rattle.memory.specs.Part.{part}
 use Rattle.memory.specs.Number.{number, bytes}
 use Rattle.memory.proofs.Number.{number-bytes}
 use Rattle.wire.specs.Packets.{joined, chunks, Sized, sourcePacket, sourceForm, sourceAdu, sourceEsi, repairHeader, repairPacket}
-use Rattle.wire.specs.Packets.{repairCount, repairForm, repairKey, densityThreshold, protectedCount, firstEsi, repairSymbols}
+use Rattle.wire.specs.Packets.{mostRepairs, repairCount, repairForm, repairKey, densityThreshold, protectedCount, firstEsi, repairSymbols}
 use Rattle.wire.specs.Headers.{sourceHeaderOf, repairHeaderOf}
 use Rattle.wire.specs.declared.SourceHeader.the-variants.{Source}
 use Rattle.wire.specs.declared.RepairHeader.the-variants.{Repair}
@@ -64,7 +64,7 @@ module _ (key dt nss first : ℕ) (E : ℕ) (xs : List (List ℕ)) (s : Sized E 
   pub repair-form : 1 ≤ length xs → length xs ≤ 16 → repairForm E (repairPacket key dt nss first xs) ≡ true
   unfolding repairForm
   repair-form l h =
-      rw (repair-count, le-leb 1 (length xs) l, le-leb (length xs) 16 h)
+      rw (repair-count, le-leb 1 (length xs) l, le-leb (length xs) mostRepairs (omega arith))
       (eq-eqb (length (repairPacket key dt nss first xs)) (8 + length xs * E) repair-length)
 
   pub repair-symbols : repairSymbols E (repairPacket key dt nss first xs) ≡ xs

@@ -68,13 +68,17 @@ repairHeader key dt nss first = bytes 2 key ++ (bytes 2 (dt * 4096 + nss) ++ byt
 unfoldable pub repairPacket : ℕ → ℕ → ℕ → ℕ → List (List ℕ) → List ℕ
 repairPacket key dt nss first symbols = repairHeader key dt nss first ++ joined symbols
 
+-- a repair packet has at most so many repair symbols
+abbrev pub mostRepairs : ℕ
+mostRepairs = 16
+
 -- how many repair symbols of E bytes a repair packet has
 unfoldable pub repairCount : ℕ → List ℕ → ℕ
 repairCount E p = (length p - 8) / E
 
 -- a packet that has the form of a repair packet: a header of 8 bytes and 1 to 16 symbols of E bytes
 unfoldable pub repairForm : ℕ → List ℕ → Bool
-repairForm E p = within 1 16 (repairCount E p) && eqb (length p) (8 + repairCount E p * E)
+repairForm E p = within 1 mostRepairs (repairCount E p) && eqb (length p) (8 + repairCount E p * E)
 
 -- the fields of a repair packet, and its symbols
 unfoldable pub repairKey : List ℕ → ℕ

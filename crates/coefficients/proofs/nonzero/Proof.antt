@@ -6,21 +6,21 @@ use mathlib.Core.List.{List}
 use borrow.Author.Tests.{ne-eqb}
 use native.Mathlib.Omega.{arith}
 use borrow.Author.Needs.{needs}
-use Rattle.coefficients.specs.Coefficients.{found, nonzeroFrom}
+use Rattle.coefficients.specs.Coefficients.{lastZero, found, nonzeroFrom}
 use Rattle.coefficients.proofs.Zeros.{zero-byte, nonzero-byte}
 use Rattle.coefficients.proofs.nonzero.Statement.{statement}
 use Rattle.coefficients.proofs.nonzero.Tie as tie
 
 abbrev Inv-loop : tie.InvT-loop
 Inv-loop before state₀ draws₀ last state draws =
-    (before ≤ draws) × (draws < last) × (nonzeroFrom 16 before state₀ ≡ nonzeroFrom (last - draws) draws state)
+    (before ≤ draws) × (draws < last) × (nonzeroFrom lastZero before state₀ ≡ nonzeroFrom (last - draws) draws state)
 
 abbrev μ-loop : tie.MeasureT-loop
 μ-loop before state₀ draws₀ last state draws = last - draws
 
 loop-holds : tie.Need-loop-holds Inv-loop μ-loop
 loop-holds c =
-    let e : 16 ≡ c .args .before + 16 - c .args .before = omega arith in
+    let e : lastZero ≡ c .args .before + lastZero - c .args .before = omega arith in
     (omega arith, omega arith, ap (λ (n : ℕ). nonzeroFrom n (c .args .before) (c .args .s)) e)
 
 -- a turn's draw gave zero, or the byte
@@ -34,14 +34,14 @@ module _ (p : tie.After-rand256 Inv-loop μ-loop) where
   abbrev state : List ℕ
   state = p .before .before .draw .result .state
 
-  gave-zero : p .rand256 .result ≡ 0 → nonzeroFrom 16 (args .args .before) (args .args .s) ≡ nonzeroFrom (args .args .before + 16 - used) used state
+  gave-zero : p .rand256 .result ≡ 0 → nonzeroFrom lastZero (args .args .before) (args .args .s) ≡ nonzeroFrom (args .args .before + lastZero - used) used state
   gave-zero e =
       p .before .before .before .loop .inv .2 ∙ zero-byte _ _ (omega arith) (p .before .before .draw .ensures) (p .rand256 .ensures) e
 
-  gave-byte : (p .rand256 .result ≡ 0 → ⊥) → nonzeroFrom 16 (args .args .before) (args .args .s) ≡ found (p .rand256 .result) used state
+  gave-byte : (p .rand256 .result ≡ 0 → ⊥) → nonzeroFrom lastZero (args .args .before) (args .args .s) ≡ found (p .rand256 .result) used state
   gave-byte h =
       p .before .before .before .loop .inv .2
-      ∙ nonzero-byte _ _ {n = args .args .before + 16 - used} (omega arith) (p .before .before .draw .ensures) (p .rand256 .ensures) h
+      ∙ nonzero-byte _ _ {n = args .args .before + lastZero - used} (omega arith) (p .before .before .draw .ensures) (p .rand256 .ensures) h
 
 loop-again : tie.Need-loop-again Inv-loop μ-loop
 loop-again c = (omega arith, omega arith, gave-zero (c .before .before) (c .before .if1 .left))
@@ -53,7 +53,7 @@ returns c =
     ⊎-elim
     (λ w. rw (w .1, ne-eqb _ _ (w .0 .taken), gave-byte (c .before) (w .0 .taken)))
     (λ w.
-    let e : p .before .args .before + 16 - (p .loop .draws + 1) ≡ 0 = omega (arith, w .1 .taken) in
+    let e : p .before .args .before + lastZero - (p .loop .draws + 1) ≡ 0 = omega (arith, w .1 .taken) in
     rw (w .2, w .0 .left, gave-zero (c .before) (w .0 .left), e))
     (c .if1 .came)
 

@@ -1,71 +1,63 @@
 -- `sender::add_adu` meets its contract.
-use mathlib.Core.Path.{_≡_, refl, sym, _∙_}
-use mathlib.Core.Bool.{true}
-use Prim.Native.Nat.{_-_}
+use mathlib.Core.Path.{_≡_, ap}
+use mathlib.Core.Option.{some}
 use native.Mathlib.Omega.{arith}
-use borrow.Author.Tests.{not-true, not-false}
-use Rattle.wire.specs.Packets.{symbolCount}
-use Rattle.sender.specs.State.{opened}
-use Rattle.sender.specs.Window.{Fitting}
-use Rattle.sender.proofs.Opened.{is-opened, fitting}
-use Rattle.sender.proofs.Telling.{kept, call-unopened, adds-long, adds-many, adds-short, adds-done}
+use Rattle.wire.proofs.Reading.{source-length}
+use Rattle.sender.specs.declared.Header.{Header}
+use Rattle.sender.specs.State.{headerIn, taken}
+use Rattle.sender.proofs.Heads.{header-is, header-none, Opened, opened}
+use Rattle.sender.proofs.Promising.{kept, promise-unopened, promise-refused, promise-done, adding-long, adding-many, adding-short, adding-done}
 use borrow.Author.Needs.{needs}
 use Rattle.sender.proofs.add_adu.Statement.{statement}
 use Rattle.sender.proofs.add_adu.Tie as tie
 
--- the memory passed the test
-tested : (p : tie.Else1) → opened (p .before .before .before .before .before .before .args .mem .now) ≡ true
-tested p = sym (p .before .is-opened .ensures) ∙ not-false (p .before .is-opened .result) (p .if1 .left)
+-- the header that was read
+abbrev header : tie.After-header → Header
+header p = p .header .given .0 .0
 
--- the header's E and width
-fits : (p : tie.After-field-at2) → Fitting (p .before .before .before .before .before .before .before .before .before .before .before .args .mem .now) (p .before .before .field-at .result) (p .field-at2 .result)
-fits p = fitting _ _ _ (tested (p .before .before .before .before .before)) (p .before .before .field-at .ensures .0) (p .field-at2 .ensures .0)
+has : (p : tie.After-header) → headerIn (p .before .before .before .before .before .before .before .args .mem .now) ≡ some (header p)
+has p = header-is _ (header p) (p .before .before .read-header .ensures) (p .header .given .1)
+
+says : (p : tie.After-header) → Opened (p .before .before .before .before .before .before .before .args .mem .now) (header p)
+says p = opened _ (header p) (has p)
 
 returns : tie.Need-returns
-returns c = call-unopened _ _ _ _ _ _ (sym (c .before .is-opened .ensures) ∙ not-true (c .before .is-opened .result) (c .if1 .taken)) (kept _ _ _)
+returns c = promise-unopened _ _ _ (header-none _ (c .before .before .read-header .ensures) (c .enum-told .given .1)) _ (kept _ _ _)
 
 returns-2 : tie.Need-returns-2
-returns-2 c =
-    let a = c .before .before .before .before .before .before .before .args in
-    adds-long (a .flow) (a .adu .now) (a .mem .now) (a .out .now) _ _ refl refl (tested (c .before)) (c .if2 .taken)
+returns-2 c = let p = c .before .before in promise-refused _ _ _ (header p) (has p) _ (λ e. omega arith) (λ s k q. adding-long _ _ _ s (c .if1 .taken))
 
-field-at-requires : tie.Need-field-at-requires
-field-at-requires c κs = omega (arith, is-opened _ (tested (c .before .before)) .long)
-
-field-at-requires-2 : tie.Need-field-at-requires-2
-field-at-requires-2 c κs = omega (arith, is-opened _ (tested (c .before .before .before .before)) .long)
-
-sub-count : tie.Need-sub-count
-sub-count c = omega (arith, fits c)
-
-div-count : tie.Need-div-count
-div-count c = omega (arith, fits c)
+symbol-count-requires : tie.Need-symbol-count-requires
+symbol-count-requires c κs = let o = says (c .before .before .before) in omega arith
 
 returns-3 : tie.Need-returns-3
-unfolding symbolCount
 returns-3 c =
-    let a = c .before .before .before .before .before .before .before .before .before .before .before .before .args in
-    let f = fits (c .before) in
-    adds-many (a .flow) (a .adu .now) (a .mem .now) (a .out .now) _ _ (f .size-is) (f .width-is) (tested (c .before .before .before .before .before .before)) (c .before .before .before .before .before .if2 .left) (c .if3 .taken)
+    let p = c .before .before .before .before .before .before in
+    let n = c .before .before .symbol-count .ensures in
+    promise-refused _ _ _ (header p) (has p) _ (λ e. omega arith) (λ s k q. adding-many _ _ _ s (header p) q (c .before .before .before .before .if1 .left) (rw n at (c .if2 .taken)))
 
 returns-4 : tie.Need-returns-4
-unfolding symbolCount
 returns-4 c =
-    let a = c .before .before .before .before .before .before .before .before .before .before .before .before .before .args in
-    let f = fits (c .before .before) in
-    adds-short (a .flow) (a .adu .now) (a .mem .now) (a .out .now) _ _ (f .size-is) (f .width-is) (tested (c .before .before .before .before .before .before .before)) (c .before .before .before .before .before .before .if2 .left) (c .before .if3 .left) (c .if4 .taken)
+    let p = c .before .before .before .before .before .before .before in
+    let n = c .before .before .before .symbol-count .ensures in
+    promise-refused _ _ _ (header p) (has p) _ (λ e. omega arith)
+    (λ s k q. adding-short _ _ _ s (header p) q (c .before .before .before .before .before .if1 .left) (rw n at (c .before .if2 .left)) (c .if3 .taken))
 
 take-adu-requires : tie.Need-take-adu-requires
-unfolding symbolCount
-take-adu-requires c κs = (fits (c .before .before .before), omega arith, refl, c .before .before .if3 .left)
+take-adu-requires c κs = (has (c .before .before .before .before .before .before .before .before), c .before .before .before .before .before .before .if1 .left, c .before .before .before .before .symbol-count .ensures, c .before .before .if2 .left)
+
+write-source-requires : tie.Need-write-source-requires
+write-source-requires c κs = c .before .before .before .before .before .if3 .left
 
 returns-5 : tie.Need-returns-5
-unfolding symbolCount
 returns-5 c =
-    let a = c .before .before .before .before .before .before .before .before .before .before .before .before .before .before .before .before .before .before .before .before .before .args in
-    let f = fits (c .before .before .before .before .before .before .before .before .before .before) in
-    adds-done (a .flow) (a .adu .now) (a .mem .now) (a .out .now) _ _ (f .size-is) (f .width-is) (tested (c .before .before .before .before .before .before .before .before .before .before .before .before .before .before .before)) (c .before .before .before .before .before .before .before .before .before .before .before .before .before .before .if2 .left) (c .before .before .before .before .before .before .before .before .before .if3 .left)
-    (c .before .before .before .before .before .before .take-adu .result) (c .before .before .before .before .before .before .take-adu .last .0) (c .before .before .write-source .last .0) (c .before .before .before .before .before .before .before .before .if4 .left) (c .before .before .before .before .before .before .take-adu .ensures) (c .before .before .write-source .ensures)
+    let p = c .before .before .before .before .before .before .before .before .before .before .before .before .before .before .before in
+    let n = c .before .before .before .before .before .before .before .before .before .before .before .symbol-count .ensures in
+    let l = c .before .before .before .before .before .before .before .before .before .before .before .before .before .if1 .left in
+    let room = c .before .before .before .before .before .before .before .before .if3 .left in
+    let t = c .before .before .before .before .before .before .take-adu .ensures in
+    promise-done _ _ _ (header p) (has p) _ _ _ _ (source-length _ _) room (c .before .before .write-source .ensures) (t .same) (t .past)
+    (λ s k q. (taken s _ _, adding-done _ _ _ s (header p) q l (rw n at (c .before .before .before .before .before .before .before .before .before .if2 .left)) room, t .holds s k, ap (λ (x : Header). x .setting) q))
 
 pub add-adu-spec : {M : Type 1} → statement M
 add-adu-spec =
@@ -73,22 +65,19 @@ add-adu-spec =
     (tie.spec
     (λ c κs. search needs)
     (λ c. search needs)
+    (λ c. search needs)
+    (λ c. search needs)
     returns
     (λ c. search needs)
     returns-2
-    field-at-requires
-    field-at-requires-2
-    (λ c. search needs)
-    sub-count
-    (λ c. search needs)
-    div-count
+    symbol-count-requires
     (λ c. search needs)
     returns-3
     (λ c. search needs)
     (λ c. search needs)
     returns-4
     take-adu-requires
-    (λ c κs. search needs)
+    write-source-requires
     (λ c. search needs)
     (λ c. search needs)
     (λ c. search needs)

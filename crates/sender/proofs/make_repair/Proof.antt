@@ -1,135 +1,110 @@
 -- `sender::make_repair` meets its contract.
-use mathlib.Core.Path.{_≡_, sym, ap, _∙_}
+use mathlib.Core.Path.{_≡_, sym, _∙_}
 use mathlib.Core.Bool.{true, false, _||_, not}
+use mathlib.Core.Option.{some}
 use Prim.Native.Nat.{ℕ, _*_, _≤_}
-use native.Mathlib.Omega.{arith}
 use native.Mathlib.Nat.{mul-le-mul}
+use native.Mathlib.Omega.{arith}
 use lib.Dec.{ltb}
 use borrow.Author.Tests.{not-true, not-false, lt-ltb, le-ltb}
-use Rattle.sender.specs.State.{within, field, opened}
-use Rattle.sender.specs.Packed.{Packing}
-use Rattle.sender.specs.Repair.{schemeOf}
-use Rattle.sender.proofs.Opened.{is-opened, in-within, packing}
-use Rattle.sender.proofs.Telling.{kept, call-unopened}
-use Rattle.sender.proofs.Repairing.{makes-range, makes-empty, makes-short, makes-draws, makes-done}
+use Rattle.wire.specs.Numbers.{within}
+use Rattle.wire.proofs.Settings.{within-bounds}
+use Rattle.sender.specs.declared.Header.{Header}
+use Rattle.sender.specs.State.{headerIn}
+use Rattle.sender.proofs.Heads.{header-is, header-none, Opened, opened}
+use Rattle.sender.proofs.Promising.{kept, promise-unopened, promise-refused}
+use Rattle.sender.proofs.Repairing.{repairing-range, repairing-empty, repairing-short}
+use Rattle.sender.proofs.Combining.{repairs}
 use borrow.Author.Needs.{needs}
 use Rattle.sender.proofs.make_repair.Statement.{statement}
 use Rattle.sender.proofs.make_repair.Tie as tie
 
--- the memory passed the test
-tested : (p : tie.Else1) → opened (p .before .before .before .before .args .mem .now) ≡ true
-tested p = sym (p .before .is-opened .ensures) ∙ not-false (p .before .is-opened .result) (p .if1 .left)
+-- the header that was read
+abbrev header : tie.After-header → Header
+header p = p .header .given .0 .0
+
+has : (p : tie.After-header) → headerIn (p .before .before .before .before .before .args .mem .now) ≡ some (header p)
+has p = header-is _ (header p) (p .before .before .read-header .ensures) (p .header .given .1)
+
+says : (p : tie.After-header) → Opened (p .before .before .before .before .before .args .mem .now) (header p)
+says p = opened _ (header p) (has p)
 
 -- DT and count are in range
-within-range : (p : tie.Else3) → within 1 16 (p .before .before .before .before .before .before .before .args .count) ≡ true
-within-range p = sym (p .before .between .ensures) ∙ not-false (p .before .between .result) (p .if3 .left)
+counted : (p : tie.Else2) → within 1 16 (p .before .before .before .before .before .before .before .before .before .args .count) ≡ true
+counted p = sym (p .before .between .ensures) ∙ not-false (p .before .between .result) (p .if2 .left)
 
-ranged : (p : tie.Else3) → (ltb 15 (p .before .before .before .before .before .before .before .args .dt) || not (within 1 16 (p .before .before .before .before .before .before .before .args .count))) ≡ false
-ranged p = rw (le-ltb 15 (p .before .before .before .before .before .before .before .args .dt) (p .before .before .if2 .left), within-range p)
+ranged : (p : tie.Else2) → (ltb 15 (p .before .before .before .before .before .before .before .before .before .args .dt) || not (within 1 16 (p .before .before .before .before .before .before .before .before .before .args .count))) ≡ false
+ranged p = rw (le-ltb 15 (p .before .before .before .before .before .before .before .before .before .args .dt) (p .before .before .if1 .left), counted p)
 
-counted : (p : tie.Else3) → (1 ≤ p .before .before .before .before .before .before .before .args .count) × (p .before .before .before .before .before .before .before .args .count ≤ 16)
-counted p = in-within 1 16 (p .before .before .before .before .before .before .before .args .count) (within-range p)
-
--- the header's E and number of symbols
-fits : (p : tie.After-field-at2) → Packing (p .before .before .before .before .before .before .before .before .before .before .args .mem .now) (p .field-at2 .result) (p .before .before .field-at .result)
-fits p = packing _ _ _ (tested (p .before .before .before .before .before .before)) (p .field-at2 .ensures .0) (p .before .before .field-at .ensures .0)
-
-area : (p : tie.After-field-at2) → p .before .before .before .before .before .before .before .before .before .before .args .count * p .field-at2 .result ≤ 24000
-area p = product (p .before .before .before .before .before .before .before .before .before .before .args .count) (p .field-at2 .result) (counted (p .before .before .before) .1) (fits p .size-most)
+area : (p : tie.Else2) → p .before .before .before .before .before .before .before .before .before .args .count * header (p .before .before .before .before) .setting .size ≤ 24000
+area p =
+    let o = says (p .before .before .before .before) in
+    product (p .before .before .before .before .before .before .before .before .before .args .count) (header (p .before .before .before .before) .setting .size) (within-bounds 1 16 _ (counted p) .1) (o .valid .size-most)
   where
     product : (n e : ℕ) → n ≤ 16 → e ≤ 1500 → n * e ≤ 24000
     product n e h k = mul-le-mul h k
 
-schemes : (p : tie.After-scheme-of) → p .scheme-of .result ≡ schemeOf (field 1 (p .before .before .before .before .before .before .before .before .before .before .before .before .before .args .mem .now))
-schemes p = p .scheme-of .ensures ∙ ap schemeOf (p .before .field-at3 .ensures .0)
-
 returns : tie.Need-returns
-returns c = call-unopened _ _ _ _ _ _ (sym (c .before .is-opened .ensures) ∙ not-true (c .before .is-opened .result) (c .if1 .taken)) (kept _ _ _)
+returns c = promise-unopened _ _ _ (header-none _ (c .before .before .read-header .ensures) (c .enum-told .given .1)) _ (kept _ _ _)
 
 returns-2 : tie.Need-returns-2
 returns-2 c =
-    let a = c .before .before .before .before .before .args in
-    makes-range (a .key .0) (a .dt) (a .count) (a .mem .now) (a .out .now) (tested (c .before)) (rw (lt-ltb 15 (a .dt) (c .if2 .taken)))
+    let p = c .before .before in
+    promise-refused _ _ _ (header p) (has p) _ (λ e. omega arith) (λ s k q. repairing-range _ _ _ _ s (rw (lt-ltb 15 _ (c .if1 .taken))))
 
 returns-3 : tie.Need-returns-3
 returns-3 c =
-    let a = c .before .before .before .before .before .before .before .args in
-    let w = sym (c .before .between .ensures) ∙ not-true (c .before .between .result) (c .if3 .taken) in
-    makes-range (a .key .0) (a .dt) (a .count) (a .mem .now) (a .out .now) (tested (c .before .before .before)) (rw (le-ltb 15 (a .dt) (c .before .before .if2 .left), w))
-
-field-at-requires : tie.Need-field-at-requires
-field-at-requires c κs = omega (arith, is-opened _ (tested (c .before .before .before)) .long)
+    let p = c .before .before .before .before in
+    let a = c .before .before .before .before .before .before .before .before .before .args in
+    let t : within 1 16 (a .count) ≡ false = sym (c .before .between .ensures) ∙ not-true (c .before .between .result) (c .if2 .taken) in
+    promise-refused _ _ _ (header p) (has p) _ (λ e. omega arith) (λ s k q. repairing-range _ _ _ _ s (rw (le-ltb 15 (a .dt) (c .before .before .if1 .left), t)))
 
 returns-4 : tie.Need-returns-4
 returns-4 c =
-    let a = c .before .before .before .before .before .before .before .before .before .args in
-    makes-empty (a .key .0) (a .dt) (a .count) (a .mem .now) (a .out .now) (tested (c .before .before .before .before .before)) (ranged (c .before .before)) _ (c .before .field-at .ensures .0) (c .if4 .taken)
+    let p = c .before .before .before .before .before .before in
+    promise-refused _ _ _ (header p) (has p) _ (λ e. omega arith) (λ s k q. repairing-empty _ _ _ _ s (ranged (c .before .before)) (header p) q (c .if3 .taken))
 
-field-at-requires-2 : tie.Need-field-at-requires-2
-field-at-requires-2 c κs = omega (arith, is-opened _ (tested (c .before .before .before .before .before)) .long)
+mul-if4 : tie.Need-mul-if4
+mul-if4 c = omega (arith, area (c .before .before .before .before))
 
-mul-if5 : tie.Need-mul-if5
-mul-if5 c = omega (arith, area c)
-
-add-if5 : tie.Need-add-if5
-add-if5 c = omega (arith, area c)
+add-if4 : tie.Need-add-if4
+add-if4 c = omega (arith, area (c .before .before .before .before))
 
 returns-5 : tie.Need-returns-5
 returns-5 c =
-    let a = c .before .before .before .before .before .before .before .before .before .before .before .args in
-    makes-short (a .key .0) (a .dt) (a .count) (a .mem .now) (a .out .now) (tested (c .before .before .before .before .before .before .before)) (ranged (c .before .before .before .before)) _ (c .before .before .before .field-at .ensures .0) (c .before .before .if4 .left) _ (c .before .field-at2 .ensures .0) (c .if5 .taken)
+    let p = c .before .before .before .before .before .before .before .before .before in
+    promise-refused _ _ _ (header p) (has p) _ (λ e. omega arith)
+    (λ s k q. repairing-short _ _ _ _ s (ranged (c .before .before .before .before .before)) (header p) q (c .before .before .before .if3 .left) (c .if4 .taken))
 
-field-at-requires-3 : tie.Need-field-at-requires-3
-field-at-requires-3 c κs = omega (arith, is-opened _ (tested (c .before .before .before .before .before .before .before)) .long)
+cast-write-packet : tie.Need-cast-write-packet
+cast-write-packet c = omega (arith, c .before .before .before .before .before .before .before .before .if1 .left)
 
-all-drawn-requires : tie.Need-all-drawn-requires
-all-drawn-requires c κs = omega (arith, fits (c .before .before .before .before))
+write-packet-requires : tie.Need-write-packet-requires
+write-packet-requires c κs =
+    (has (c .before .before .before .before .before .before .before .before .before .before), c .before .if4 .left, c .before .before .before .before .before .before .before .before .if1 .left, within-bounds 1 16 _ (counted (c .before .before .before .before .before .before)) .1)
 
 returns-6 : tie.Need-returns-6
 returns-6 c =
-    let a = c .before .before .before .before .before .before .before .before .before .before .before .before .before .before .before .before .args in
-    makes-draws (a .key .0) (a .dt) (a .count) (a .mem .now) (a .out .now) (tested (c .before .before .before .before .before .before .before .before .before .before .before .before)) (ranged (c .before .before .before .before .before .before .before .before .before)) _ (c .before .before .before .before .before .before .before .before .field-at .ensures .0) (c .before .before .before .before .before .before .before .if4 .left) _ (c .before .before .before .before .before .before .field-at2 .ensures .0) (c .before .before .before .before .before .if5 .left)
-    (c .before .before .before .scheme-of .result) (schemes (c .before .before .before)) (c .before .before .written-key .result .0) (c .before .before .written-key .ensures) (sym (c .before .all-drawn .ensures) ∙ not-true (c .before .all-drawn .result) (c .if6 .taken))
-
-write-packet-requires : tie.Need-write-packet-requires
-write-packet-requires c κs = (fits (c .before .before .before .before .before .before .before), c .before .before .before .before .before .before .if5 .left, c .before .before .before .before .before .before .before .before .before .before .before .before .if2 .left, counted (c .before .before .before .before .before .before .before .before .before .before) .1, sym (c .before .before .all-drawn .ensures) ∙ not-false (c .before .before .all-drawn .result) (c .before .if6 .left))
-
-mul-t16 : tie.Need-mul-t16
-mul-t16 c = omega (arith, area (c .before .before .before .before .before .before .before .before .before .before))
-
-add-t17 : tie.Need-add-t17
-add-t17 c = omega (arith, area (c .before .before .before .before .before .before .before .before .before .before))
-
-returns-7 : tie.Need-returns-7
-returns-7 c =
-    let a = c .before .before .before .before .before .before .before .before .before .before .before .before .before .before .before .before .before .before .before .before .args in
-    makes-done (a .key .0) (a .dt) (a .count) (a .mem .now) (a .out .now) (tested (c .before .before .before .before .before .before .before .before .before .before .before .before .before .before .before .before)) (ranged (c .before .before .before .before .before .before .before .before .before .before .before .before .before)) _ (c .before .before .before .before .before .before .before .before .before .before .before .before .field-at .ensures .0) (c .before .before .before .before .before .before .before .before .before .before .before .if4 .left) _ (c .before .before .before .before .before .before .before .before .before .before .field-at2 .ensures .0) (c .before .before .before .before .before .before .before .before .before .if5 .left)
-    (c .before .before .before .before .before .before .before .scheme-of .result) (schemes (c .before .before .before .before .before .before .before)) (c .before .before .before .before .before .before .written-key .result .0) (c .before .before .before .before .before .before .written-key .ensures) (c .before .before .write-packet .last .0)
-    (sym (c .before .before .before .before .before .all-drawn .ensures) ∙ not-false (c .before .before .before .before .before .all-drawn .result) (c .before .before .before .before .if6 .left)) (c .before .before .write-packet .ensures)
+    let a = c .before .before .before .before .before .before .before .before .before .before .before .before .before .before .before .before .before .before .args in
+    let p = c .before .before .before .before .before .before .before .before .before .before .before .before .before in
+    repairs (header p) (a .key .0) (a .dt) (a .count) (a .mem .now) (a .out .now) (has p) (ranged (c .before .before .before .before .before .before .before .before .before)) (c .before .before .before .before .before .before .before .if3 .left) (c .before .before .before .before .if4 .left) _ _ (c .before .before .write-packet .ensures)
 
 pub make-repair-spec : {M : Type 1} → statement M
 make-repair-spec =
     tie.close
     (tie.spec
     (λ c κs. search needs)
+    (λ c. search needs)
+    (λ c. search needs)
     returns
     returns-2
     (λ c κs. search needs)
     returns-3
-    field-at-requires
     returns-4
-    field-at-requires-2
-    mul-if5
-    add-if5
+    mul-if4
+    add-if4
     returns-5
-    field-at-requires-3
-    (λ c κs. search needs)
-    (λ c κs. search needs)
-    (λ c. search needs)
-    all-drawn-requires
-    returns-6
+    cast-write-packet
     write-packet-requires
-    mul-t16
-    add-t17
     (λ c. search needs)
-    returns-7)
+    returns-6)

@@ -8,7 +8,7 @@ use borrow.Author.Tests.{not-true, not-false}
 use mathlib.Core.List.{List}
 use lib.ListN.{length}
 use Rattle.wire.specs.Numbers.{within}
-use Rattle.wire.specs.Packets.{repairCount, repairKey, densityThreshold, protectedCount, firstEsi}
+use Rattle.wire.specs.Packets.{mostRepairs, repairCount, repairKey, densityThreshold, protectedCount, firstEsi}
 use Rattle.wire.proofs.Headers.{no-repair, no-count, no-symbols, uneven, even-read}
 use borrow.Author.Needs.{needs}
 use Rattle.wire.proofs.read_repair.Statement.{statement}
@@ -41,7 +41,7 @@ module _ (p : tie.Else3) where
   abbrev size : ℕ
   size = p .before .before .before .before .before .args .size
 
-  counted : within 1 16 (repairCount size packet) ≡ true
+  counted : within 1 mostRepairs (repairCount size packet) ≡ true
   unfolding repairCount
   counted = sym (p .before .between .ensures) ∙ not-false (p .before .between .result) (p .if3 .left)
 

@@ -1,8 +1,6 @@
 -- `elimination::place::clear` meets its contract. The loop: the rows before r are not in use.
-use mathlib.Core.Path.{_≡_, refl, sym, subst}
-use Prim.Native.Nat.{_+_, _≤_, _-_}
+use Prim.Native.Nat.{_≤_, _-_}
 use native.Mathlib.Omega.{arith}
-use lib.ListN.{length}
 use Rattle.elimination.proofs.Rows.{fits-kept}
 use Rattle.elimination.proofs.Moving.{Emptying, emptying-none, emptying-more, emptied}
 use borrow.Author.Needs.{needs}
@@ -13,18 +11,18 @@ use Rattle.elimination.proofs.place.clear.Lts as lts
 use Rattle.elimination.proofs.place.set_flag.Reads as set-flag-reads
 
 abbrev Inv-loop : tie.InvT-loop
-Inv-loop mem₀ shape w r₀ mem r = (w ≡ shape .width) × (r ≤ w) × Emptying (shape .width) (shape .size) r mem₀ mem × (length mem ≡ length mem₀)
+Inv-loop mem₀ shape w r₀ mem r = (r ≤ w) × Emptying (shape .width) (shape .size) r mem₀ mem
 
 abbrev μ-loop : tie.MeasureT-loop
 μ-loop mem₀ shape w r₀ mem r = w - r
 
 -- src/place.rt:29:5
 loop-holds : tie.Need-loop-holds Inv-loop μ-loop
-loop-holds c = (search needs, search needs, emptying-none _ _ _, refl)
+loop-holds c = (search needs, emptying-none _ _ _)
 
 -- src/place.rt:30:9
 set-flag-requires : tie.Need-set-flag-requires Inv-loop μ-loop
-set-flag-requires c κs = (fits-kept (c .before .before .before .before .pre) (c .before .before .loop .inv .2 .kept), search needs)
+set-flag-requires c κs = (fits-kept (c .before .before .before .before .pre) (c .before .before .loop .inv .1 .kept), search needs)
 
 -- src/place.rt:29:9
 add-r : tie.Need-add-r Inv-loop μ-loop
@@ -39,22 +37,17 @@ loop-again : tie.Need-loop-again Inv-loop μ-loop
 loop-again c =
     let start = c .before .before .before .before .before .before .before in
     let turn = c .before .before .before .before .before .loop in
-    let a = start .args in
-    let w = a .shape .width in
-    let E = a .shape .size in
-    let more = emptying-more w E (turn .r) (a .mem .now) (turn .mem) (start .pre) (omega arith) (turn .inv .2) in
-    let done = subst (λ m. Emptying w E (turn .r + 1) (a .mem .now) m) (sym (c .before .before .set-flag .ensures)) more in
-    (search needs, search needs, done, done .kept .size)
+    (search needs, emptying-more _ _ (turn .r) _ (turn .mem) _ (start .pre) (omega arith) (turn .inv .1) (c .before .before .set-flag .ensures))
 
 -- src/place.rt:24:1
 same-length : tie.Need-same-length Inv-loop μ-loop
-same-length c = search needs
+same-length c = c .before .loop .inv .1 .kept .size
 
 -- src/place.rt:24:1
 returns : tie.Need-returns Inv-loop μ-loop
 returns c =
     let a = c .before .before .before in
-    emptied _ _ (c .before .loop .r) _ _ (a .pre .some-width) (omega arith) (c .before .loop .inv .2)
+    emptied _ _ (c .before .loop .r) _ _ (a .pre .some-width) (omega arith) (c .before .loop .inv .1)
 
 pub clear-spec : {M : Type 1} → statement M
 clear-spec =

@@ -6,7 +6,7 @@ use Rattle.elimination.proofs.place.is_alone.Statement.{statement}
 use Rattle.elimination.proofs.place.is_alone.Tie as tie
 use Rattle.elimination.proofs.place.is_alone.Reads as reads
 use Rattle.elimination.proofs.place.is_alone.Lts as lts
-use Rattle.elimination.proofs.place.or_all.Reads as or-all-reads
+use Rattle.elimination.proofs.or_all.Reads as or-all-reads
 use Rattle.elimination.proofs.start_of.Reads as start-of-reads
 
 -- src/place.rt:77:9
@@ -52,16 +52,20 @@ returns : tie.Need-returns
 returns c =
     let a = c .before .before .before .before .before .before .args in
     let at = c .before .before .before .before .start-of in
+    let before = c .before .before .before .or-all in
+    let after = c .before .or-all2 in
     tested-alone (a .shape .width) (a .shape .size) (a .r) (a .mem .now) (omega arith) (at .result) (at .ensures .start)
-    (c .before .before .before .or-all .result) (c .before .or-all2 .result) (c .before .before .before .or-all .ensures) (c .before .or-all2 .ensures) (c .if1 .taken)
+    (before .result) (after .result) (before .ensures) (after .ensures) (c .if1 .taken)
 
 -- src/place.rt:73:1
 returns-2 : tie.Need-returns-2
 returns-2 c =
     let a = c .before .before .before .before .before .before .args in
     let at = c .before .before .before .before .start-of in
+    let before = c .before .before .before .or-all in
+    let after = c .before .or-all2 in
     tested-other (a .shape .width) (a .shape .size) (a .r) (a .mem .now) (omega arith) (at .result) (at .ensures .start)
-    (c .before .before .before .or-all .result) (c .before .or-all2 .result) (c .before .before .before .or-all .ensures) (c .before .or-all2 .ensures) (c .if1 .left)
+    (before .result) (after .result) (before .ensures) (after .ensures) (c .if1 .left)
 
 pub is-alone-spec : {M : Type 1} → statement M
 is-alone-spec =

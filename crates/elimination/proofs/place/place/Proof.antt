@@ -1,11 +1,8 @@
 -- `elimination::place::place` meets its contract. The loop: the column is clear in the rows before q, of which count have become known.
-use mathlib.Core.Path.{_≡_, refl}
 use Prim.Native.Nat.{_≤_, _-_}
 use native.Mathlib.Omega.{arith}
-use lib.ListN.{length}
-use Rattle.elimination.specs.RowSteps.{Cleared}
 use Rattle.elimination.proofs.Rows.{fits-kept}
-use Rattle.elimination.proofs.Placing.{cleared-none, cleared-more, settled}
+use Rattle.elimination.proofs.Placing.{Cleared, cleared-none, cleared-more, settled}
 use borrow.Author.Needs.{needs}
 use Rattle.elimination.proofs.place.place.Statement.{statement}
 use Rattle.elimination.proofs.place.place.Tie as tie
@@ -15,7 +12,7 @@ use Rattle.elimination.proofs.place.clear_row.Reads as clear-row-reads
 use Rattle.elimination.proofs.place.store_row.Reads as store-row-reads
 
 abbrev Inv-loop : tie.InvT-loop
-Inv-loop mem₀ row shape r w count₀ q₀ mem count q = (w ≡ shape .width) × (q ≤ w) × (count ≤ q) × Cleared (shape .width) (shape .size) r q count row mem₀ mem × (length mem ≡ length mem₀)
+Inv-loop mem₀ row shape r w count₀ q₀ mem count q = (q ≤ w) × Cleared (shape .width) (shape .size) r q count row mem₀ mem
 
 abbrev μ-loop : tie.MeasureT-loop
 μ-loop mem₀ row shape r w count₀ q₀ mem count q = w - q
@@ -24,12 +21,12 @@ abbrev μ-loop : tie.MeasureT-loop
 loop-holds : tie.Need-loop-holds Inv-loop μ-loop
 loop-holds c =
     let a = c .before .before .args in
-    (search needs, search needs, search needs, cleared-none (a .shape .width) (a .shape .size) (a .r) (a .row .now) (a .mem .now), refl)
+    (search needs, cleared-none (a .shape .width) (a .shape .size) (a .r) (a .row .now) (a .mem .now))
 
 -- src/place.rt:130:18
 clear-row-requires : tie.Need-clear-row-requires Inv-loop μ-loop
 clear-row-requires c κs =
-    (fits-kept (c .before .before .before .before .before .pre .0) (c .before .before .loop .inv .3 .kept), search needs, search needs, search needs)
+    (fits-kept (c .before .before .before .before .before .pre .0) (c .before .before .loop .inv .1 .kept), search needs, search needs, search needs)
 
 -- src/place.rt:130:9
 add-count : tie.Need-add-count Inv-loop μ-loop
@@ -52,13 +49,13 @@ loop-again c =
     let done = c .before .before .clear-row in
     let more =
     cleared-more (a .shape .width) (a .shape .size) (a .r) (a .row .now) (a .mem .now) (turn .q) (turn .count) (done .result) (turn .mem) (done .last .0)
-    (omega arith) (turn .inv .3) (done .ensures) in
-    (search needs, search needs, more .most, more, more .kept .size)
+    (omega arith) (turn .inv .1) (done .ensures) in
+    (search needs, more)
 
 -- src/place.rt:132:13
 store-row-requires : tie.Need-store-row-requires Inv-loop μ-loop
 store-row-requires c κs =
-    (fits-kept (c .before .before .before .before .before .pre .0) (c .before .before .loop .inv .3 .kept), search needs, search needs)
+    (fits-kept (c .before .before .before .before .before .pre .0) (c .before .before .loop .inv .1 .kept), search needs, search needs)
 
 -- src/place.rt:132:5
 add-result : tie.Need-add-result Inv-loop μ-loop
@@ -76,7 +73,7 @@ returns c =
     let end = c .before .before .before .before .before .loop in
     let done = c .before .before .store-row in
     settled (a .shape .width) (a .shape .size) (a .r) (a .row .now) (a .mem .now) (end .q) (end .count) (done .result) (end .mem) (done .last .0)
-    (omega arith) (omega arith) (end .inv .3) (done .ensures)
+    (omega arith) (omega arith) (end .inv .1) (done .ensures)
 
 pub place-spec : {M : Type 1} → statement M
 place-spec =

@@ -1,8 +1,7 @@
 -- `elimination::place::place_all` meets its contract. The loop: the rows before k have joined the system, and total positions have become known.
-use mathlib.Core.Path.{_≡_, refl}
+use mathlib.Core.Path.{_≡_}
 use Prim.Native.Nat.{_≤_, _-_}
 use native.Mathlib.Omega.{arith}
-use lib.ListN.{length}
 use Rattle.elimination.specs.RowSteps.{Joined}
 use Rattle.elimination.proofs.Rows.{fits-kept}
 use Rattle.elimination.proofs.Joining.{joined-none, joined-more, joined-all}
@@ -14,7 +13,7 @@ use Rattle.elimination.proofs.place.place_all.Lts as lts
 use Rattle.elimination.proofs.place.place_kept.Reads as place-kept-reads
 
 abbrev Inv-loop : tie.InvT-loop
-Inv-loop mem₀ work shape kept total₀ k₀ mem total k = (k ≤ kept) × Joined (shape .width) (shape .size) k total work mem₀ mem × (length mem ≡ length mem₀)
+Inv-loop mem₀ work shape kept total₀ k₀ mem total k = (k ≤ kept) × Joined (shape .width) (shape .size) k total work mem₀ mem
 
 abbrev μ-loop : tie.MeasureT-loop
 μ-loop mem₀ work shape kept total₀ k₀ mem total k = kept - k
@@ -23,7 +22,7 @@ abbrev μ-loop : tie.MeasureT-loop
 loop-holds : tie.Need-loop-holds Inv-loop μ-loop
 loop-holds c =
     let a = c .before .before .args in
-    (search needs, joined-none (a .shape .width) (a .shape .size) (a .work .now) (a .mem .now), refl)
+    (search needs, joined-none (a .shape .width) (a .shape .size) (a .work .now) (a .mem .now))
 
 -- src/place.rt:154:18
 place-kept-requires : tie.Need-place-kept-requires Inv-loop μ-loop
@@ -41,8 +40,9 @@ place-kept-requires c κs =
 -- src/place.rt:154:9
 add-total : tie.Need-add-total Inv-loop μ-loop
 add-total c =
+    let start = c .before .before .before .before .before .before .before .before in
     let turn = c .before .before .before .before .before .loop in
-    omega (arith, turn .inv .1 .most, c .before .before .place-kept .ensures .most, c .before .before .before .before .before .before .before .before .pre .1 .within, c .before .before .before .before .before .before .before .before .pre .1 .wide)
+    omega (arith, turn .inv .1 .most, c .before .before .place-kept .ensures .most, start .pre .1 .within, start .pre .1 .wide)
 
 -- src/place.rt:153:9
 add-k : tie.Need-add-k Inv-loop μ-loop
@@ -62,7 +62,7 @@ loop-again c =
     let more =
     joined-more (a .shape .width) (a .shape .size) (turn .k) (turn .total) (done .result) (a .work .now) (a .mem .now) (turn .mem) (done .last .0)
     (start .pre .0) (turn .inv .1) (done .ensures) in
-    (search needs, more, more .kept .size)
+    (search needs, more)
 
 -- src/place.rt:148:1
 same-length : tie.Need-same-length Inv-loop μ-loop

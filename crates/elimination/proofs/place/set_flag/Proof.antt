@@ -35,7 +35,8 @@ returns c =
     let a = c .before .before .before .args in
     let n = a .shape .width + a .shape .size in
     let at = c .before .start-of in
-    set-splice (a .mem .now) (at .result + n) (a .v) (omega (arith, row-end (a .shape .width) (a .shape .size) (a .r) (omega arith))) ∙ ap (λ k. splice (k + n) (a .v ∷ []) (a .mem .now)) (at .ensures .start)
+    let inside = row-end (a .shape .width) (a .shape .size) (a .r) (omega arith) in
+    set-splice (a .mem .now) (at .result + n) (a .v) (omega (arith, inside)) ∙ ap (λ k. splice (k + n) (a .v ∷ []) (a .mem .now)) (at .ensures .start)
 
 pub set-flag-spec : {M : Type 1} → statement M
 set-flag-spec =

@@ -1,57 +1,77 @@
 -- `sender::repair::repair_symbol` meets its contract.
-use mathlib.Core.Path.{_≡_, sym, ap, _∙_}
-use Prim.Native.Nat.{ℕ}
-use mathlib.Core.List.{List, _++_}
+use mathlib.Core.Path.{_≡_, sym, _∙_}
+use native.Mathlib.Nat.{mod-lt}
 use native.Mathlib.Omega.{arith}
+use mathlib.Core.List.{_++_}
 use lib.ListN.{length, take, drop, length-append}
 use lib.Seq.{length-take-le, take-at}
-use Rattle.memory.specs.Part.{splice}
-use Rattle.coefficients.specs.Coefficients.{runOf}
-use Rattle.sender.proofs.Combining.{fills-ok, symbol-made}
+use Rattle.sender.specs.Inner.{Laid, firstSlot}
+use Rattle.sender.proofs.Heads.{Opened, opened}
+use Rattle.sender.proofs.Laying.{zero-front}
+use Rattle.sender.proofs.Combining.{symbol-made}
 use borrow.Author.Needs.{needs}
 use Rattle.sender.proofs.repair.repair_symbol.Statement.{statement}
 use Rattle.sender.proofs.repair.repair_symbol.Tie as tie
 
--- the coefficients were drawn into the first n elements
-short : (p : tie.After-row) → length (take (p .before .before .before .before .args .n) (p .before .blank .result)) ≡ p .before .before .before .before .args .n
-short p = length-take-le _ _ (omega (arith, p .before .before .before .before .pre .1))
+-- what the header says of the memory
+says : (p : tie.Start) → Opened (p .args .mem .now) (p .args .header)
+says p = opened _ _ (p .pre .0)
 
-filled : (p : tie.After-fill) → length (p .fill .last .0) ≡ p .before .before .before .before .before .args .n
-filled p = p .fill .kept .0 ∙ short (p .before)
+-- a coefficient for each slot
+front : (p : tie.After-no-coefficients) → length (take (p .before .before .before .before .before .args .header .setting .width) (p .no-coefficients .result)) ≡ p .before .before .before .before .before .args .header .setting .width
+front p = let o = says (p .before .before .before .before .before) in length-take-le _ _ (omega arith)
 
-lent : (p : tie.After-fill) → take (p .before .before .before .before .before .args .n) (p .fill .last .0 ++ drop (p .before .before .before .before .before .args .n) (p .before .before .blank .result)) ≡ p .fill .last .0
-lent p = take-at (p .fill .last .0) _ _ (filled p)
+filled : (p : tie.After-lay) → length (p .lay .last .0) ≡ p .before .before .before .before .before .before .before .before .args .header .setting .width
+filled p = p .lay .kept .0 ∙ front (p .before .before .before)
 
-drawn : (p : tie.After-fill) → p .fill .last .0 ≡ runOf (p .before .before .before .before .before .args .scheme) (p .before .before .before .before .before .args .key) (p .before .before .before .before .before .args .dt) (p .before .before .before .before .before .args .n) .list
-drawn p = fills-ok (rw (short (p .before)) at (p .fill .ensures)) (p .before .before .before .before .before .pre .2)
+lent : (p : tie.After-lay) → take (p .before .before .before .before .before .before .before .before .args .header .setting .width) (p .lay .last .0 ++ drop (p .before .before .before .before .before .before .before .before .args .header .setting .width) (p .before .before .before .no-coefficients .result)) ≡ p .lay .last .0
+lent p = take-at (p .lay .last .0) _ _ (filled p)
 
-slice-aggregate-fill : tie.Need-slice-aggregate-fill
-slice-aggregate-fill c = sym (length-take-le _ _ (omega (arith, c .before .before .before .before .pre .1)))
+array-borrow-prefix-cs : tie.Need-array-borrow-prefix-cs
+array-borrow-prefix-cs c = let o = says (c .before .before .before .before .before) in omega arith
 
-array-share-prefix-row : tie.Need-array-share-prefix-row
-array-share-prefix-row c = rw length-append (omega (arith, filled (c .before .before)))
+slice-aggregate-lay : tie.Need-slice-aggregate-lay
+slice-aggregate-lay c = sym (front (c .before))
+
+first-slot-requires : tie.Need-first-slot-requires
+first-slot-requires c κs = let o = says (c .before .before .before .before .before .before) in (o .held, o .next, o .valid .width-most)
+
+lay-requires : tie.Need-lay-requires
+lay-requires c κs =
+    let s = c .before .before .before .before .before .before .before in
+    let o = says s in
+    let l = front (c .before .before) in
+    (rw (l, c .first-slot .ensures) (mod-lt _ (omega arith)), rw (l, s .pre .2) (o .held), rw l (o .valid .width-most), zero-front (s .args .header .setting .width) (c .before .before .no-coefficients .result) (c .before .before .no-coefficients .ensures .1))
+
+array-share-prefix-cs : tie.Need-array-share-prefix-cs
+array-share-prefix-cs c = rw length-append (omega (arith, filled (c .before .before)))
 
 slice-aggregate-combine : tie.Need-slice-aggregate-combine
 slice-aggregate-combine c = rw (lent (c .before .before .before)) (sym (filled (c .before .before .before)))
 
 combine-requires : tie.Need-combine-requires
-combine-requires c κs = (omega arith, rw (lent (c .before .before .before), filled (c .before .before .before)) (c .before .before .before .before .before .before .before .before .pre .1))
+combine-requires c κs = let o = says (c .before .before .before .before .before .before .before .before .before .before .before) in (omega arith, rw (lent (c .before .before .before), filled (c .before .before .before)) (o .room))
 
 returns : tie.Need-returns
 returns c =
-    let a = c .before .before .before .before .before .before .before .before .before .before .before .args in
-    let e = rw (lent (c .before .before .before .before .before .before)) at (c .before .before .combine .ensures) in
-    e ∙ ap (λ (x : List ℕ). splice (a .at) x (a .out .now)) (symbol-made (a .scheme) (a .dt) (a .size) (a .width) (a .first) (a .n) (a .key) (a .mem .now) _ (drawn (c .before .before .before .before .before .before)) (filled (c .before .before .before .before .before .before)))
+    let s = c .before .before .before .before .before .before .before .before .before .before .before .before .before .before in
+    let a = s .args in
+    let p = c .before .before .before .before .before .before in
+    let cs = p .lay .last .0 in
+    let laid : Laid (firstSlot (a .header)) (a .list .now) cs = rw (c .before .before .before .before .before .before .before .first-slot .ensures) at (p .lay .ensures) in
+    let e = rw (lent p, s .pre .1) at (c .before .before .combine .ensures) in
+    e ∙ symbol-made (a .header) (a .mem .now) (a .list .now) cs (says s) (s .pre .2) (filled p) laid
 
 pub repair-symbol-spec : {M : Type 1} → statement M
 repair-symbol-spec =
     tie.close
     (tie.spec
     (λ c κs. search needs)
-    (λ c. search needs)
-    slice-aggregate-fill
-    (λ c κs. search needs)
-    array-share-prefix-row
+    array-borrow-prefix-cs
+    slice-aggregate-lay
+    first-slot-requires
+    lay-requires
+    array-share-prefix-cs
     slice-aggregate-combine
     combine-requires
     (λ c. search needs)

@@ -1,60 +1,83 @@
 -- `sender::repair::repair_symbols` meets its contract.
-use mathlib.Core.Path.{_≡_, refl, ap, _∙_}
+use mathlib.Core.Path.{_≡_, refl, sym, ap, _∙_}
 use Prim.Native.Nat.{ℕ, _+_, _-_, _*_, _≤_}
 use native.Mathlib.Omega.{arith}
-use mathlib.Core.Bool.{true}
-use lib.ListN.{length}
-use Rattle.coefficients.specs.Coefficients.{runOf}
+use mathlib.Core.List.{List, []}
+use lib.ListN.{length, getD}
 use Rattle.memory.specs.Part.{splice}
-use Rattle.wire.specs.Numbers.{keyAfter}
-use Rattle.wire.proofs.Adui.{fits}
-use Rattle.sender.specs.Window.{stored}
-use Rattle.sender.specs.Repair.{repairSymbol}
-use Rattle.sender.proofs.Combining.{later, later-more, drawn-each, length-symbol, Carried, carried-none, carried-more, carried-all}
-use borrow.Author.Needs.{needs}
+use Rattle.memory.proofs.Parts.{cut, put, length-part, length-splice, row-fits}
+use Rattle.sender.specs.Inner.{windowIn, symbolsFrom}
+use Rattle.sender.proofs.Combining.{Carried, carried-none, carried-more, carried-all, length-symbols, getD-symbols}
+use Rattle.rows.proofs.Combinations.{length-combination}
 use Rattle.sender.proofs.repair.repair_symbols.Statement.{statement}
 use Rattle.sender.proofs.repair.repair_symbols.Tie as tie
 
 abbrev Inv-loop : tie.InvT-loop
-Inv-loop out₀ mem size width first n scheme dt count key₀ i₀ out key i = (i ≤ count) × (length out ≡ length out₀) × (key .0 ≡ later i (key₀ .0)) × Carried (repairSymbol scheme dt size (stored size width mem first n)) size (key₀ .0) count out₀ i out
+Inv-loop out₀ mem header lists count size held i₀ out i =
+    (i ≤ count) × (length out ≡ length out₀) × Carried (symbolsFrom header mem count lists) size out₀ i out
 
 abbrev μ-loop : tie.MeasureT-loop
-μ-loop out₀ mem size width first n scheme dt count key₀ i₀ out key i = count - i
+μ-loop out₀ mem header lists count size held i₀ out i = count - i
 
--- symbol i lies in the output, and its coefficients can be drawn
-inside : (p : tie.In-loop Inv-loop μ-loop) → 8 + p .before .loop .i * p .before .before .before .before .args .size + p .before .before .before .before .args .size ≤ length (p .before .before .before .before .args .out .now)
-inside p =
-    let a = p .before .before .before .before .args in
-    omega (arith, fits (a .count) (a .size) (p .before .loop .i) (p .loop-test .taken), p .before .before .before .before .pre .0)
+-- symbol i lies in the output, and its coefficients in the lists
+inside : (p : tie.In-loop Inv-loop μ-loop) → 8 + p .before .loop .i * p .before .before .before .before .before .args .header .setting .size + p .before .before .before .before .before .args .header .setting .size ≤ length (p .before .loop .out)
+inside p = let a = p .before .before .before .before .before .args in omega (arith, row-fits (a .count) (a .header .setting .size) (p .before .loop .i) (p .loop-test .taken), p .before .before .before .before .before .pre .1, p .before .loop .inv .1)
 
-drawn : (p : tie.In-loop Inv-loop μ-loop) → runOf (p .before .before .before .before .args .scheme) (p .before .loop .key .0) (p .before .before .before .before .args .dt) (p .before .before .before .before .args .n) .ok ≡ true
-drawn p =
-    let a = p .before .before .before .before .args in
-    let l = p .before .loop in
-    ap (λ (k : ℕ). runOf (a .scheme) k (a .dt) (a .n) .ok) (l .inv .2) ∙ drawn-each (a .scheme) (a .dt) (a .n) (a .start .0) (a .count) (p .before .before .before .before .pre .3) (l .i) (p .loop-test .taken)
+within : (p : tie.In-loop Inv-loop μ-loop) → p .before .loop .i * p .before .before .before .before .before .args .header .held + p .before .before .before .before .before .args .header .held ≤ length (p .before .before .before .before .before .args .lists .now)
+within p = let a = p .before .before .before .before .before .args in omega (arith, row-fits (a .count) (a .header .held) (p .before .loop .i) (p .loop-test .taken), p .before .before .before .before .before .pre .2)
 
 loop-holds : tie.Need-loop-holds Inv-loop μ-loop
-loop-holds c = (omega arith, refl, refl, carried-none _ _ _ _ _)
+loop-holds c = (omega arith, refl, carried-none _ _ _)
 
-mul-repair-symbol : tie.Need-mul-repair-symbol Inv-loop μ-loop
-mul-repair-symbol c = omega (arith, inside (c .before))
+mul-at : tie.Need-mul-at Inv-loop μ-loop
+mul-at c = omega (arith, inside c)
+
+add-at : tie.Need-add-at Inv-loop μ-loop
+add-at c = omega (arith, inside c)
+
+mul-from : tie.Need-mul-from Inv-loop μ-loop
+mul-from c = omega (arith, within c)
 
 add-repair-symbol : tie.Need-add-repair-symbol Inv-loop μ-loop
-add-repair-symbol c = omega (arith, inside (c .before))
+add-repair-symbol c = omega (arith, inside c)
+
+part-repair-symbol-end : tie.Need-part-repair-symbol-end Inv-loop μ-loop
+part-repair-symbol-end c = omega (arith, inside c)
+
+add-repair-symbol-2 : tie.Need-add-repair-symbol-2 Inv-loop μ-loop
+add-repair-symbol-2 c = omega (arith, within (c .before))
+
+part-repair-symbol-end-2 : tie.Need-part-repair-symbol-end-2 Inv-loop μ-loop
+part-repair-symbol-end-2 c = omega (arith, within (c .before))
 
 repair-symbol-requires : tie.Need-repair-symbol-requires Inv-loop μ-loop
-repair-symbol-requires c κs = (omega (arith, inside (c .before), c .before .before .loop .inv .1), c .before .before .before .before .before .pre .1, drawn (c .before))
+repair-symbol-requires c κs =
+    let a = c .before .before .before .before .before .before .before .args in
+    let l = c .before .before .before .loop in
+    let size = a .header .setting .size in
+    let held = a .header .held in (
+      c .before .before .before .before .before .before .before .pre .0,
+      rw (cut (8 + l .i * size) size (l .out)) (length-part (8 + l .i * size) size (l .out) (inside (c .before .before))),
+      rw (cut (l .i * held) held (a .lists .now)) (length-part (l .i * held) held (a .lists .now) (within (c .before .before))),
+    )
 
 loop-again : tie.Need-loop-again Inv-loop μ-loop
 loop-again c =
-    let a = c .before .before .before .before .before .before .before .before .before .args in
+    let a = c .before .before .before .before .before .before .before .before .before .before .args in
     let l = c .before .before .before .before .before .before .loop in
-    let f = repairSymbol (a .scheme) (a .dt) (a .size) (stored (a .size) (a .width) (a .mem .now) (a .first) (a .n)) in
-    let e : c .before .before .before .repair-symbol .last .0 ≡ splice (8 + l .i * a .size) (f (later (l .i) (a .start .0))) (l .out) = (c .before .before .before .repair-symbol .ensures) ∙ ap (λ (k : ℕ). splice (8 + l .i * a .size) (f k) (l .out)) (l .inv .2) in (
+    let h = a .header in
+    let size = h .setting .size in
+    let p = c .before .before .before .before .before in
+    let r = c .before .before .repair-symbol in
+    let xs = symbolsFrom h (a .mem .now) (a .count) (a .lists .now) in
+    let k = p .loop-test .taken in
+    let g = getD-symbols h (a .mem .now) (a .count) (a .lists .now) (l .i) k in
+    let x : r .last .0 ≡ getD xs (l .i) [] = rw (cut (l .i * h .held) (h .held) (a .lists .now)) at (r .ensures) ∙ sym g in
+    let e = put (8 + l .i * size) size (r .last .0) (l .out) (inside p) (r .kept .0) ∙ ap (λ (y : List ℕ). splice (8 + l .i * size) y (l .out)) x in
+    let n : length (getD xs (l .i) []) ≡ size = rw g (length-combination size _ (windowIn h (a .mem .now))) in (
       omega arith,
-      c .before .before .before .repair-symbol .kept .0 ∙ l .inv .1,
-      c .next .ensures ∙ ap keyAfter (l .inv .2) ∙ later-more (l .i) (a .start .0),
-      rw e (carried-more f (a .size) (a .start .0) (a .count) (a .out .now) (length-symbol (a .scheme) (a .dt) (a .size) _) (omega arith) (l .i) (l .out) (c .before .before .before .before .before .loop-test .taken) (l .inv .3)),
+      ap length e ∙ length-splice (8 + l .i * size) (getD xs (l .i) []) (l .out) (omega (arith, inside p, n)) ∙ l .inv .1,
+      rw e (carried-more xs size (a .out .now) (l .i) (l .out) (rw (length-symbols h (a .mem .now) (a .count) (a .lists .now)) k) n (omega arith) (l .inv .2)),
     )
 
 same-length : tie.Need-same-length Inv-loop μ-loop
@@ -62,9 +85,10 @@ same-length c = c .before .loop .inv .1
 
 returns : tie.Need-returns Inv-loop μ-loop
 returns c =
-    let a = c .before .before .before .before .args in
+    let a = c .before .before .before .before .before .args in
     let l = c .before .loop in
-    carried-all (repairSymbol (a .scheme) (a .dt) (a .size) (stored (a .size) (a .width) (a .mem .now) (a .first) (a .n))) (a .size) (a .start .0) (a .count) (a .out .now) (l .i) (l .out) (omega arith) (l .inv .3)
+    carried-all (symbolsFrom (a .header) (a .mem .now) (a .count) (a .lists .now)) (a .header .setting .size) (a .out .now) (l .i) (l .out)
+    (rw (length-symbols (a .header) (a .mem .now) (a .count) (a .lists .now)) (omega arith)) (l .inv .2)
 
 pub repair-symbols-spec : {M : Type 1} → statement M
 repair-symbols-spec =
@@ -73,10 +97,18 @@ repair-symbols-spec =
     Inv-loop
     μ-loop
     loop-holds
-    mul-repair-symbol
+    mul-at
+    add-at
+    mul-from
     add-repair-symbol
+    (λ c. omega arith)
+    (λ c. omega arith)
+    part-repair-symbol-end
+    add-repair-symbol-2
+    (λ c. omega arith)
+    (λ c. omega arith)
+    part-repair-symbol-end-2
     repair-symbol-requires
-    (λ c κs. search needs)
     (λ c. omega arith)
     (λ c. omega arith)
     loop-again

@@ -1,0 +1,189 @@
+-- The header of a sender: what reading it finds, what refusal 3 stands for, and what writing it leaves.
+use mathlib.Core.Path.{_≡_, refl, sym, ap, _∙_}
+use mathlib.Core.Bool.{Bool, true, false, _&&_}
+use mathlib.Core.Option.{Option, none, some, Option·none-ne-some, Option·some-injective}
+use Prim.Native.Nat.{ℕ, _+_, _*_, _^_, _≤_, _<_}
+use native.Mathlib.Nat.{zero-add, mul-le-mul}
+use native.Mathlib.Omega.{arith}
+use mathlib.Core.List.{List, _++_}
+use lib.ListN.{length, take, length-take}
+use lib.Seq.{take-take}
+use lib.Dec.{leb, ltb}
+use borrow.Author.Tests.{le-leb, lt-leb, lt-ltb, le-ltb, leb-true, ltb-true}
+use Rattle.memory.specs.Part.{part, splice}
+use Rattle.memory.specs.Number.{number, bytes}
+use Rattle.memory.proofs.Number.{number-bytes}
+use Rattle.memory.proofs.Parts.{length-splice, take-splice, part-within, part-part, splice-next}
+use Rattle.wire.specs.declared.Setting.{Setting}
+use Rattle.wire.specs.Packets.{zeros}
+use Rattle.wire.specs.declared.Checked.{Checked}
+use Rattle.wire.specs.declared.Checked.the-variants.{Good, Bad}
+use Rattle.wire.specs.Settings.{settingIn, Valid, checkedOf}
+use Rattle.wire.proofs.Settings.{setting-found, setting-kept, zeros-none, one-kind}
+use Rattle.sender.specs.declared.Header.{Header}
+use Rattle.sender.specs.State.{Sender, memorySize, headerWith, headerIn, headerOf, Holds}
+use Rattle.sender.specs.declared.Found.{Found}
+use Rattle.sender.specs.declared.Found.the-variants.{HeaderIs, NoHeader}
+use Rattle.sender.specs.Inner.{foundOf, countBytes}
+
+-- ---- what an answer that was told apart says
+
+pub setting-good : (o : Option Setting) (t : Setting) {r : Checked} → r ≡ checkedOf o → r ≡ Good t → o ≡ some t
+setting-good none t e f = cc
+setting-good (some x) t e f = cc
+
+pub setting-bad : (o : Option Setting) {r : Checked} → r ≡ checkedOf o → r ≡ Bad → o ≡ none
+setting-bad none e f = refl
+setting-bad (some x) e f = cc
+
+pub header-is : (o : Option Header) (h : Header) {r : Found} → r ≡ foundOf o → r ≡ HeaderIs h → o ≡ some h
+header-is none h e f = cc
+header-is (some x) h e f = cc
+
+pub header-none : (o : Option Header) {r : Found} → r ≡ foundOf o → r ≡ NoHeader → o ≡ none
+header-none none e f = refl
+header-none (some x) e f = cc
+
+both : (a b : Bool) → (a && b) ≡ true → (a ≡ true) × (b ≡ true)
+both true b e = (refl, e)
+both false b e = (e, cc)
+
+-- ---- reading
+
+-- the header's numbers, of a memory with a setting
+abbrev pub numbers : Setting → List ℕ → Header
+numbers t m = record { setting = t; held = number (part 8 2 m); next = number (part 10 2 m); esi = record { 0 = number (part 12 4 m) } }
+
+-- what a header that was found says of the memory
+pub record Opened (m : List ℕ) (h : Header) : Type 0 where
+  pub setting : settingIn 1 m ≡ some (h .setting)
+  pub is : numbers (h .setting) m ≡ h
+  pub valid : Valid (h .setting)
+  pub room : memorySize (h .setting) ≤ length m
+  pub held : h .held ≤ h .setting .width
+  pub next : h .next < h .setting .width
+
+module _ (m : List ℕ) (t : Setting) (e : settingIn 1 m ≡ some t) where
+  pub found : memorySize t ≤ length m → number (part 8 2 m) ≤ t .width → number (part 10 2 m) < t .width → headerIn m ≡ some (numbers t m)
+  unfolding headerIn
+  found a b c = rw (e, le-leb (memorySize t) (length m) a, le-leb (number (part 8 2 m)) (t .width) b, lt-ltb (number (part 10 2 m)) (t .width) c)
+
+  pub none-short : length m < memorySize t → headerIn m ≡ none
+  unfolding headerIn
+  none-short a = rw (e, lt-leb (memorySize t) (length m) a)
+
+  pub none-held : memorySize t ≤ length m → t .width < number (part 8 2 m) → headerIn m ≡ none
+  unfolding headerIn
+  none-held a b = rw (e, le-leb (memorySize t) (length m) a, lt-leb (number (part 8 2 m)) (t .width) b)
+
+  pub none-next : memorySize t ≤ length m → number (part 8 2 m) ≤ t .width → t .width ≤ number (part 10 2 m) → headerIn m ≡ none
+  unfolding headerIn
+  none-next a b c = rw (e, le-leb (memorySize t) (length m) a, le-leb (number (part 8 2 m)) (t .width) b, le-ltb (number (part 10 2 m)) (t .width) c)
+
+pub none-setting : (m : List ℕ) → settingIn 1 m ≡ none → headerIn m ≡ none
+unfolding headerIn
+none-setting m e = rw e
+
+opened-with : (m : List ℕ) (h : Header) (o : Option Setting) → settingIn 1 m ≡ o → headerWith m o ≡ some h → Opened m h
+opened-with m h none s e = absurd (Option·none-ne-some h e)
+opened-with m h (some t) s e = go (leb (memorySize t) (length m) && (leb (number (part 8 2 m)) (t .width) && ltb (number (part 10 2 m)) (t .width))) refl
+  where
+    go : (b : Bool) → (leb (memorySize t) (length m) && (leb (number (part 8 2 m)) (t .width) && ltb (number (part 10 2 m)) (t .width))) ≡ b → Opened m h
+    go false f = absurd (Option·none-ne-some h (rw f at e))
+    go true f =
+        let p = both (leb (memorySize t) (length m)) _ f in
+        let q = both (leb (number (part 8 2 m)) (t .width)) _ (p .1) in
+        let i : numbers t m ≡ h = Option·some-injective _ h (rw f at e) in
+        rw (← i)
+        (record {
+          setting = s;
+          is = refl;
+          valid = setting-found 1 m t s .named .valid;
+          room = leb-true (memorySize t) (length m) (p .0);
+          held = leb-true (number (part 8 2 m)) (t .width) (q .0);
+          next = ltb-true (number (part 10 2 m)) (t .width) (q .1);
+        })
+
+pub opened : (m : List ℕ) (h : Header) → headerIn m ≡ some h → Opened m h
+unfolding headerIn
+opened m h e = opened-with m h (settingIn 1 m) refl e
+
+-- ---- what refusal 3 stands for
+
+-- memory that holds a sender has its header
+pub holds-header : (m : List ℕ) (s : Sender) → Holds m s → headerIn m ≡ some (headerOf s)
+holds-header m s h = h .header
+
+-- all-zero memory
+pub zeros-unopened : (n : ℕ) → headerIn (zeros n) ≡ none
+zeros-unopened n = none-setting (zeros n) (zeros-none 1 n (omega arith))
+
+-- memory with the header of another kind of end, as a receiver's, which is 2
+pub other-unopened : (kind : ℕ) (m : List ℕ) (t : Setting) → (kind ≡ 1 → ⊥) → settingIn kind m ≡ some t → headerIn m ≡ none
+other-unopened kind m t h e = none-setting m (one-kind kind 1 m t h e)
+
+-- memory of a sender cut shorter than opening asked
+pub short-unopened : (m : List ℕ) (s : Sender) (n : ℕ) → Holds m s → n < memorySize (s .setting) → headerIn (take n m) ≡ none
+short-unopened m s n h l = go (settingIn 1 (take n m)) refl
+  where
+    go : (o : Option Setting) → settingIn 1 (take n m) ≡ o → headerIn (take n m) ≡ none
+    go none e = none-setting (take n m) e
+    go (some t) e =
+        let c : length (take n m) ≤ n = simp length-take (omega arith) in
+        let long = setting-found 1 (take n m) t e .long in
+        let f : settingIn 1 (take n m) ≡ settingIn 1 m = setting-kept 1 (take n m) m (take-take 8 n m (omega arith)) in
+        let i : t ≡ s .setting = Option·some-injective t (s .setting) (sym e ∙ f ∙ opened m (headerOf s) (h .header) .setting) in
+        none-short (take n m) t e (rw i (omega arith))
+
+-- ---- writing
+
+part-head : (a n : ℕ) (m m′ : List ℕ) → a + n ≤ 32 → take 32 m ≡ take 32 m′ → part a n m ≡ part a n m′
+unfolding part
+part-head a n m m′ h e =
+    let f : (l : List ℕ) → part a n (take 32 l) ≡ part a n l = λ l. rw zero-add at (part-part 0 32 a n l h) in
+    sym (f m) ∙ ap (part a n) e ∙ f m′
+
+-- the header is in the first 32 bytes
+pub header-kept : (m m′ : List ℕ) (h : Header) → take 32 m′ ≡ take 32 m → length m′ ≡ length m → headerIn m ≡ some h → headerIn m′ ≡ some h
+header-kept m m′ h e l o =
+    let a = opened m h o in
+    let s : settingIn 1 m′ ≡ settingIn 1 m = setting-kept 1 m′ m (sym (take-take 8 32 m′ (omega arith)) ∙ ap (take 8) e ∙ take-take 8 32 m (omega arith)) in
+    let x = part-head 8 2 m′ m (omega arith) e in
+    let y = part-head 10 2 m′ m (omega arith) e in
+    let i : numbers (h .setting) m′ ≡ h = rw (x, y, part-head 12 4 m′ m (omega arith) e) (a .is) in
+    let held : number (part 8 2 m′) ≡ h .held = ap (λ (k : Header). k .held) i in
+    let next : number (part 10 2 m′) ≡ h .next = ap (λ (k : Header). k .next) i in
+    found m′ (h .setting) (s ∙ a .setting) (rw l (a .room)) (rw held (a .held)) (rw next (a .next)) ∙ ap some i
+
+module _ (held next esi : ℕ) where
+  -- stores of the numbers one after the other
+  pub counts-chain : {m₁ m₂ m₃ : List ℕ} (m : List ℕ) → 8 ≤ length m → m₁ ≡ splice 8 (bytes 2 held) m → m₂ ≡ splice 10 (bytes 2 next) m₁ → m₃ ≡ splice 12 (bytes 4 esi) m₂
+      → m₃ ≡ splice 8 (countBytes held next esi) m
+  counts-chain m h e₁ e₂ e₃ = rw (e₃, e₂, e₁, splice-next 8 (bytes 2 held) (bytes 2 next) m h, splice-next 8 (bytes 2 held ++ bytes 2 next) (bytes 4 esi) m h)
+
+  counts-held : held < 2 ^ 16 → number (part 0 2 (countBytes held next esi)) ≡ held
+  unfolding part
+  counts-held h = number-bytes 2 held h
+
+  counts-next : next < 2 ^ 16 → number (part 2 2 (countBytes held next esi)) ≡ next
+  unfolding part
+  counts-next h = number-bytes 2 next h
+
+  counts-esi : esi < 2 ^ 32 → number (part 4 4 (countBytes held next esi)) ≡ esi
+  unfolding part
+  counts-esi h = number-bytes 4 esi h
+
+-- the numbers of the header that change were written
+pub counts-written : (m : List ℕ) (t : Setting) (held next esi : ℕ) → settingIn 1 m ≡ some t → Valid t → memorySize t ≤ length m → held ≤ t .width → next < t .width → esi < 2 ^ 32
+    → headerIn (splice 8 (countBytes held next esi) m) ≡ some (record { setting = t; held = held; next = next; esi = record { 0 = esi } })
+counts-written m t held next esi e v room a b c =
+    let m′ = splice 8 (countBytes held next esi) m in
+    let s : settingIn 1 m′ ≡ some t = setting-kept 1 m′ m (take-splice 8 8 (countBytes held next esi) m (omega arith) (omega arith)) ∙ e in
+    let x : number (part 8 2 m′) ≡ held = ap number (part-within 8 0 2 (countBytes held next esi) m (omega arith) (omega arith)) ∙ counts-held held next esi (omega arith) in
+    let y : number (part 10 2 m′) ≡ next = ap number (part-within 8 2 2 (countBytes held next esi) m (omega arith) (omega arith)) ∙ counts-next held next esi (omega arith) in
+    let z : number (part 12 4 m′) ≡ esi = ap number (part-within 8 4 4 (countBytes held next esi) m (omega arith) (omega arith)) ∙ counts-esi held next esi c in
+    rw (x, y, z) at (found m′ t s (rw (length-splice 8 (countBytes held next esi) m (omega arith)) room) (rw x a) (rw y b))
+
+-- the slots of a window fit a usize
+pub area : (w e : ℕ) → w ≤ 255 → e ≤ 1500 → w * e ≤ 382500
+area w e h k = mul-le-mul h k

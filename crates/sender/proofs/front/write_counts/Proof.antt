@@ -1,0 +1,16 @@
+-- `sender::front::write_counts` meets its contract.
+use native.Mathlib.Omega.{arith}
+use Rattle.sender.proofs.Heads.{counts-chain}
+use borrow.Author.Needs.{needs}
+use Rattle.sender.proofs.front.write_counts.Statement.{statement}
+use Rattle.sender.proofs.front.write_counts.Tie as tie
+
+returns : tie.Need-returns
+returns c =
+    let a = c .before .before .before .before .before .before .before .before .before .before .before .before .before .args in
+    counts-chain (a .held) (a .next) (a .esi .0) (a .mem .now) (omega arith) (c .before .before .before .before .before .before .before .before .before .before .store-u16 .ensures) (c .before .before .before .before .before .before .store-u162 .ensures) (c .before .before .store-u32 .ensures)
+
+pub write-counts-spec : {M : Type 1} → statement M
+write-counts-spec =
+    tie.close
+    (tie.spec (λ c. search needs) (λ c κs. search needs) (λ c. search needs) (λ c κs. search needs) (λ c κs. search needs) (λ c. search needs) returns)

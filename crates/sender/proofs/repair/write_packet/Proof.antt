@@ -1,0 +1,90 @@
+-- `sender::repair::write_packet` meets its contract.
+use mathlib.Core.Path.{_∙_}
+use Prim.Native.Nat.{ℕ, _*_, _≤_}
+use native.Mathlib.Nat.{mul-le-mul}
+use native.Mathlib.Omega.{arith}
+use Rattle.coefficients.proofs.Fills.{lists-were-done, lists-were-refused}
+use Rattle.sender.proofs.Heads.{Opened, opened}
+use Rattle.sender.proofs.Combining.{packed-refused, packed-done}
+use borrow.Author.Needs.{needs}
+use Rattle.sender.proofs.repair.write_packet.Statement.{statement}
+use Rattle.sender.proofs.repair.write_packet.Tie as tie
+
+-- what the header says of the memory
+says : (p : tie.Start) → Opened (p .args .mem .now) (p .args .header)
+says p = opened _ _ (p .pre .0)
+
+-- the lists fit the room for them
+fits : (p : tie.Start) → p .args .count * p .args .header .held ≤ 4080
+fits p = let o = says p in product (p .args .count) (p .args .header .held) (omega arith) (omega arith)
+  where
+    product : (a b : ℕ) → a ≤ 16 → b ≤ 255 → a * b ≤ 4080
+    product a b h k = mul-le-mul h k
+
+-- and the packet's length a usize
+area : (p : tie.Start) → p .args .count * p .args .header .setting .size ≤ 24000
+area p = let o = says p in product (p .args .count) (p .args .header .setting .size) (omega arith) (omega arith)
+  where
+    product : (a b : ℕ) → a ≤ 16 → b ≤ 1500 → a * b ≤ 24000
+    product a b h k = mul-le-mul h k
+
+fill-lists-requires : tie.Need-fill-lists-requires
+fill-lists-requires c κs =
+    let s = c .before .before .before .before .before .before .before in
+    let o = says s in
+    (omega (arith, fits s, c .before .room-for-lists .ensures), omega arith, omega arith)
+
+returns : tie.Need-returns
+returns c =
+    let a = c .before .before .before .before .before .before .before .before .before .before .before .args in
+    packed-refused (a .header) (a .key .0) (a .dt) (a .count) (a .mem .now) (a .out .now) _ (c .before .before .before .before .before .before .written-key .ensures) (lists-were-refused (c .before .before .before .fill-lists .ensures) (c .enum-told2 .given .1))
+
+cast-minus : tie.Need-cast-minus
+cast-minus c = let o = says (c .before .before .before .before .before .before .before .before .before .before .before .before) in omega arith
+
+write-repair-requires : tie.Need-write-repair-requires
+write-repair-requires c κs = let o = says (c .before .before .before .before .before .before .before .before .before .before .before .before .before) in omega arith
+
+repair-symbols-requires : tie.Need-repair-symbols-requires
+repair-symbols-requires c κs =
+    let s = c .before .before .before .before .before .before .before .before .before .before .before .before .before .before .before .before .before .before in
+    let l = c .before .before .before .before .before .before .before .before .before .before .fill-lists .kept .0 in
+    (s .pre .0, omega (arith, c .before .before .before .before .write-repair .kept .0), omega (arith, l, fits s, c .before .before .before .before .before .before .before .before .before .before .before .before .room-for-lists .ensures), omega arith)
+
+mul-t27 : tie.Need-mul-t27
+mul-t27 c = omega (arith, area (c .before .before .before .before .before .before .before .before .before .before .before .before .before .before .before .before .before .before .before .before .before .before))
+
+add-t28 : tie.Need-add-t28
+add-t28 c = omega (arith, area (c .before .before .before .before .before .before .before .before .before .before .before .before .before .before .before .before .before .before .before .before .before .before))
+
+same-length : tie.Need-same-length
+same-length c = c .before .before .before .repair-symbols .kept .0 ∙ c .before .before .before .before .before .before .before .before .write-repair .kept .0
+
+returns-2 : tie.Need-returns-2
+returns-2 c =
+    let a = c .before .before .before .before .before .before .before .before .before .before .before .before .before .before .before .before .before .before .before .before .before .before .args in
+    let f = c .before .before .before .before .before .before .before .before .before .before .before .before .before .before .fill-lists .ensures in
+    let d = c .before .before .before .before .before .before .before .before .before .before .before .enum-told .given .1 in
+    packed-done (a .header) (a .key .0) (a .dt) (a .count) (a .mem .now) (a .out .now) _ (c .before .before .before .before .before .before .before .before .before .before .before .before .before .before .before .before .before .written-key .ensures) (lists-were-done f d) _ _ _ _ _
+    (c .before .before .before .before .before .before .before .before .before .minus .ensures) (f .bytes d) (c .before .before .before .before .before .before .before .before .write-repair .ensures) (c .before .before .before .repair-symbols .ensures)
+
+pub write-packet-spec : {M : Type 1} → statement M
+write-packet-spec =
+    tie.close
+    (tie.spec
+    (λ c κs. search needs)
+    (λ c κs. search needs)
+    (λ c. search needs)
+    fill-lists-requires
+    (λ c. search needs)
+    (λ c. search needs)
+    returns
+    cast-minus
+    (λ c κs. search needs)
+    write-repair-requires
+    (λ c. search needs)
+    repair-symbols-requires
+    mul-t27
+    add-t28
+    same-length
+    returns-2)

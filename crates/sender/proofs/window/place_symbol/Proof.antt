@@ -1,0 +1,35 @@
+-- `sender::window::place_symbol` meets its contract.
+use mathlib.Core.Path.{_≡_, ap, _∙_}
+use Prim.Native.Nat.{ℕ, _+_, _-_}
+use mathlib.Core.List.{List}
+use native.Mathlib.Omega.{arith}
+use lib.ListN.{length, take, drop}
+use Rattle.memory.specs.Part.{splice}
+use Rattle.memory.proofs.Parts.{cut, put, length-part}
+use borrow.Author.Needs.{needs}
+use Rattle.sender.proofs.window.place_symbol.Statement.{statement}
+use Rattle.sender.proofs.window.place_symbol.Tie as tie
+
+lent : (p : tie.Start) → length (take (p .args .a + p .args .size - p .args .a) (drop (p .args .a) (p .args .mem .now))) ≡ p .args .size
+lent p = rw (cut (p .args .a) (p .args .size) (p .args .mem .now)) (length-part (p .args .a) (p .args .size) (p .args .mem .now) (omega arith))
+
+write-symbol-requires : tie.Need-write-symbol-requires
+write-symbol-requires c κs = rw (lent (c .before .before .before)) (search needs)
+
+returns : tie.Need-returns
+returns c =
+    let a = c .before .before .before .before .before .before .args in
+    put (a .a) (a .size) (c .before .before .write-symbol .last .0) (a .mem .now) (omega arith) (c .before .before .write-symbol .kept .0)
+    ∙ ap (λ (x : List ℕ). splice (a .a) x (a .mem .now)) (rw (lent (c .before .before .before .before .before .before)) at (c .before .before .write-symbol .ensures))
+
+pub place-symbol-spec : {M : Type 1} → statement M
+place-symbol-spec =
+    tie.close
+    (tie.spec
+    (λ c. search needs)
+    (λ c. search needs)
+    (λ c. search needs)
+    (λ c. search needs)
+    write-symbol-requires
+    (λ c. search needs)
+    returns)

@@ -1,0 +1,87 @@
+-- `sender::window::place_symbols` meets its contract.
+use mathlib.Core.Path.{_≡_, sym, ap, _∙_}
+use Prim.Native.Nat.{ℕ, _+_, _-_, _*_, _≤_, _<_}
+use native.Mathlib.Omega.{arith}
+use native.Mathlib.Numerals.{add-one}
+use mathlib.Core.List.{List, []}
+use lib.ListN.{length, take, getD}
+use lib.Seq.{take-suc, take-all}
+use Rattle.wire.specs.Packets.{symbolCount, sourceSymbols}
+use Rattle.wire.proofs.Adui.{symbols-count, symbol-at, symbol-length}
+use Rattle.memory.specs.Part.{splice}
+use Rattle.sender.specs.Inner.{Placed}
+use Rattle.sender.proofs.Heads.{area}
+use Rattle.sender.proofs.Ring.{slot-fits, placed-none, placed-more}
+use Rattle.sender.proofs.window.place_symbols.Statement.{statement}
+use Rattle.sender.proofs.window.place_symbols.Tie as tie
+
+abbrev Inv-loop : tie.InvT-loop
+Inv-loop mem₀ first flow adu count size width slot₀ i₀ mem slot i = (i ≤ count) × Placed size width mem₀ first (take i (sourceSymbols flow adu size)) mem slot
+
+abbrev μ-loop : tie.MeasureT-loop
+μ-loop mem₀ first flow adu count size width slot₀ i₀ mem slot i = count - i
+
+-- the next slot lies in the memory
+bound : (p : tie.At-loop Inv-loop μ-loop) → p .loop .slot * p .before .before .before .args .setting .size ≤ 382500
+bound p = area (p .loop .slot) (p .before .before .before .args .setting .size) (omega (arith, p .loop .inv .1 .within)) (omega arith)
+
+inside : (p : tie.At-loop Inv-loop μ-loop) → 32 + p .loop .slot * p .before .before .before .args .setting .size + p .before .before .before .args .setting .size ≤ length (p .loop .mem)
+inside p =
+    let t = p .before .before .before .args .setting in
+    slot-fits (t .size) (t .width) (omega arith) (p .loop .mem) (p .loop .slot) (p .loop .inv .1 .within) (omega (arith, p .loop .inv .1 .same))
+
+loop-holds : tie.Need-loop-holds Inv-loop μ-loop
+loop-holds c = (omega arith, placed-none _ _ _ _ (omega arith))
+
+mul-place-symbol : tie.Need-mul-place-symbol Inv-loop μ-loop
+mul-place-symbol c = omega (arith, bound (c .before .before))
+
+add-place-symbol : tie.Need-add-place-symbol Inv-loop μ-loop
+add-place-symbol c = omega (arith, bound (c .before .before))
+
+place-symbol-requires : tie.Need-place-symbol-requires Inv-loop μ-loop
+place-symbol-requires c κs = omega (arith, inside (c .before .before))
+
+next-slot-requires : tie.Need-next-slot-requires Inv-loop μ-loop
+next-slot-requires c κs = omega (arith, c .before .before .before .before .before .loop .inv .1 .within)
+
+loop-again : tie.Need-loop-again Inv-loop μ-loop
+loop-again c =
+    let a = c .before .before .before .before .before .before .before .before .before .args in
+    let t = a .setting in
+    let l = c .before .before .before .before .before .before .loop in
+    let s = sourceSymbols (a .flow) (a .adu .now) (t .size) in
+    let h : l .i < symbolCount (t .size) (length (a .adu .now)) = omega arith in
+    let k : l .i < length s = rw (symbols-count (a .flow) (a .adu .now) (t .size)) h in
+    let x = getD s (l .i) [] in
+    let more = placed-more (t .size) (t .width) (a .mem .now) (a .first) (take (l .i) s) (l .mem) (l .slot) (l .inv .1) x (symbol-length (a .flow) (a .adu .now) (t .size) (omega arith) (l .i) h) (omega arith) in
+    let e : c .before .before .before .place-symbol .last .0 ≡ splice (32 + l .slot * t .size) x (l .mem) =
+    (c .before .before .before .place-symbol .ensures) ∙ ap (λ (y : List ℕ). splice (32 + l .slot * t .size) y (l .mem)) (sym (symbol-at (a .flow) (a .adu .now) (t .size) (l .i) h)) in
+    (omega arith, rw (add-one, take-suc s (l .i) [] k, e, c .next-slot .ensures) more)
+
+same-length : tie.Need-same-length Inv-loop μ-loop
+same-length c = c .before .loop .inv .1 .same
+
+returns : tie.Need-returns Inv-loop μ-loop
+returns c =
+    let a = c .before .before .before .before .args in
+    let l = c .before .loop in
+    let s = sourceSymbols (a .flow) (a .adu .now) (a .setting .size) in
+    rw (take-all (l .i) s (omega (arith, symbols-count (a .flow) (a .adu .now) (a .setting .size)))) at (l .inv .1)
+
+pub place-symbols-spec : {M : Type 1} → statement M
+place-symbols-spec =
+    tie.close
+    (tie.spec
+    Inv-loop
+    μ-loop
+    loop-holds
+    mul-place-symbol
+    add-place-symbol
+    place-symbol-requires
+    next-slot-requires
+    (λ c. omega arith)
+    (λ c. omega arith)
+    loop-again
+    same-length
+    returns)

@@ -1,0 +1,53 @@
+-- `sender::window::take_adu` meets its contract.
+use mathlib.Core.Path.{_∙_}
+use native.Mathlib.Omega.{arith}
+use Rattle.sender.proofs.Heads.{Opened, opened}
+use Rattle.sender.proofs.Taking.{took}
+use borrow.Author.Needs.{needs}
+use Rattle.sender.proofs.window.take_adu.Statement.{statement}
+use Rattle.sender.proofs.window.take_adu.Tie as tie
+
+-- what the header says of the memory
+says : (p : tie.Start) → Opened (p .args .mem .now) (p .args .header)
+says p = opened (p .args .mem .now) (p .args .header) (p .pre .0)
+
+place-symbols-requires : tie.Need-place-symbols-requires
+place-symbols-requires c κs =
+    let o = says (c .before .before .before .before) in
+    (o .valid, o .room, o .next, search needs, search needs)
+
+add-smaller : tie.Need-add-smaller
+add-smaller c = let o = says (c .before .before .before .before .before .before .before .before) in omega arith
+
+cast-plus : tie.Need-cast-plus
+cast-plus c = let o = says (c .before .before .before .before .before .before .before .before .before .before .before) in omega arith
+
+write-counts-requires : tie.Need-write-counts-requires
+write-counts-requires c κs =
+    let o = says (c .before .before .before .before .before .before .before .before .before .before .before .before) in
+    let p = c .before .before .before .before .before .before .before .place-symbols .ensures in
+    omega (arith, p .same, p .within, c .before .before .before .smaller .ensures)
+
+same-length : tie.Need-same-length
+same-length c = c .before .before .write-counts .kept .0 ∙ c .before .before .before .before .before .before .before .before .before .before .place-symbols .ensures .same
+
+returns : tie.Need-returns
+returns c =
+    let s = c .before .before .before .before .before .before .before .before .before .before .before .before .before .before .before in
+    let a = s .args in
+    let p = c .before .before .before .before .before .before .before .before .before .before .place-symbols in
+    let e = rw (c .before .before .before .plus .ensures) at (c .before .before .write-counts .ensures) in
+    rw e (took (a .header) (a .flow) (a .adu .now) (a .mem .now) (p .last .0) (p .result) (a .count) (c .before .before .before .before .before .before .smaller .result) (s .pre .0) (s .pre .2) (c .before .before .before .before .before .before .smaller .ensures) (p .ensures))
+
+pub take-adu-spec : {M : Type 1} → statement M
+take-adu-spec =
+    tie.close
+    (tie.spec
+    place-symbols-requires
+    add-smaller
+    (λ c κs. search needs)
+    cast-plus
+    (λ c κs. search needs)
+    write-counts-requires
+    same-length
+    returns)

@@ -1,0 +1,90 @@
+-- Contracts of inner functions: a reader need not believe these.
+-- They speak of a memory and of the header that was read from it, whether or not the memory holds a sender.
+use mathlib.Core.Path.{_≡_}
+use mathlib.Core.Bool.{Bool, true, false}
+use mathlib.Core.Option.{Option, none, some}
+use Prim.Native.Nat.{ℕ, zero, suc, _+_, _-_, _*_, _%_, _<_}
+use mathlib.Core.List.{List, [], _∷_, _++_, map}
+use lib.ListN.{length, take, drop, getD}
+use Rattle.memory.specs.Part.{part, splice}
+use Rattle.memory.specs.Number.{bytes}
+use Rattle.wire.specs.declared.Refusal.the-variants.{Draws}
+use Rattle.wire.specs.Numbers.{esiBefore}
+use Rattle.wire.specs.Packets.{chunks, repairPacket}
+use Rattle.rows.specs.Combination.{dot, coefficient, combination}
+use Rattle.coefficients.specs.Coefficients.{keys, allOk}
+use Rattle.sender.specs.declared.Answer.{Answer}
+use Rattle.sender.specs.declared.Answer.the-variants.{Done, Refused}
+use Rattle.sender.specs.declared.Header.{Header}
+use Rattle.sender.specs.declared.Found.{Found}
+use Rattle.sender.specs.declared.Found.the-variants.{HeaderIs, NoHeader}
+use Rattle.sender.specs.State.{Sender, taken, memorySize, InSlots, Holds}
+use Rattle.sender.specs.Repair.{repairSymbol, writtenKey}
+
+-- ---- the header
+
+abbrev pub foundOf : Option Header → Found
+foundOf none = NoHeader
+foundOf (some h) = HeaderIs h
+
+-- the bytes of the numbers that change
+abbrev pub countBytes : (held next esi : ℕ) → List ℕ
+countBytes held next esi = bytes 2 held ++ (bytes 2 next ++ bytes 4 esi)
+
+-- ---- taking an ADU
+
+-- new symbols were placed from slot `first` on: m became m′, and the slot after them is next
+pub record Placed (size width : ℕ) (m : List ℕ) (first : ℕ) (new : List (List ℕ)) (m′ : List ℕ) (next : ℕ) : Type 0 where
+  pub same : length m′ ≡ length m
+  pub head : take 32 m′ ≡ take 32 m
+  pub past : drop (32 + width * size) m′ ≡ drop (32 + width * size) m
+  pub within : next < width
+  pub slot : (xs : List (List ℕ)) → first ≡ length xs % width → next ≡ length (xs ++ new) % width
+  pub slots : (xs : List (List ℕ)) → first ≡ length xs % width → InSlots size width m xs → InSlots size width m′ (xs ++ new)
+
+-- an ADU was taken: m became m′
+pub record Took (h : Header) (flow : ℕ) (adu m m′ : List ℕ) : Type 0 where
+  pub same : length m′ ≡ length m
+  pub past : drop (memorySize (h .setting)) m′ ≡ drop (memorySize (h .setting)) m
+  pub holds : (s : Sender) → Holds m s → Holds m′ (taken s flow adu)
+
+-- ---- making repair
+
+abbrev pub AllZero : List ℕ → Type 0
+AllZero l = (k : ℕ) → getD l k 0 ≡ 0
+
+-- cs has the coefficients of list from the slot `first` on, around: every sum over the slots is the sum over the list
+pub record Laid (first : ℕ) (list cs : List ℕ) : Type 0 where
+  pub sum : (x : ℕ → ℕ) → dot (coefficient cs) x (length cs) ≡ dot (coefficient list) (λ j. x ((first + j) % length cs)) (length list)
+
+-- the slot of the window's first symbol
+abbrev pub firstSlot : Header → ℕ
+firstSlot h = (h .next + h .setting .width - h .held) % h .setting .width
+
+-- n symbols as they stand in the memory, from a slot on, around the window
+abbrev pub stored : (size width : ℕ) → List ℕ → (first n : ℕ) → List (List ℕ)
+stored size width m first zero = []
+stored size width m first (suc n) = part (32 + first % width * size) size m ∷ stored size width m (first + 1) n
+
+-- the window's symbols
+abbrev pub windowIn : Header → List ℕ → List (List ℕ)
+windowIn h m = stored (h .setting .size) (h .setting .width) m (firstSlot h) (h .held)
+
+-- the repair symbols of the lists of coefficients that stand one after the other
+unfoldable pub symbolsFrom : Header → List ℕ → (count : ℕ) → List ℕ → List (List ℕ)
+symbolsFrom h m count lists = map (λ (cs : List ℕ). combination (h .setting .size) cs (windowIn h m)) (chunks count (h .held) lists)
+
+-- the repair packet
+unfoldable pub packetFrom : Header → List ℕ → (key dt count : ℕ) → List ℕ
+packetFrom h m key dt count =
+    repairPacket key dt (h .held) (esiBefore (h .esi .0) (h .held))
+    (map (repairSymbol (h .setting .scheme) dt (h .setting .size) (windowIn h m)) (keys key count))
+
+-- a repair packet was written, or the coefficients met refusal 10 and nothing was
+abbrev pub PacketOr10 : Bool → (h : Header) (key dt count : ℕ) (m out : List ℕ) (r : Answer) (out′ : List ℕ) → Type 0
+PacketOr10 true h key dt count m out r out′ = (r ≡ Done (8 + count * h .setting .size)) × (out′ ≡ splice 0 (packetFrom h m key dt count) out)
+PacketOr10 false h key dt count m out r out′ = (r ≡ Refused Draws) × (out′ ≡ out)
+
+abbrev pub Packed : (h : Header) (key dt count : ℕ) (m out : List ℕ) (r : Answer) (out′ : List ℕ) → Type 0
+Packed h key dt count m out r out′ =
+    PacketOr10 (allOk (h .setting .scheme) dt (h .held) (keys (writtenKey (h .setting .scheme) key dt) count)) h (writtenKey (h .setting .scheme) key dt) dt count m out r out′

@@ -1,0 +1,72 @@
+// The window's slots: the symbol of position p stands in slot p mod width.
+ghost use mathlib.Core.Path.{_≡_};
+ghost use Prim.Native.Nat.{_+_, _*_, _%_, _<_, _≤_, min};
+ghost use lib.ListN.{length};
+ghost use mathlib.Core.Option.{some};
+ghost use Rattle.memory.specs.Part.{part, splice};
+ghost use Rattle.wire.specs.Packets.{symbolCount, adui, sourceSymbols};
+ghost use Rattle.wire.specs.Settings.{Valid};
+ghost use Rattle.sender.specs.State.{memorySize, headerIn};
+ghost use Rattle.sender.specs.Inner.{Placed, Took};
+use super::Header;
+use super::front;
+use wire::Setting;
+
+// The slot after a slot, around the window.
+pub fn next_slot(slot: usize, width: usize) -> usize
+    requires { ⌜ (slot < width) × (width ≤ 255) ⌝ }
+    ensures { λ r. ⌜ r ≡ (slot + 1) % width ⌝ }
+{
+    if slot + 1 == width {
+        return 0;
+    }
+    slot + 1
+}
+
+fn smaller(a: usize, b: usize) -> usize
+    ensures { λ r. ⌜ r ≡ min a b ⌝ }
+{
+    if a < b { a } else { b }
+}
+
+// The i-th symbol of an ADU, of `size` bytes, at a.
+fn place_symbol(mem: &mut [u8], a: usize, size: usize, flow: u8, adu: &[u8], i: usize)
+    requires { ⌜ (a + size ≤ length (now mem)) × (4 ≤ size) × (size ≤ 1500) × (length (now adu) ≤ 65535) × (i < symbolCount size (length (now adu))) ⌝ }
+    ensures { λ _. ⌜ now (mem .exit) ≡ splice a (part (i * size) size (adui flow (now (adu .entry)) size)) (now (mem .entry)) ⌝ }
+{
+    wire::write_symbol(&mut mem[a..a + size], flow, adu, i);
+}
+
+// The `count` symbols of an ADU, from slot `first` on; the answer is the slot after them.
+fn place_symbols(
+    mem: &mut [u8],
+    setting: Setting,
+    first: usize,
+    flow: u8,
+    adu: &[u8],
+    count: usize,
+) -> usize
+    requires { ⌜ Valid setting × (memorySize setting ≤ length (now mem)) × (first < setting .width) × (length (now adu) ≤ 65535) × (count ≡ symbolCount (setting .size) (length (now adu))) ⌝ }
+    ensures { λ r. ⌜ Placed (setting .size) (setting .width) (now (mem .entry)) first (sourceSymbols flow (now (adu .entry)) (setting .size)) (now (mem .exit)) r ⌝ }
+{
+    let size = setting.size;
+    let width = setting.width;
+    let mut slot = first;
+    for i in 0..count {
+        place_symbol(mem, 32 + slot * size, size, flow, adu, i);
+        slot = next_slot(slot, width);
+    }
+    slot
+}
+
+// Takes an ADU of `count` symbols into the window.
+pub fn take_adu(mem: &mut [u8], header: Header, flow: u8, adu: &[u8], count: usize)
+    requires { ⌜ (headerIn (now mem) ≡ some header) × (length (now adu) ≤ 65535) × (count ≡ symbolCount (header .setting .size) (length (now adu))) × (count ≤ header .setting .width) ⌝ }
+    ensures { λ _. ⌜ Took header flow (now (adu .entry)) (now (mem .entry)) (now (mem .exit)) ⌝ }
+{
+    let setting = header.setting;
+    let next = place_symbols(mem, setting, header.next, flow, adu, count);
+    let held = smaller(header.held + count, setting.width);
+    let esi = header.esi;
+    front::write_counts(mem, held, next, esi.plus(count as u32));
+}
