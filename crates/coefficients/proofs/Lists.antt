@@ -2,7 +2,8 @@
 use mathlib.Core.Path.{_≡_, refl, ap, _∙_}
 use mathlib.Core.Bool.{Bool, true, false, cond}
 use mathlib.Core.List.{List, [], _∷_, _++_}
-use Prim.Native.Nat.{ℕ, zero, suc, _+_, _≤_, _<_}
+use Prim.Native.Nat.{ℕ, zero, suc, _+_, _^_, _%_, _≤_, _<_}
+use native.Mathlib.Nat.{not-suc-le-zero, le-of-suc-le-suc}
 use native.Mathlib.Numerals.{add-one}
 use native.Mathlib.Decide.{le-ind}
 use native.Mathlib.Omega.{arith}
@@ -10,6 +11,7 @@ use lib.ListN.{length, replicate, getD, length-append, replicate-append-replicat
 use lib.Dec.{eqb, leb, lit<}
 use Rattle.tinymt.specs.Generator.{startOf, drawOf, low4, low8}
 use Rattle.memory.specs.Number.{Bytes}
+use Rattle.wire.specs.Numbers.{keyAfter}
 use Rattle.wire.specs.declared.Scheme.{Scheme}
 use Rattle.wire.specs.declared.Scheme.the-variants.{Gf2, Gf256}
 use Rattle.coefficients.specs.declared.Coefficient.{Coefficient}
@@ -65,6 +67,12 @@ ones key (suc n) = rw (ones key n, replicate-append-replicate {A = ℕ} n 1 1, a
 pub length-keys : (key count : ℕ) → length (keys key count) ≡ count
 length-keys key zero = refl
 length-keys key (suc count) = ap suc (length-keys _ count)
+
+-- key i is i after the first, modulo 65,536
+pub key-at : (key count i : ℕ) → key < 2 ^ 16 → i < count → getD (keys key count) i 0 ≡ (key + i) % 2 ^ 16
+key-at key zero i k h = absurd (not-suc-le-zero h)
+key-at key (suc count) zero k h = omega arith
+key-at key (suc count) (suc i) k h = key-at (keyAfter key) count i (omega arith) (le-of-suc-le-suc h) ∙ omega arith
 
 -- ---- what a coefficient is
 

@@ -16,9 +16,9 @@ filledOf true = Done
 filledOf false = Refused
 
 -- the number that document 01 gives each answer
-abbrev pub numberOf : Filled → ℕ
-numberOf Done = 0
-numberOf Refused = 10
+abbrev pub filledNumber : Filled → ℕ
+filledNumber Done = 0
+filledNumber Refused = 10
 
 -- one list: the answer, and, where it was done, every byte of the output; refused, the output keeps its length
 pub record Fills (l : Coefficients) (out : List ℕ) (r : Filled) (out′ : List ℕ) : Type 0 where
