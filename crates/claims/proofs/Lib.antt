@@ -1,3 +1,6 @@
+-- The modules of the proofs.
+pub mod Symbols
+pub mod Sending
 pub mod Carrying
 pub mod Demand
 pub mod Reading

@@ -1,6 +1,9 @@
+pub mod SenderRun
+pub mod Unopened
+pub mod Bench
 pub mod Run
 pub mod Sender
 pub mod Demand
 pub mod Sent
 pub mod Reading
-pub mod Bench
+pub mod ReceiverBench

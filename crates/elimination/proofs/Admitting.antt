@@ -3,7 +3,7 @@ use mathlib.Core.Path.{_≡_, sym, ap, _∙_, subst}
 use mathlib.Core.List.{List, [], _∷_, _++_}
 use mathlib.Core.Option.{some}
 use Prim.Native.Nat.{ℕ, _+_, _-_, _%_, _≤_, _<_}
-use native.Mathlib.Nat.{mod-lt, mod-add-mod, mod-eq-of-lt}
+use native.Mathlib.Nat.{mod-lt, mod-add-mod}
 use native.Mathlib.Numerals.{add-one}
 use native.Mathlib.Decide.{ℕ-discrete, decLt}
 use native.Mathlib.Omega.{arith}
@@ -16,16 +16,18 @@ use Rattle.memory.proofs.Parts.{length-part, length-splice, getD-part, getD-bef
 use Rattle.rows.specs.Rows.{scaled}
 use Rattle.rows.proofs.Sums.{length-scaled, getD-scaled}
 use Rattle.decoder.specs.Field.{Laws}
-use Rattle.decoder.specs.Bytes.{byte, byte-path}
+use Rattle.decoder.specs.Bytes.{byte, Coded}
 use Rattle.decoder.specs.Model.{Row, State, Rref, scale, lead, symbol, reduce}
 use Rattle.decoder.specs.Receiver.{advance-by}
-use Rattle.decoder.specs.Table.{Leads, scale-line, read}
+use Rattle.decoder.specs.Table.{read}
+use Rattle.decoder.specs.TableSteps.{Leads, scale-line}
 use Rattle.decoder.specs.Chain.{Chain, place-rows, eliminate}
-use Rattle.decoder.specs.Refine.{lead-read, lead-none}
-use Rattle.decoder.specs.Steps.{symbol-read, leads-scaled}
-use Rattle.decoder.proofs.Combining.{normal-line}
+use Rattle.decoder.proofs.Bytes.{byte-inverse, laws, byte-zero, byte-nonzero}
+use Rattle.decoder.proofs.Stretch.{line-scale, symbol-null, symbol-nonnull}
 use Rattle.decoder.proofs.Chain.{chain-same, place-rows-same, eliminate-same, chain-reduce, normal, packet-implied, packet-contradicts, packet-places}
-use Rattle.elimination.specs.Bytes.{Coded, laws}
+use Rattle.decoder.proofs.Combining.{normal-line}
+use Rattle.decoder.proofs.Refine.{lead-read, lead-none}
+use Rattle.decoder.proofs.Steps.{symbol-read, leads-scaled}
 use Rattle.elimination.specs.Window.{stride, place, row, line, equation, Window, Fits}
 use Rattle.elimination.specs.Packet.{Works, spelled, PivotMarked, Gathered}
 use Rattle.elimination.specs.RowSteps.{Zero-from}
@@ -34,7 +36,7 @@ use Rattle.elimination.specs.GatherSteps.{Leading, Normalised, Outcome, 
 use Rattle.elimination.specs.declared.gather.Verdict.{Verdict}
 use Rattle.elimination.specs.declared.gather.Verdict.the-variants.{Kept, Implied, Contradiction}
 use Rattle.elimination.proofs.Rows.{set-splice}
-use Rattle.elimination.proofs.Lines.{else-zero, byte-zero, byte-nonzero, line-scale, symbol-null, symbol-nonnull}
+use Rattle.elimination.proofs.Zero.{else-zero}
 use Rattle.memory.proofs.Number.{bytes-part}
 use Rattle.elimination.proofs.Framing.{only-refl, only-trans, only-wider, only-splice, only-row, works-only, row-room}
 use Rattle.elimination.proofs.Reducing.{part-row, state-only, state-reduced}
@@ -123,9 +125,6 @@ module _ (w E base i : ℕ) (l : List ℕ) (b : ℕ) (e : b % w ≡ base) (d : L
         byte-nonzero (getD l ((b + i) % w) 0) (f ((b + i) % w))
         (λ z. d .here h (ap (λ y. getD l ((base + y) % w) 0) (sym x) ∙ ap (λ y. getD l y 0) (sym (column (b + i) (omega arith))) ∙ z));
   }
-
-byte-inverse : (E k : ℕ) → k < 256 → byte (inverse k) ≡ Coded E .inv (byte k)
-byte-inverse E k h = byte-path (mod-eq-of-lt (inverse-lt k) ∙ ap inverse (sym (mod-eq-of-lt h)))
 
 -- ---- a reduced equation settled
 

@@ -10,7 +10,7 @@ use native.Mathlib.Omega.{arith}
 use lib.ListN.{length, getD, set, length-set}
 use lib.Seq.{getD-set-same, getD-set-other}
 use lib.Bits.{bitOr, or-add-and, and-le-l, and-le-r}
-use Rattle.decoder.specs.Stretch.{remainders}
+use Rattle.decoder.proofs.Stretch.{remainders}
 use Rattle.elimination.specs.GatherSteps.{if-used, multiplier, Collected, Staying}
 
 -- The column after the `i`th from `first` on.

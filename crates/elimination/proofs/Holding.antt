@@ -9,11 +9,11 @@ use lib.ListN.{length, getD}
 use lib.Dec.{ltb}
 use Rattle.memory.specs.Part.{splice}
 use Rattle.memory.proofs.Parts.{getD-part, getD-past, row-fits}
+use Rattle.decoder.specs.Bytes.{Coded}
 use Rattle.decoder.specs.Model.{State}
 use Rattle.decoder.specs.Table.{Echelon, view}
-use Rattle.elimination.specs.Bytes.{Coded}
-use Rattle.elimination.specs.Window.{stride, place, row, flag, inUse, line, table, Flags, Window, Fits}
-use Rattle.elimination.proofs.Lines.{line-same}
+use Rattle.decoder.proofs.Stretch.{line-same}
+use Rattle.elimination.specs.Window.{stride, place, row, inUse, line, table, Flags, Window, Fits}
 
 -- Two memories whose rows agree up to their first flag hold the same system.
 module _ (w E : ℕ) (m m′ : List ℕ) (pos : 0 < w)

@@ -10,24 +10,25 @@ use lib.ListN.{getD}
 use Rattle.memory.specs.Part.{part}
 use Rattle.memory.specs.Number.{Bytes}
 use Rattle.memory.proofs.Parts.{getD-part}
-use Rattle.decoder.specs.Bytes.{byte}
 use Rattle.decoder.specs.Field.{Laws}
+use Rattle.decoder.specs.Bytes.{byte, Coded}
 use Rattle.decoder.specs.Model.{State, Reduced, place as place-row, lead}
 use Rattle.decoder.specs.Receiver.{advance-by}
-use Rattle.decoder.specs.Counting.{newly-difference}
-use Rattle.decoder.specs.Table.{Places, add-line, view}
+use Rattle.decoder.specs.Table.{view}
+use Rattle.decoder.specs.TableSteps.{Places, add-line}
 use Rattle.decoder.specs.Chain.{Chain, place-rows}
-use Rattle.decoder.specs.Refine.{lead-read}
+use Rattle.decoder.proofs.Bytes.{laws}
+use Rattle.decoder.proofs.Stretch.{line-same}
 use Rattle.decoder.proofs.Chain.{chain-before}
 use Rattle.decoder.proofs.Combining.{reduced-cells}
+use Rattle.decoder.proofs.Counting.{newly-difference}
 use Rattle.decoder.proofs.Gaining.{place-line}
-use Rattle.elimination.specs.Bytes.{Coded, laws}
+use Rattle.decoder.proofs.Refine.{lead-read}
 use Rattle.elimination.specs.Window.{stride, place, row, flag, inUse, line, table, equation, Window, Fits}
 use Rattle.elimination.specs.Place.{Moved, Committed}
 use Rattle.elimination.specs.RowSteps.{known-flags, Settled, PlacedKept, Joined}
 use Rattle.elimination.specs.Packet.{spelled, PivotMarked}
 use Rattle.elimination.proofs.Rows.{kept-refl, kept-trans, fits-kept}
-use Rattle.elimination.proofs.Lines.{line-same}
 use Rattle.elimination.proofs.Placing.{places}
 use Rattle.elimination.proofs.Showing.{count-known}
 

@@ -2,13 +2,13 @@
 use mathlib.Core.Path.{_≡_, refl, sym, ap, ap₂, _∙_, subst}
 use mathlib.Core.Logic.{_≢_, _↔_}
 use mathlib.Core.List.{List}
-use Prim.Native.Nat.{ℕ, zero, _+_, _-_, _≤_, _<_}
+use Prim.Native.Nat.{ℕ, _+_, _-_, _≤_, _<_}
 use native.Mathlib.Decide.{ℕ-discrete, decLt}
 use native.Mathlib.Omega.{arith}
 use lib.ListN.{getD}
 use lib.Bits.{bitOr, or-add-and, and-le-l, and-le-r}
 use Rattle.memory.proofs.Parts.{getD-part}
-use Rattle.elimination.specs.Window.{stride, place, row, flag, Alone}
+use Rattle.elimination.specs.Window.{stride, place, row, Alone}
 use Rattle.elimination.specs.RowSteps.{Zero-from, Tested}
 
 -- Two numbers or-ed are zero just where both are.

@@ -10,15 +10,16 @@ use native.Mathlib.Numerals.{add-one}
 use native.Mathlib.Omega.{arith}
 use lib.ListN.{getD}
 use Rattle.decoder.specs.Field.{Ops}
-use Rattle.decoder.specs.Bytes.{byte}
+use Rattle.decoder.specs.Bytes.{byte, Coded}
 use Rattle.decoder.specs.Model.{Row, State, end, free, pivot, advance}
 use Rattle.decoder.specs.Receiver.{advance-by, empty}
-use Rattle.decoder.specs.Table.{Table, Moves, view, read, slot}
-use Rattle.decoder.specs.Stretch.{remainders}
-use Rattle.decoder.specs.Refine.{view-advance}
-use Rattle.decoder.specs.Steps.{moves-echelon}
-use Rattle.decoder.specs.Jump.{advance-by-suc, advance-by-empty}
-use Rattle.elimination.specs.Bytes.{Coded, laws}
+use Rattle.decoder.specs.Table.{Table, view, read, slot}
+use Rattle.decoder.specs.TableSteps.{Moves}
+use Rattle.decoder.proofs.Bytes.{laws}
+use Rattle.decoder.proofs.Stretch.{remainders}
+use Rattle.decoder.proofs.Jump.{advance-by-suc, advance-by-empty}
+use Rattle.decoder.proofs.Refine.{view-advance}
+use Rattle.decoder.proofs.Steps.{moves-echelon}
 use Rattle.elimination.specs.Window.{row, flag, inUse, line, table, Window, Fits, Kept}
 use Rattle.elimination.specs.Place.{Emptied, Moved}
 use Rattle.elimination.specs.RowSteps.{flagged}

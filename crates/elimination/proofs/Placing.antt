@@ -17,13 +17,13 @@ use Rattle.memory.proofs.Parts.{length-part, getD-part, whole, row-fits}
 use Rattle.rows.specs.Rows.{addScaled}
 use Rattle.rows.proofs.Sums.{length-addScaled, getD-addScaled}
 use Rattle.decoder.specs.Bytes.{byte}
-use Rattle.decoder.specs.Table.{Places, add-line}
-use Rattle.decoder.specs.Refine.{add-line-zero}
-use Rattle.elimination.specs.Bytes.{laws}
+use Rattle.decoder.specs.TableSteps.{Places, add-line}
+use Rattle.decoder.proofs.Bytes.{laws, byte-zero}
+use Rattle.decoder.proofs.Stretch.{line-add, line-same}
+use Rattle.decoder.proofs.Refine.{add-line-zero}
 use Rattle.elimination.specs.Window.{stride, place, row, flag, inUse, line, table, Flagged, Flags, Fits, Kept}
 use Rattle.elimination.specs.RowSteps.{one-if-known, known-flag, known-flags, Marked, Changed, ClearedRow, Stored, Settled, flagged}
 use Rattle.elimination.proofs.Rows.{row-store, row-other, kept-store, kept-refl, kept-trans, fits-kept}
-use Rattle.elimination.proofs.Lines.{byte-zero, line-add, line-same}
 use Rattle.elimination.proofs.Flags.{flag-at, unused, used, unused-flag, not-known, flags-changed, count-changed}
 use Rattle.elimination.proofs.Flags.{flagged-flag, flagged-cell, flagged-line, flagged-rest, flagged-kept}
 use Rattle.elimination.proofs.Moving.{other}

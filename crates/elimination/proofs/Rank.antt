@@ -1,12 +1,11 @@
 -- How many rows a system has: each row that is placed is one more, and there are no more than positions.
 use mathlib.Core.Path.{_≡_, refl, sym, ap, _∙_}
-use mathlib.Core.Logic.{ite}
+use mathlib.Core.Logic.{ite, if-pos}
 use Prim.Native.Nat.{ℕ, zero, suc, _≤_}
 use native.Mathlib.Omega.{arith}
 use Rattle.decoder.specs.Field.{Ops, Laws}
 use Rattle.decoder.specs.Model.{Row, State, end, free, pivot, Reduced, lead, reduce, place, place-free}
 use Rattle.decoder.specs.Chain.{Chain, place-rows}
-use Rattle.decoder.specs.Elimination.{lead-zero}
 use Rattle.decoder.proofs.Chain.{chain-before, normal, normal-reduced, normal-leads}
 
 module _ {O : Ops} (L : Laws O) where
@@ -32,7 +31,7 @@ module _ {O : Ops} (L : Laws O) where
           → rank (place-free d (place S (e .1)) (e .1) S) ≡ suc (rank S)
       go (yes z) l ih = ih l
       go (no z) l ih = refl
-  rank-place (pivot {n} p S) e r l = ap suc (rank-place S (e .1) (r .1) (sym (lead-zero L n e (r .0)) ∙ l))
+  rank-place (pivot {n} p S) e r l = ap suc (rank-place S (e .1) (r .1) (sym (if-pos (zero? (e .0)) (r .0) (lead O n (e .1)) (e .0)) ∙ l))
 
   rank-chain : {n : ℕ} (S : State O n) (g : ℕ → Row O n) (k : ℕ) → Chain S g k → k ≤ rank (place-rows g k S)
   unfolding place-rows

@@ -20,21 +20,20 @@ use Rattle.memory.proofs.Parts.{cut, put, length-part, getD-part, getD-within, 
 use Rattle.rows.specs.Rows.{addScaled}
 use Rattle.rows.specs.Combination.{combined, coefficient, rowAt}
 use Rattle.rows.proofs.Sums.{length-addScaled, getD-addScaled, addScaled-zero}
-use Rattle.rows.proofs.Digits.{length-combined}
-use Rattle.decoder.specs.Bytes.{byte}
+use Rattle.rows.proofs.Combinations.{length-combined}
+use Rattle.decoder.specs.Bytes.{byte, Coded}
 use Rattle.decoder.specs.Model.{State, Rref, axpy, at, reduce}
 use Rattle.decoder.specs.Receiver.{advance-by}
-use Rattle.decoder.specs.Table.{add-line, read}
+use Rattle.decoder.specs.Table.{read}
+use Rattle.decoder.specs.TableSteps.{add-line, add-lines}
 use Rattle.decoder.specs.Chain.{eliminate}
-use Rattle.decoder.specs.Combination.{add-lines}
-use Rattle.decoder.specs.Stretch.{remainders}
+use Rattle.decoder.proofs.Bytes.{laws, byte-zero}
+use Rattle.decoder.proofs.Stretch.{remainders, line-same, line-add}
 use Rattle.decoder.proofs.Combining.{stays-lines, eliminate-line}
-use Rattle.elimination.specs.Bytes.{Coded, laws}
 use Rattle.elimination.specs.Window.{stride, place, row, inUse, line, table, equation, Window, Fits}
 use Rattle.elimination.specs.Packet.{Works, spelled, PivotMarked}
 use Rattle.elimination.specs.Gather.{Only, Spans}
 use Rattle.elimination.specs.GatherSteps.{if-used, multiplier, Zeros, Collected, StateReduced, Eliminated, PacketReduced, Staying}
-use Rattle.elimination.proofs.Lines.{byte-zero, line-same, line-add}
 use Rattle.memory.proofs.Number.{bytes-part}
 use Rattle.elimination.proofs.Framing.{only-refl, only-trans, only-splice, only-row, row-room}
 

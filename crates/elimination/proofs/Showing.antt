@@ -15,19 +15,20 @@ use Rattle.memory.specs.Part.{part}
 use Rattle.memory.specs.Number.{Bytes}
 use Rattle.memory.proofs.Parts.{part-part}
 use Rattle.memory.proofs.Number.{bytes-part}
-use Rattle.decoder.specs.Bytes.{byte}
-use Rattle.decoder.specs.Stretch.{bytes-of, bytes-of-symbol}
+use Rattle.decoder.specs.Bytes.{byte, Coded}
 use Rattle.decoder.specs.Model.{State, known}
 use Rattle.decoder.specs.Receiver.{is-new}
-use Rattle.decoder.specs.Counting.{count-all}
-use Rattle.decoder.proofs.Gaining.{total-rows}
 use Rattle.decoder.specs.Table.{view}
-use Rattle.decoder.specs.Steps.{known-row, known-open, known-free}
-use Rattle.elimination.specs.Bytes.{Coded, laws}
+use Rattle.decoder.specs.Stretch.{bytes-of}
+use Rattle.decoder.proofs.Bytes.{laws, byte-zero, byte-nonzero}
+use Rattle.decoder.proofs.Stretch.{bytes-of-symbol}
+use Rattle.decoder.proofs.Counting.{count-all}
+use Rattle.decoder.proofs.Gaining.{total-rows}
+use Rattle.decoder.proofs.Steps.{known-row, known-open, known-free}
 use Rattle.elimination.specs.Window.{stride, place, row, flag, inUse, line, table, Window, Fits}
 use Rattle.elimination.specs.Place.{Known}
 use Rattle.elimination.specs.RowSteps.{one-if-known, known-flag, known-flags}
-use Rattle.elimination.proofs.Lines.{else-zero, byte-zero, byte-nonzero}
+use Rattle.elimination.proofs.Zero.{else-zero}
 use Rattle.elimination.proofs.Flags.{length-row, unused, used, not-known}
 use Rattle.elimination.proofs.Moving.{other, position}
 

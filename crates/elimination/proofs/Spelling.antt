@@ -7,14 +7,15 @@ use native.Mathlib.Nat.{mod-lt, mod-add-mod}
 use native.Mathlib.Decide.{ℕ-discrete}
 use native.Mathlib.Omega.{arith}
 use lib.ListN.{length, getD}
-use Rattle.decoder.specs.Bytes.{byte, byte-path}
+use Rattle.decoder.specs.Bytes.{byte, byte-path, Coded}
 use Rattle.decoder.specs.Receiver.{embed}
-use Rattle.decoder.specs.Packets.{row, only, read-embed}
-use Rattle.decoder.specs.Stretch.{symbol-at, remainders}
-use Rattle.elimination.specs.Bytes.{Coded, laws}
+use Rattle.decoder.specs.Packets.{row, only}
+use Rattle.decoder.specs.Stretch.{symbol-at}
+use Rattle.decoder.proofs.Bytes.{laws, byte-zero}
+use Rattle.decoder.proofs.Packets.{read-embed}
+use Rattle.decoder.proofs.Stretch.{remainders}
 use Rattle.elimination.specs.Window.{line, equation}
 use Rattle.elimination.specs.Gather.{Laid}
-use Rattle.elimination.proofs.Lines.{byte-zero}
 
 -- The same bytes elsewhere are the same symbol.
 pub symbol-moved : (n o p : ℕ) (s t : List ℕ) → ((i : ℕ) → i < n → getD s (o + i) 0 ≡ getD t (p + i) 0) → symbol-at n o s ≡ symbol-at n p t

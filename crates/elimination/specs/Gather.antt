@@ -6,9 +6,9 @@ use mathlib.Core.List.{List, [], _∷_, _++_}
 use mathlib.Core.Option.{none}
 use Prim.Native.Nat.{ℕ, _+_, _-_, _%_, _≤_, _<_}
 use lib.ListN.{length, take, drop, getD}
+use Rattle.decoder.specs.Bytes.{Coded}
 use Rattle.decoder.specs.Model.{Row, State, Rref}
 use Rattle.decoder.specs.Receiver.{advance-by, insert-all}
-use Rattle.elimination.specs.Bytes.{Coded}
 use Rattle.elimination.specs.Window.{place, row, equation, Window}
 use Rattle.elimination.specs.Packet.{Works, Gathered}
 use Rattle.elimination.specs.declared.gather.Verdict.{Verdict}

@@ -4,18 +4,17 @@ use mathlib.Core.Path.{_≡_}
 use mathlib.Core.Logic.{_≢_}
 use mathlib.Core.Bool.{Bool, true, false}
 use mathlib.Core.List.{List}
-use Prim.Native.Nat.{ℕ, zero, _+_, _%_, _≤_, _<_}
+use Prim.Native.Nat.{ℕ, _+_, _%_, _≤_, _<_}
 use lib.ListN.{length, getD}
 use Rattle.field.specs.Gf256.{inverse}
 use Rattle.memory.specs.Part.{part, splice}
 use Rattle.memory.specs.Number.{Bytes}
 use Rattle.rows.specs.Rows.{addScaled}
 use Rattle.rows.specs.Combination.{combined, coefficient, rowAt}
-use Rattle.decoder.specs.Bytes.{byte}
+use Rattle.decoder.specs.Bytes.{byte, Coded}
 use Rattle.decoder.specs.Model.{lead, symbol, scale}
-use Rattle.decoder.specs.Table.{scale-line}
+use Rattle.decoder.specs.TableSteps.{scale-line}
 use Rattle.decoder.specs.Chain.{eliminate}
-use Rattle.elimination.specs.Bytes.{Coded}
 use Rattle.elimination.specs.Window.{stride, place, row, inUse, line}
 use Rattle.elimination.specs.Packet.{Works, spelled, PivotMarked}
 use Rattle.elimination.specs.Gather.{Only, count-kept}

@@ -5,11 +5,11 @@ use mathlib.Core.List.{List}
 use mathlib.Core.Option.{some}
 use Prim.Native.Nat.{ℕ, _+_, _%_, _≤_, _<_}
 use lib.ListN.{length, getD}
+use Rattle.decoder.specs.Bytes.{Coded}
 use Rattle.decoder.specs.Model.{Row, State}
 use Rattle.decoder.specs.Receiver.{insert-all}
+use Rattle.decoder.specs.TableSteps.{Leads}
 use Rattle.decoder.specs.Chain.{Chain, place-rows}
-use Rattle.decoder.specs.Table.{Leads}
-use Rattle.elimination.specs.Bytes.{Coded}
 use Rattle.elimination.specs.Window.{place, row, line, equation}
 
 -- Sizes for which working memory has room. Each of its first `kept` rows has a column of the window in its flag.

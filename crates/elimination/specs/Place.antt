@@ -5,9 +5,9 @@ use mathlib.Core.Bool.{Bool, true, false}
 use mathlib.Core.List.{List}
 use mathlib.Core.Option.{none, some}
 use Prim.Native.Nat.{ℕ, _+_, _%_, _<_}
+use Rattle.decoder.specs.Bytes.{Coded}
 use Rattle.decoder.specs.Model.{Row, State, Rref, known}
 use Rattle.decoder.specs.Receiver.{empty, advance-by, insert-all, newly}
-use Rattle.elimination.specs.Bytes.{Coded}
 use Rattle.elimination.specs.Window.{row, line, Window, Kept}
 use Rattle.elimination.specs.Packet.{Gathered}
 

@@ -7,12 +7,10 @@ use mathlib.Core.List.{List, [], _∷_}
 use Prim.Native.Nat.{ℕ, zero, suc, _+_, _*_, _≤_, _<_}
 use lib.ListN.{length, getD}
 use Rattle.memory.specs.Part.{splice}
-use Rattle.decoder.specs.Bytes.{byte}
+use Rattle.decoder.specs.Bytes.{byte, Coded}
 use Rattle.decoder.specs.Model.{State}
+use Rattle.decoder.specs.TableSteps.{add-line, total}
 use Rattle.decoder.specs.Chain.{Chain, place-rows}
-use Rattle.decoder.specs.Table.{add-line}
-use Rattle.decoder.specs.Combination.{total}
-use Rattle.elimination.specs.Bytes.{Coded}
 use Rattle.elimination.specs.Window.{stride, place, row, flag, inUse, line, Alone, Flagged, Flags, Window, Kept}
 use Rattle.elimination.specs.Packet.{spelled, PivotMarked}
 

@@ -7,12 +7,11 @@ use mathlib.Core.List.{List}
 use Prim.Native.Nat.{ℕ, _+_, _*_, _%_, _≤_, _<_}
 use lib.ListN.{length, take, drop, getD}
 use lib.Dec.{ltb}
-use Rattle.field.specs.Gf256.{product, inverse}
 use Rattle.memory.specs.Part.{part}
+use Rattle.decoder.specs.Bytes.{Coded}
 use Rattle.decoder.specs.Model.{Row, State}
 use Rattle.decoder.specs.Table.{Line, Table, read, view, Echelon}
 use Rattle.decoder.specs.Stretch.{line-of}
-use Rattle.elimination.specs.Bytes.{gf, Coded}
 
 -- How many bytes a row has, and where row `r` begins.
 abbrev pub stride : ℕ → ℕ → ℕ
@@ -33,7 +32,7 @@ abbrev pub inUse : ℕ → ℕ → List ℕ → Bool
 inUse w E l = ltb 0 (flag w E l)
 
 abbrev pub line : (w E : ℕ) → List ℕ → Line (Coded E)
-line w E l = line-of product inverse gf w E l
+line w E l = line-of w E l
 
 -- The memory's rows by position.
 abbrev pub table : (w E : ℕ) → List ℕ → Table (Coded E)

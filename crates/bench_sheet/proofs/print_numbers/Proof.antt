@@ -1,10 +1,10 @@
--- `cases::print_row` is safe and ends.
+-- `bench_sheet::print_numbers` is safe and ends.
 use mathlib.Core.Path.{_≡_}
 use Prim.Native.Nat.{_≤_, _-_}
 use lib.ListN.{length}
 use borrow.Author.Needs.{needs}
-use Rattle.cases.proofs.print_row.Statement.{statement}
-use Rattle.cases.proofs.print_row.Tie as tie
+use Rattle.bench_sheet.proofs.print_numbers.Statement.{statement}
+use Rattle.bench_sheet.proofs.print_numbers.Tie as tie
 
 abbrev Inv-loop : tie.InvT-loop
 Inv-loop row i₀ i-end i = (i-end ≡ length row) × (i ≤ i-end)
@@ -12,8 +12,8 @@ Inv-loop row i₀ i-end i = (i-end ≡ length row) × (i ≤ i-end)
 abbrev μ-loop : tie.MeasureT-loop
 μ-loop row i₀ i-end i = i-end - i
 
-pub print-row-spec : {M : Type 1} → statement M
-print-row-spec =
+pub print-numbers-spec : {M : Type 1} → statement M
+print-numbers-spec =
     tie.close
     (tie.spec
     Inv-loop

@@ -1,0 +1,202 @@
+// Prints cases C1 to C7 and C9 of document 01 and a sender's refusals, as the code computes them: a line for each case, packets in hexadecimal.
+ghost use mathlib.Core.Path.{_≡_};
+ghost use Prim.Native.Nat.{_<_};
+ghost use Rattle.wire.specs.Numbers.{numberOf};
+use coefficients::Filled;
+use field::Gf256;
+use libc::STDOUT_FILENO;
+use sender::Answer;
+use wire::Refusal;
+use wire::RepairKey;
+use wire::Scheme;
+
+fn print(text: &[u8]) {
+    io::write_all(STDOUT_FILENO, text);
+}
+
+fn print_number(n: u8) {
+    print(b" ");
+    io::print_decimal(STDOUT_FILENO, n as u64);
+}
+
+fn print_numbers(row: &[u8]) {
+    for i in 0..row.len() {
+        print_number(row[i]);
+    }
+}
+
+// A hexadecimal digit.
+fn digit(n: u8) -> u8
+    requires { ⌜ n < 16 ⌝ }
+{
+    if n < 10 { n + 48 } else { n + 55 }
+}
+
+fn print_byte(b: u8) {
+    let digits = [digit(b / 16), digit(b % 16)];
+    print(&digits);
+}
+
+// A blank, and the bytes in hexadecimal.
+fn print_bytes(bytes: &[u8]) {
+    print(b" ");
+    for i in 0..bytes.len() {
+        print_byte(bytes[i]);
+    }
+}
+
+// Document 01's number of a refusal.
+fn number(refusal: Refusal) -> u8
+    ensures { λ r. ⌜ r ≡ numberOf refusal ⌝ }
+{
+    match refusal {
+        Refusal::Values => 1,
+        Refusal::Short => 2,
+        Refusal::Unopened => 3,
+        Refusal::Long => 4,
+        Refusal::Form => 5,
+        Refusal::Range => 6,
+        Refusal::Empty => 7,
+        Refusal::Behind => 8,
+        Refusal::Ahead => 9,
+        Refusal::Draws => 10,
+        Refusal::Contradiction => 11,
+        Refusal::Unknown => 12,
+        Refusal::NoStart => 13,
+        Refusal::Padding => 14,
+    }
+}
+
+fn print_refusal(refusal: Refusal) {
+    print(b" refusal");
+    print_number(number(refusal));
+}
+
+// The ADU of a source packet, and the ESI.
+fn print_source(answer: Answer, out: &[u8]) {
+    match answer {
+        Answer::Done(n) => {
+            if 4 <= n {
+                if n <= out.len() {
+                    let end = n - 4;
+                    print_bytes(&out[0..end]);
+                    print_bytes(&out[end..n]);
+                }
+            }
+        }
+        Answer::Refused(refusal) => print_refusal(refusal),
+    }
+}
+
+// The fields of a repair packet: key, DT and NSS, FSS_ESI, and the repair symbols.
+fn print_repair(answer: Answer, out: &[u8]) {
+    match answer {
+        Answer::Done(n) => {
+            if 8 <= n {
+                if n <= out.len() {
+                    print_bytes(&out[0..2]);
+                    print_bytes(&out[2..4]);
+                    print_bytes(&out[4..8]);
+                    print_bytes(&out[8..n]);
+                }
+            }
+        }
+        Answer::Refused(refusal) => print_refusal(refusal),
+    }
+}
+
+fn print_opening(answer: Answer) {
+    match answer {
+        Answer::Done(_) => print(b" opened"),
+        Answer::Refused(refusal) => print_refusal(refusal),
+    }
+}
+
+fn field_case(name: &[u8], value: Gf256) {
+    print(name);
+    print_number(value.0);
+    print(b"\n");
+}
+
+fn coefficients_case(name: &[u8], row: &mut [u8], scheme: Scheme, dt: u8) {
+    print(name);
+    match coefficients::fill(row, scheme, RepairKey(1), dt) {
+        Filled::Done => print_numbers(row),
+        Filled::Refused => print_refusal(Refusal::Draws),
+    }
+    print(b"\n");
+}
+
+// E 4, F 1, ADUs 41 and 42: two source packets and a repair packet of scheme 9.
+fn packets_case() {
+    let mut mem = [0u8; 40];
+    let mut out = [0u8; 12];
+    sender::open(&mut mem, 9, 4, 2);
+    print(b"C7");
+    let first = sender::add_adu(&mut mem, 1, b"\x41", &mut out);
+    print_source(first, &out);
+    print(b";");
+    let second = sender::add_adu(&mut mem, 1, b"\x42", &mut out);
+    print_source(second, &out);
+    print(b";");
+    let repair = sender::make_repair(&mem, RepairKey(1), 15, 1, &mut out);
+    print_repair(repair, &out);
+    print(b"\n");
+}
+
+// E 4, width 2: an ADU of 5 bytes taken, one of 6 refused.
+fn width_case() {
+    let mut mem = [0u8; 40];
+    let mut out = [0u8; 12];
+    sender::open(&mut mem, 9, 4, 2);
+    print(b"C9");
+    let taken = sender::add_adu(&mut mem, 1, b"\0\0\0\0\0", &mut out);
+    print_source(taken, &out);
+    print(b";");
+    let refused = sender::add_adu(&mut mem, 1, b"\0\0\0\0\0\0", &mut out);
+    print_source(refused, &out);
+    print(b"\n");
+}
+
+// Output of 0 bytes for a 1-byte ADU.
+fn print_short(mem: &mut [u8], out: &mut [u8]) {
+    let short = sender::add_adu(mem, 1, b"\x41", &mut out[..0]);
+    print_source(short, out);
+}
+
+// A sender's refusals: E = 3; output of 0 bytes for a 1-byte ADU; 100 zero bytes; DT 16; repair straight after opening.
+fn refusals_case() {
+    let mut mem = [0u8; 40];
+    let mut out = [0u8; 12];
+    let zero = [0u8; 100];
+    print(b"refusals");
+    let values = sender::open(&mut mem, 9, 3, 2);
+    print_opening(values);
+    print(b";");
+    sender::open(&mut mem, 9, 4, 2);
+    print_short(&mut mem, &mut out);
+    print(b";");
+    let unopened = sender::make_repair(&zero, RepairKey(1), 15, 1, &mut out);
+    print_repair(unopened, &out);
+    print(b";");
+    let range = sender::make_repair(&mem, RepairKey(1), 16, 1, &mut out);
+    print_repair(range, &out);
+    print(b";");
+    let empty = sender::make_repair(&mem, RepairKey(1), 15, 1, &mut out);
+    print_repair(empty, &out);
+    print(b"\n");
+}
+
+fn main() {
+    let mut five = [0u8; 5];
+    let mut six = [0u8; 6];
+    field_case(b"C1", Gf256(2).product(Gf256(128)));
+    field_case(b"C2", Gf256(3).product(Gf256(7)));
+    field_case(b"C3", Gf256(2).inverse());
+    coefficients_case(b"C4", &mut five, Scheme::Gf256, 15);
+    coefficients_case(b"C5", &mut six, Scheme::Gf2, 4);
+    coefficients_case(b"C6", &mut five, Scheme::Gf256, 4);
+    packets_case();
+    width_case();
+    refusals_case();
+}
