@@ -29,9 +29,9 @@ use Rattle.receiver.specs.Symbol.{Symbol, bytesOf}
 use Rattle.receiver.specs.History.{behind, ahead, placeOf, Said, value, refusal}
 use Rattle.receiver.specs.Model.{State, Finding, shows, hides, shown, symbolIn, finding}
 use Rattle.receiver.specs.Header.{headerIn}
-use Rattle.receiver.specs.Promises.{said, Finds as Answers, SymbolAnswered, Shows, PartShown}
-use Rattle.receiver.specs.Layout.{headerOf, Holds, place, receiverLayout}
-use Rattle.receiver.specs.Inner.{RowOf, FindsFor, Lies, Finds}
+use Rattle.receiver.specs.Promises.{said, Finds, SymbolAnswered, Shows, PartShown}
+use Rattle.receiver.specs.Layout.{headerOf, Holds, receiverLayout}
+use Rattle.receiver.specs.Inner.{RowOf, SpottedFor, Spotted}
 use Rattle.receiver.proofs.Headers.{Headed, headed, header-fits}
 
 -- ---- The row of a position
@@ -51,7 +51,7 @@ row-area w E r h a b =
 
 -- ---- What is found
 
-pub finds-unopened : (m : List ℕ) (e : ℕ) → headerIn m ≡ none → Finds m e (Nowhere Unopened)
+pub finds-unopened : (m : List ℕ) (e : ℕ) → headerIn m ≡ none → Spotted m e (Nowhere Unopened)
 finds-unopened m e h = record {
   unopened = λ _. refl;
   lies = λ x k. absurd (Option·none-ne-some x (sym h ∙ k));
@@ -77,20 +77,20 @@ module _ (m : List ℕ) (e : ℕ) (h : Header) (k : headerIn m ≡ some h) where
 
   -- Nowhere, where the place alone says so.
   hidden : (x : Refusal) → numberOf x ≢ 3
-      → ((t : State (h .setting)) → h .base .0 ≡ t .base % 2 ^ 32 → finding (h .setting) t e ≡ hides (numberOf x)) → Finds m e (Nowhere x)
+      → ((t : State (h .setting)) → h .base .0 ≡ t .base % 2 ^ 32 → finding (h .setting) t e ≡ hides (numberOf x)) → Spotted m e (Nowhere x)
   hidden x n f = record {
     unopened = λ z. absurd (Option·none-ne-some h (sym z ∙ k));
     lies = λ y z. n;
-    told = of-header (λ s t. FindsFor m e s t (Nowhere x)) (λ t g r b. f t b);
+    told = of-header (λ s t. SpottedFor m e s t (Nowhere x)) (λ t g r b. f t b);
   }
 
-  pub finds-behind : 2 ^ 31 ≤ d → Finds m e (Nowhere Behind)
+  pub finds-behind : 2 ^ 31 ≤ d → Spotted m e (Nowhere Behind)
   unfolding finding placeOf
   finds-behind l =
       hidden Behind (λ z. absurd (omega (arith, z)))
       (λ t b. rw (le-ltb (distanceOf e (t .base % 2 ^ 32)) (2 ^ 31) (subst (λ x. 2 ^ 31 ≤ distanceOf e x) b l)))
 
-  pub finds-past : d < 2 ^ 31 → width ≤ d → Finds m e (Nowhere Unknown)
+  pub finds-past : d < 2 ^ 31 → width ≤ d → Spotted m e (Nowhere Unknown)
   unfolding finding placeOf
   finds-past n l =
       hidden Unknown (λ z. absurd (omega (arith, z)))
@@ -109,11 +109,11 @@ module _ (m : List ℕ) (e : ℕ) (h : Header) (k : headerIn m ≡ some h) where
     here : (t : State (h .setting)) → h .row ≡ t .base % width → (t .base + d) % width ≡ r
     here t a = sym (mod-add-mod (t .base) width d) ∙ ap (λ x. (x + d) % width) (sym a) ∙ sym (w .is)
 
-    unknown : Known width size r false m → Finds m e (Nowhere Unknown)
+    unknown : Known width size r false m → Spotted m e (Nowhere Unknown)
     unknown u = record {
       unopened = λ z. absurd (Option·none-ne-some h (sym z ∙ k));
       lies = λ y z x. absurd (omega (arith, x));
-      told = of-header (λ s t. FindsFor m e s t (Nowhere Unknown))
+      told = of-header (λ s t. SpottedFor m e s t (Nowhere Unknown))
           (λ t g a b. looked t b ∙ ap (shown (h .setting) (t .base + d)) (u (t .base) d (t .window) inside (here t a) (g .rows)));
     }
 
@@ -125,11 +125,11 @@ module _ (m : List ℕ) (e : ℕ) (h : Header) (k : headerIn m ≡ some h) where
     symbol-is : Bytes m → bytesOf size (window.line width size (window.row width size r m) .sym) ≡ part (window.place width size r + width) size m
     symbol-is b = symbol-bytes width size r m (header-fits m h k) (w .small) b
 
-    known-at : Bytes m → Known width size r true m → Finds m e (At (window.place width size r + width) size)
+    known-at : Bytes m → Known width size r true m → Spotted m e (At (window.place width size r + width) size)
     known-at b u = record {
       unopened = λ z. absurd (Option·none-ne-some h (sym z ∙ k));
       lies = λ y z. let i : h ≡ y = Option·some-injective _ _ (sym k ∙ z) in (ap (λ (x : Header). x .setting .size) i, omega (arith, row-ends));
-      told = of-header (λ s t. FindsFor m e s t (At (window.place width size r + width) size))
+      told = of-header (λ s t. SpottedFor m e s t (At (window.place width size r + width) size))
           (λ t g a c. (
             t .base + d,
             window.line width size (window.row width size r m) .sym,
@@ -145,12 +145,12 @@ module _ (m : List ℕ) (e : ℕ) (h : Header) (k : headerIn m ≡ some h) where
     row-is : RowOf (h .row) d width r
     row-is = subst (λ y. RowOf (h .row) y width r) q w
 
-    pub finds-unknown : t ≡ false → Finds m e (Nowhere Unknown)
+    pub finds-unknown : t ≡ false → Spotted m e (Nowhere Unknown)
     finds-unknown f = unknown (rw q at near) (rw q at inside) r row-is (subst (λ y. Known width size r y m) f u)
 
-    pub finds-at : t ≡ true → Bytes m → (a : ℕ) → a ≡ window.place width size r + width → Finds m e (At a size)
+    pub finds-at : t ≡ true → Bytes m → (a : ℕ) → a ≡ window.place width size r + width → Spotted m e (At a size)
     finds-at f b a i =
-        subst (λ y. Finds m e (At y size)) (sym i) (known-at (rw q at near) (rw q at inside) r row-is b (subst (λ y. Known width size r y m) f u))
+        subst (λ y. Spotted m e (At y size)) (sym i) (known-at (rw q at near) (rw q at inside) r row-is b (subst (λ y. Known width size r y m) f u))
 
 -- ---- The promises
 
@@ -175,40 +175,40 @@ by-header m A x y = go (headerIn m) refl
     go (some h) k = x h k
 
 module _ (m : List ℕ) (e : ℕ) where
-  found-answers : (a n : ℕ) → Finds m e (At a n) → SymbolAnswered receiverLayout m e (Done 0)
+  found-answers : (a n : ℕ) → Spotted m e (At a n) → SymbolAnswered receiverLayout m e (Done 0)
   found-answers a n f = record {
     unopened = ((λ z. absurd (subst IsValue z tt)), (λ z. absurd (subst IsNowhere (sym (f .unopened z)) tt)));
-    finds = λ s t k. let (p, v, x, c, y, z) = f .told s t k in subst (λ o. Answers receiverLayout o (Done 0)) (sym x) refl;
+    finds = λ s t k. let (p, v, x, c, y, z) = f .told s t k in subst (λ o. Finds receiverLayout o (Done 0)) (sym x) refl;
   }
 
-  missing-answers : (x : Refusal) → Finds m e (Nowhere x) → SymbolAnswered receiverLayout m e (Refused x)
+  missing-answers : (x : Refusal) → Spotted m e (Nowhere x) → SymbolAnswered receiverLayout m e (Refused x)
   missing-answers x f = record {
     unopened = (
       (λ z. by-header m (headerIn m ≡ none) (λ h k. absurd (f .lies h k (ap number z))) (λ k. k)),
       (λ z. ap (λ (y : Spot). refusal (reason y)) (f .unopened z)),
     );
-    finds = λ s t k. subst (λ o. Answers receiverLayout o (Refused x)) (sym (f .told s t k)) refl;
+    finds = λ s t k. subst (λ o. Finds receiverLayout o (Refused x)) (sym (f .told s t k)) refl;
   }
     where
       number : Said → ℕ
       number (value n) = n
       number (refusal n) = n
 
-  pub symbol-found : (f : Spot) (a n : ℕ) → f ≡ At a n → Finds m e f → SymbolAnswered receiverLayout m e (Done 0)
-  symbol-found f a n q g = found-answers a n (subst (Finds m e) q g)
+  pub symbol-found : (f : Spot) (a n : ℕ) → f ≡ At a n → Spotted m e f → SymbolAnswered receiverLayout m e (Done 0)
+  symbol-found f a n q g = found-answers a n (subst (Spotted m e) q g)
 
-  pub symbol-missing : (f : Spot) (x : Refusal) → f ≡ Nowhere x → Finds m e f → SymbolAnswered receiverLayout m e (Refused x)
-  symbol-missing f x q g = missing-answers x (subst (Finds m e) q g)
+  pub symbol-missing : (f : Spot) (x : Refusal) → f ≡ Nowhere x → Spotted m e f → SymbolAnswered receiverLayout m e (Refused x)
+  symbol-missing f x q g = missing-answers x (subst (Spotted m e) q g)
 
-pub at-bounded : (m : List ℕ) (e : ℕ) (f : Spot) (a n : ℕ) → f ≡ At a n → Finds m e f → a + n ≤ length m
+pub at-bounded : (m : List ℕ) (e : ℕ) (f : Spot) (a n : ℕ) → f ≡ At a n → Spotted m e f → a + n ≤ length m
 at-bounded m e f a n q g =
-    let h = subst (Finds m e) q g in
+    let h = subst (Spotted m e) q g in
     by-header m (a + n ≤ length m) (λ x k. h .lies x k .1) (λ k. absurd (subst IsNowhere (sym (h .unopened k)) tt))
 
 module _ (mem r : RefT (List ℕ)) (e : ℕ) where
-  pub part-found : (f : Spot) (a n : ℕ) → f ≡ At a n → Finds (now mem) e f → LiesAt r mem a n → PartShown receiverLayout mem r e
+  pub part-found : (f : Spot) (a n : ℕ) → f ≡ At a n → Spotted (now mem) e f → LiesAt r mem a n → PartShown receiverLayout mem r e
   part-found f a n q g l =
-      let h : Finds (now mem) e (At a n) = subst (Finds (now mem) e) q g in
+      let h : Spotted (now mem) e (At a n) = subst (Spotted (now mem) e) q g in
       record {
         unopened = λ z. absurd (subst IsNowhere (sym (h .unopened z)) tt);
         within = λ x k. inr (a, subst (LiesAt r mem a) (h .lies x k .0) l);
@@ -217,9 +217,9 @@ module _ (mem r : RefT (List ℕ)) (e : ℕ) where
             subst (λ o. Shows receiverLayout s o mem r) (sym x) (l .bytes ∙ sym c, subst (λ j. LiesAt r mem j (s .size)) y (subst (LiesAt r mem a) z l));
       }
 
-  pub part-missing : (f : Spot) (x : Refusal) → f ≡ Nowhere x → Finds (now mem) e f → now r ≡ [] → PartShown receiverLayout mem r e
+  pub part-missing : (f : Spot) (x : Refusal) → f ≡ Nowhere x → Spotted (now mem) e f → now r ≡ [] → PartShown receiverLayout mem r e
   part-missing f x q g l =
-      let h : Finds (now mem) e (Nowhere x) = subst (Finds (now mem) e) q g in
+      let h : Spotted (now mem) e (Nowhere x) = subst (Spotted (now mem) e) q g in
       record {
         unopened = λ _. l;
         within = λ y k. inl l;

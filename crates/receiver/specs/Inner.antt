@@ -19,7 +19,7 @@ use Rattle.receiver.specs.declared.Spot.the-variants.{At, Nowhere}
 use Rattle.receiver.specs.Symbol.{Symbol, bytesOf}
 use Rattle.receiver.specs.Model.{State, shows, hides, finding}
 use Rattle.receiver.specs.Header.{headerIn}
-use Rattle.receiver.specs.Layout.{Holds, place}
+use Rattle.receiver.specs.Layout.{Holds, symbolStart}
 
 abbrev pub foundOf : Option Header → Found
 foundOf none = NoHeader
@@ -35,17 +35,17 @@ pub record RowOf (row d width r : ℕ) : Type 0 where
   pub small : r < width
 
 -- Of a state that the memory holds, a spot is where the symbol stands, and nowhere is why it is not shown.
-abbrev pub FindsFor : (m : List ℕ) (e : ℕ) (s : Setting) → State s → Spot → Type 0
-FindsFor m e s t (At a n) =
-    (p : ℕ) × (v : Symbol (s .size)) × (finding s t e ≡ shows p v) × (bytesOf (s .size) v ≡ part a n m) × (a ≡ place s p) × (n ≡ s .size)
-FindsFor m e s t (Nowhere x) = finding s t e ≡ hides (numberOf x)
+abbrev pub SpottedFor : (m : List ℕ) (e : ℕ) (s : Setting) → State s → Spot → Type 0
+SpottedFor m e s t (At a n) =
+    (p : ℕ) × (v : Symbol (s .size)) × (finding s t e ≡ shows p v) × (bytesOf (s .size) v ≡ part a n m) × (a ≡ symbolStart s p) × (n ≡ s .size)
+SpottedFor m e s t (Nowhere x) = finding s t e ≡ hides (numberOf x)
 
 -- Of any memory with a header, a spot lies in it.
-abbrev pub Lies : List ℕ → Header → Spot → Type 0
-Lies m h (At a n) = (n ≡ h .setting .size) × (a + n ≤ length m)
-Lies m h (Nowhere x) = numberOf x ≢ 3
+abbrev pub InBounds : List ℕ → Header → Spot → Type 0
+InBounds m h (At a n) = (n ≡ h .setting .size) × (a + n ≤ length m)
+InBounds m h (Nowhere x) = numberOf x ≢ 3
 
-pub record Finds (m : List ℕ) (e : ℕ) (f : Spot) : Type 0 where
+pub record Spotted (m : List ℕ) (e : ℕ) (f : Spot) : Type 0 where
   pub unopened : headerIn m ≡ none → f ≡ Nowhere Unopened
-  pub lies : (h : Header) → headerIn m ≡ some h → Lies m h f
-  pub told : (s : Setting) (t : State s) → Holds m s t → FindsFor m e s t f
+  pub lies : (h : Header) → headerIn m ≡ some h → InBounds m h f
+  pub told : (s : Setting) (t : State s) → Holds m s t → SpottedFor m e s t f

@@ -1,5 +1,5 @@
 // Where the symbol with an ESI stands.
-ghost use Rattle.receiver.specs.Inner.{Finds, RowOf};
+ghost use Rattle.receiver.specs.Inner.{Spotted, RowOf};
 ghost use mathlib.Core.Path.{_≡_};
 ghost use Prim.Native.Nat.{_+_, _<_, _≤_};
 ghost use Rattle.elimination.specs.Window.{place};
@@ -30,7 +30,7 @@ fn symbol_start(width: usize, size: usize, row: usize) -> usize
 
 // Finds the symbol.
 pub fn find(mem: &[u8], esi: Esi) -> Spot
-    ensures { λ r. ⌜ Finds (now (mem .entry)) (esi .0) r ⌝ }
+    ensures { λ r. ⌜ Spotted (now (mem .entry)) (esi .0) r ⌝ }
 {
     let Found::HeaderIs(header) = front::read_header(mem) else {
         return Spot::Nowhere(Refusal::Unopened);
