@@ -1,2 +1,10 @@
+-- The modules of the proofs.
 pub mod Symbols
 pub mod Sending
+pub mod Carrying
+pub mod Demand
+pub mod Reading
+pub mod Sent
+pub mod NotEmpty
+pub mod ReceiverUnopened
+pub mod Receiver

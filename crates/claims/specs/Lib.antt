@@ -1,3 +1,12 @@
 pub mod SenderRun
 pub mod Unopened
 pub mod Bench
+pub mod Run
+pub mod Carrying
+pub mod Demand
+pub mod Sent
+pub mod Reading
+pub mod NotEmpty
+pub mod ReceiverUnopened
+pub mod Receiver
+pub mod ReceiverBench

@@ -1,0 +1,60 @@
+-- A filling that carries a list of symbols holds every stretch of them; and there is one.
+use mathlib.Core.Path.{_≡_, refl, sym, ap, ap₂, _∙_, subst}
+use mathlib.Core.List.{List, [], _∷_, _++_}
+use Prim.Native.Nat.{ℕ, zero, suc, _+_, _-_, _≤_, _<_}
+use native.Mathlib.Nat.{add-zero, add-suc, suc-add, zero-add, add-comm}
+use native.Mathlib.Omega.{arith}
+use lib.ListN.{length, getD, drop, length-drop}
+use lib.Seq.{getD-drop}
+use Rattle.receiver.specs.Symbol.{bytesOf, symbolOf}
+use Rattle.receiver.specs.History.{Filling, symbolsAt}
+use Rattle.receiver.proofs.Says.{Whole, Wholes, getD-at, holds}
+use Rattle.claims.specs.SenderRun.{AreSymbols}
+use Rattle.claims.specs.Carrying.{Carries}
+
+-- The bytes at a position are the symbol that lies there.
+pub carried : (E offset : ℕ) (all : List (List ℕ)) (f : Filling E) → Carries E offset all f → (p : ℕ) → p + offset < length all
+    → bytesOf E (f p) ≡ getD all (p + offset) []
+carried E offset all f c p h =
+    ap (λ q. bytesOf E (f q)) (sym (zero-add p)) ∙ sym (getD-at E f 0 (length (drop offset all)) p (omega (arith, length-drop offset all)))
+    ∙ ap (λ (l : List (List ℕ)). getD l p []) c ∙ rw getD-drop (ap (λ i. getD all i []) (add-comm offset p))
+
+abbrev head : List (List ℕ) → List ℕ
+head [] = []
+head (v ∷ vs) = v
+
+abbrev rest : List (List ℕ) → List (List ℕ)
+rest [] = []
+rest (v ∷ vs) = vs
+
+module _ (E : ℕ) (f : Filling E) where
+  later : (before ys : List (List ℕ)) (p : ℕ) → symbolsAt E f p (length (before ++ ys)) ≡ before ++ ys
+      → symbolsAt E f (p + length before) (length ys) ≡ ys
+  later [] ys p h = ap (λ q. symbolsAt E f q (length ys)) (add-zero p) ∙ h
+  later (x ∷ before) ys p h =
+      ap (λ q. symbolsAt E f q (length ys)) (add-suc p (length before) ∙ sym (suc-add p (length before))) ∙ later before ys (suc p) (ap rest h)
+
+  front : (ys after : List (List ℕ)) (p : ℕ) → symbolsAt E f p (length (ys ++ after)) ≡ ys ++ after → symbolsAt E f p (length ys) ≡ ys
+  front [] after p h = refl
+  front (y ∷ ys) after p h = ap₂ (λ (x : List ℕ) (l : List (List ℕ)). x ∷ l) (ap head h) (front ys after (suc p) (ap rest h))
+
+  -- A stretch of the symbols, at its positions.
+  pub stretch : (before ys after all : List (List ℕ)) → all ≡ before ++ (ys ++ after) → Carries E 0 all f
+      → symbolsAt E f (length before) (length ys) ≡ ys
+  stretch before ys after all e c =
+      let whole : symbolsAt E f 0 (length (before ++ (ys ++ after))) ≡ before ++ (ys ++ after) = subst (λ l. symbolsAt E f 0 (length l) ≡ l) e c in
+      front ys after (length before) (subst (λ q. symbolsAt E f q (length (ys ++ after)) ≡ ys ++ after) (zero-add (length before)) (later before (ys ++ after) 0 whole))
+
+-- The filling of a list of symbols.
+abbrev pub filler : (E : ℕ) → List (List ℕ) → Filling E
+filler E all i = symbolOf E (getD all i [])
+
+wholes : (E : ℕ) (vs : List (List ℕ)) → AreSymbols E vs → Wholes E vs
+wholes E [] h = tt
+wholes E (v ∷ vs) h = (
+  record { sized = h .sized 0 (omega arith); small = h .small 0 },
+  wholes E vs (record { sized = λ p l. h .sized (suc p) (omega arith); small = λ p. h .small (suc p) }),
+)
+
+pub filler-carries : (E : ℕ) (all : List (List ℕ)) → AreSymbols E all → Carries E 0 all (filler E all)
+filler-carries E all h = holds E (filler E all) all (wholes E all h) 0 .0 (λ i l. ap (filler E all) (zero-add i))

@@ -1,0 +1,200 @@
+-- Demand 3 holds of every list of calls that the promises allow.
+use mathlib.Core.Path.{_≡_, refl, sym, ap, ap₂, _∙_, subst}
+use mathlib.Core.Logic.{_↔_, _⊎_, inl, inr, Iff·trans}
+use mathlib.Core.Bool.{Bool, true, false, cond}
+use mathlib.Core.Option.{Option, none, some}
+use mathlib.Core.List.{List, [], _∷_, _++_, map}
+use denote.Ref.{RefT, now}
+use Prim.Native.Nat.{ℕ, _+_, _%_, _^_, _≤_, _<_}
+use native.Mathlib.Decide.{decLt}
+use native.Mathlib.Omega.{arith}
+use lib.Dec.{ltb}
+use lib.ListN.{length, getD}
+use Rattle.wire.specs.declared.Setting.{Setting}
+use Rattle.wire.specs.Settings.{settingOf, Valid}
+use Rattle.wire.proofs.Settings.{setting-names}
+use Rattle.decoder.specs.Model.{known}
+use Rattle.decoder.specs.Receiver as decoder
+use Rattle.receiver.specs.declared.Answer.{Answer}
+use Rattle.receiver.specs.Symbol.{Symbol, bytesOf}
+use Rattle.receiver.specs.History.{Filling, Located, All, Consistent, Known, Reading, located, memorySize, reading, Log, fresh, baseOf, OfBytes, Said, value, refusal, logged, Judged}
+use Rattle.receiver.specs.Model.{State, opened, Outcome, refused, done, saidOf, stateAfter, responds, receiving, Finding, shows, hides, shown, finding}
+use Rattle.receiver.specs.Promises.{Layout, said, opening, Opened, Does, Received, Finds, SymbolAnswered, Shows, PartShown}
+use Rattle.receiver.proofs.Answers.{Tracks, judged, known-exactly, known-value, tracks-consistent, fresh-tracks}
+use Rattle.receiver.proofs.Counting.{judged-once}
+use Rattle.receiver.proofs.Readings.{reading-fits}
+use Rattle.receiver.proofs.Places.{found-inside, found-past, found-behind}
+use Rattle.claims.specs.Run.{Step, Run, final, read, goes-on, history}
+use Rattle.claims.specs.Demand.{esi, ShownExactly, HiddenOutside, Demand-3, Every-list, Alike, No-choice}
+use Rattle.claims.proofs.Carrying.{carried}
+
+abbrev pub IsValue : Said → Type 0
+IsValue (value n) = Unit {0}
+IsValue (refusal n) = ⊥
+
+module _ (L : Layout) (s : Setting) (v : Valid s) where
+  open Setting s using (size as E, width)
+
+  abbrev pub some-bytes : 0 < E
+  some-bytes = let h = v .size-least in omega arith
+
+  -- The memory holds a state that follows the history.
+  pub record Stands (m : List ℕ) (l : Log) : Type 0 where
+    pub state : State s
+    pub held : L .Holds m s state
+    pub tracks : Tracks s some-bytes l state
+
+  -- ---- The calls
+
+  did : (m m′ : List ℕ) (a : Answer) (t : State s) (o : Outcome s) → Does L s o m m′ a → L .Holds m s t
+      → (said a ≡ saidOf o) × L .Holds m′ s (stateAfter t o)
+  did m m′ a t (refused n) (e, q) h = (e, subst (λ x. L .Holds x s t) (sym q) h)
+  did m m′ a t (done n t′) p h = p
+
+  step : (m : List ℕ) (l : Log) (t : Step) → Stands m l → OfBytes (t .call) → Received L (t .call) m (t .memory) (t .working) (t .left) (t .answer)
+      → Judged s l (read s l t) (said (t .answer)) × Stands (t .memory) (logged s l (read s l t) (said (t .answer)))
+  unfolding receiving
+  step m l t g b p =
+      let x = g .state in
+      let room = length (t .working) in
+      let r = reading s (x .base) room (t .call) in
+      let same : r ≡ read s l t = ap (λ y. reading s y room (t .call)) (g .tracks .base-is) in
+      let h = judged s some-bytes l x r (g .tracks) (λ q e. reading-fits s some-bytes (baseOf l) room (t .call) q b (sym same ∙ e)) in
+      let (e, z) = did m (t .memory) (t .answer) x (responds s x r) (p .does s x (g .held)) (g .held) in
+      let k = subst (λ a. Judged s l r a × Tracks s some-bytes (logged s l r a) (stateAfter x (responds s x r))) (sym e) h in
+      let (j, n) = subst (λ y. Judged s l y (said (t .answer)) × Tracks s some-bytes (logged s l y (said (t .answer))) (stateAfter x (responds s x r))) same k in
+      (j, record { state = stateAfter x (responds s x r); held = z; tracks = n })
+
+  pub stands : (ts : List Step) (m : List ℕ) (l : Log) → Stands m l → Run L m ts → Stands (final m ts) (goes-on s l ts)
+  stands [] m l g p = g
+  stands (t ∷ ts) m l g p = stands ts (t .memory) _ (step m l t g (p .0) (p .1) .1) (p .2)
+
+  each : (before : List Step) (t : Step) (after : List Step) (m : List ℕ) (l : Log) → Stands m l → Run L m (before ++ (t ∷ after))
+      → Judged s (goes-on s l before) (read s (goes-on s l before) t) (said (t .answer))
+  each [] t after m l g p = step m l t g (p .0) (p .1) .0
+  each (u ∷ before) t after m l g p = each before t after (u .memory) _ (step m l u g (p .0) (p .1) .1) (p .2)
+
+  -- ---- The symbol calls
+
+  module _ (m : List ℕ) (l : Log) (g : Stands m l) where
+    abbrev state : State s
+    state = g .state
+
+    -- What the two calls find at the ESI of the position base + d.
+    at-base : (d : ℕ) (o : Finding E) → finding s state ((state .base + d) % 2 ^ 32) ≡ o → finding s state (esi (baseOf l + d)) ≡ o
+    at-base d o e = subst (λ b. finding s state ((b + d) % 2 ^ 32) ≡ o) (g .tracks .base-is) e
+
+    answer-is : (d : ℕ) (o : Finding E) → finding s state (esi (baseOf l + d)) ≡ o → (a : Answer) → SymbolAnswered L m (esi (baseOf l + d)) a
+        → Finds L o a
+    answer-is d o e a p = subst (λ x. Finds L x a) e (p .finds s state (g .held))
+
+    part-is : (d : ℕ) (o : Finding E) → finding s state (esi (baseOf l + d)) ≡ o → (memory part : RefT (List ℕ)) → now memory ≡ m
+        → PartShown L memory part (esi (baseOf l + d)) → Shows L s o memory part
+    part-is d o e memory part q p =
+        subst (λ x. Shows L s x memory part) e (p .shows s state (subst (λ x. L .Holds x s state) (sym q) (g .held)))
+
+    outside : (d : ℕ) → width ≤ d → d < 2 ^ 32 → HiddenOutside L s m (baseOf l) d
+    outside d w h = record {
+      past = λ n a p. answer-is d (hides 12) (at-base d (hides 12) (found-past s state d h n w)) a p;
+      behind = λ n a p. answer-is d (hides 8) (at-base d (hides 8) (found-behind s state d h n)) a p;
+      nothing = λ memory part q p. go (decLt d (2 ^ 31)) memory part q p;
+    }
+      where
+        go : Dec (d < 2 ^ 31) → (memory part : RefT (List ℕ)) → now memory ≡ m → PartShown L memory part (esi (baseOf l + d)) → now part ≡ []
+        go (yes n) memory part q p = part-is d (hides 12) (at-base d (hides 12) (found-past s state d h n w)) memory part q p
+        go (no n) memory part q p = part-is d (hides 8) (at-base d (hides 8) (found-behind s state d h (omega arith))) memory part q p
+
+    module _ (i : ℕ) (within : i < width) where
+      abbrev symbol : Option (Symbol E)
+      symbol = known (state .window) i
+
+      here : finding s state (esi (baseOf l + i)) ≡ shown s (state .base + i) symbol
+      here = let n = v .width-most in at-base i (shown s (state .base + i) symbol) (found-inside s state i (omega arith) (omega arith) within)
+
+      exactly : decoder.Accepted symbol ↔ Known E (l .accepted) (baseOf l + i)
+      exactly = known-exactly s some-bytes l state (g .tracks) i
+
+      zero-or-twelve : (o : Option (Symbol E)) (a : Answer) → Finds L (shown s (state .base + i) o) a → (said a ≡ value 0) ⊎ (said a ≡ refusal 12)
+      zero-or-twelve none a e = inr e
+      zero-or-twelve (some x) a e = inl e
+
+      zero-exactly : (o : Option (Symbol E)) (a : Answer) → Finds L (shown s (state .base + i) o) a → (said a ≡ value 0) ↔ decoder.Accepted o
+      zero-exactly none a e = ((λ h. absurd (subst IsValue (sym h ∙ e) tt)), (λ h. absurd h))
+      zero-exactly (some x) a e = ((λ _. tt), (λ _. e))
+
+      bytes-here : (memory part : RefT (List ℕ)) (o : Option (Symbol E)) → symbol ≡ o → Shows L s (shown s (state .base + i) o) memory part
+          → decoder.Accepted o → (f : Filling E) → All E (l .accepted) f → now part ≡ bytesOf E (f (baseOf l + i))
+      bytes-here memory part none k p a f h = absurd a
+      bytes-here memory part (some x) k p a f h = p .0 ∙ ap (bytesOf E) (sym (known-value s some-bytes l state (g .tracks) i x k f h))
+
+      nothing-here : (memory part : RefT (List ℕ)) (o : Option (Symbol E)) → Shows L s (shown s (state .base + i) o) memory part
+          → ¬ decoder.Accepted o → now part ≡ []
+      nothing-here memory part none p n = p
+      nothing-here memory part (some x) p n = absurd (n tt)
+
+      bytes-shown : (memory part : RefT (List ℕ)) → now memory ≡ m → PartShown L memory part (esi (baseOf l + i))
+          → Known E (l .accepted) (baseOf l + i) → (f : Filling E) → All E (l .accepted) f → now part ≡ bytesOf E (f (baseOf l + i))
+      bytes-shown memory part q p k f h =
+          bytes-here memory part symbol refl (part-is i (shown s (state .base + i) symbol) here memory part q p) (exactly .1 k) f h
+
+      shown-exactly : ShownExactly L s m (l .accepted) (baseOf l + i)
+      shown-exactly = record {
+        answers = λ a p. zero-or-twelve symbol a (answer-is i (shown s (state .base + i) symbol) here a p);
+        shown = λ a p. Iff·trans (zero-exactly symbol a (answer-is i (shown s (state .base + i) symbol) here a p)) exactly;
+        bytes = bytes-shown;
+        nothing = λ memory part q p n.
+            nothing-here memory part symbol (part-is i (shown s (state .base + i) symbol) here memory part q p) (λ a. n (exactly .0 a));
+        sender = λ memory part q p k all offset f h c n. bytes-shown memory part q p k f h ∙ carried E offset all f c (baseOf l + i) n;
+      }
+
+  pub opened-stands : (scheme size w : ℕ) (m₀ m : List ℕ) (a : Answer) → Opened L scheme size w m₀ m a → said a ≡ value 0
+      → settingOf scheme size w ≡ some s → Stands m fresh
+  opened-stands scheme size w m₀ m a p e h = record { state = opened s; held = p .holds s h e; tracks = fresh-tracks s some-bytes }
+
+  demand : (m : List ℕ) → Stands m fresh → (ts : List Step) → Run L m ts → Demand-3 L s ts (final m ts)
+  demand m g ts p =
+      let n = stands ts m fresh g p in
+      record {
+        calls = λ before t after e. each before t after m fresh g (subst (Run L m) e p);
+        consistent = tracks-consistent s some-bytes (history s ts) (n .state) (n .tracks);
+        window = λ i h. shown-exactly (final m ts) (history s ts) n i h;
+        outside = λ d h k. outside (final m ts) (history s ts) n d h k;
+      }
+
+-- An opening that answers 0 had a setting.
+pub had-setting : (o : Option Setting) (room : ℕ) → opening o room ≡ value 0 → (s : Setting) × (o ≡ some s)
+had-setting none room e = absurd (subst IsValue (sym e) tt)
+had-setting (some s) room e = (s, refl)
+
+pub demand-3 : (L : Layout) → Every-list L
+demand-3 L scheme E w m₀ m a p e ts r =
+    let (s, h) = had-setting (settingOf scheme E w) (length m₀) (sym (p .answer) ∙ e) in
+    let v = setting-names scheme E w s h .valid in
+    (s, h, demand L s v m (opened-stands L s v scheme E w m₀ m a p e h) ts r)
+
+-- ---- No choice
+
+judged-from : Setting → Log → List Step → Type 0
+judged-from s l ts =
+    (before : List Step) (t : Step) (after : List Step) → ts ≡ before ++ (t ∷ after)
+    → Judged s (goes-on s l before) (read s (goes-on s l before) t) (said (t .answer))
+
+alike : (s : Setting) (ts us : List Step) (l : Log) → Alike ts us → judged-from s l ts → judged-from s l us
+    → map (λ t. said (t .answer)) ts ≡ map (λ u. said (u .answer)) us
+unfolding judged-from
+alike s [] [] l e f g = refl
+alike s [] (u ∷ us) l e f g = absurd e
+alike s (t ∷ ts) [] l e f g = absurd e
+alike s (t ∷ ts) (u ∷ us) l e f g =
+    let same : read s l t ≡ read s l u = ap₂ (λ c n. reading s (baseOf l) n c) (e .0) (e .1) in
+    let one : said (t .answer) ≡ said (u .answer) =
+    judged-once s l (read s l u) _ _ (subst (λ r. Judged s l r (said (t .answer))) same (f [] t ts refl)) (g [] u us refl) in
+    let on : logged s l (read s l t) (said (t .answer)) ≡ logged s l (read s l u) (said (u .answer)) = ap₂ (λ r a. logged s l r a) same one in
+    let rest = alike s ts us (logged s l (read s l u) (said (u .answer))) (e .2)
+    (subst (λ x. judged-from s x ts) on (λ before v after p. f (t ∷ before) v after (ap (λ x. t ∷ x) p)))
+    (λ before v after p. g (u ∷ before) v after (ap (λ x. u ∷ x) p)) in
+    ap₂ (λ a as′. a ∷ as′) one rest
+
+pub no-choice : No-choice
+unfolding judged-from
+no-choice s ts us e f g = alike s ts us fresh e f g

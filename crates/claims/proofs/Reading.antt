@@ -1,0 +1,74 @@
+-- Every packet that RFC 8681 can write within our sizes is read at its place.
+use mathlib.Core.Path.{_≡_, refl, sym, ap, _∙_}
+use mathlib.Core.Bool.{true}
+use mathlib.Core.List.{List}
+use Prim.Native.Nat.{ℕ, _+_, _%_, _^_, _≤_, _<_}
+use native.Mathlib.Nat.{mod-lt}
+use native.Mathlib.Omega.{arith}
+use lib.ListN.{length}
+use lib.Dec.{leb, lit<}
+use borrow.Author.Tests.{le-leb}
+use Rattle.wire.specs.declared.Setting.{Setting}
+use Rattle.wire.specs.Packets.{Sized, symbolCount, sourceSymbols, sourcePacket, repairPacket}
+use Rattle.wire.proofs.Settings.{within-true}
+use Rattle.wire.proofs.Reading.{source-form, source-adu, source-esi, repair-form, repair-symbols, repair-key, density-threshold, protected-count, first-esi}
+use Rattle.coefficients.specs.Coefficients.{keys, listsOf, allOk}
+use Rattle.receiver.specs.History.{Located, source, repair, placeOf, source-call, repair-call, Reading, fails, located, check, placed, workingSize, readSource, readRepair, reading}
+use Rattle.receiver.proofs.Places.{placed-taken, placed-behind, placed-far}
+use Rattle.claims.specs.Reading.{ReadBy, Read-as-written, Reads}
+
+-- A reading that comes to a place.
+by-place : (base d n : ℕ) (next : ℕ → Reading) (q : Located) (r : Reading) → d < 2 ^ 32 → next d ≡ located q
+    → r ≡ placed n (placeOf base ((base + d) % 2 ^ 32)) next → ReadBy d n q r
+by-place base d n next q r small e p = record {
+  taken = λ h k. p ∙ placed-taken base d small n next h k ∙ e;
+  behind = λ h. p ∙ placed-behind base d small n next h;
+  far = λ h k. p ∙ placed-far base d small n next h k;
+}
+
+module _ (s : Setting) (z : 0 < s .size) (w : s .width ≤ 255) (base room d : ℕ) (enough : workingSize s ≤ room) (small : d < 2 ^ 32) where
+  abbrev esi : ℕ
+  esi = (base + d) % 2 ^ 32
+
+  source-read : (flow : ℕ) (adu : List ℕ) → length adu ≤ 65535 → symbolCount (s .size) (length adu) ≤ s .width
+      → ReadBy d (symbolCount (s .size) (length adu)) (source (base + d) (sourceSymbols flow adu (s .size)))
+      (reading s base room (source-call flow (sourcePacket adu esi)))
+  unfolding reading readSource check
+  source-read flow adu h k =
+      by-place base d (symbolCount (s .size) (length adu)) (λ x. located (source (base + x) (sourceSymbols flow adu (s .size)))) _ _ small refl
+      (rw (
+        le-leb (workingSize s) room enough,
+        source-form adu esi,
+        source-adu adu esi,
+        le-leb (length adu) 65535 h,
+        le-leb (symbolCount (s .size) (length adu)) (s .width) k,
+        source-esi adu esi (mod-lt (base + d) (lit< tt)),
+      ))
+
+  repair-read : (key dt n : ℕ) (symbols : List (List ℕ)) → key < 2 ^ 16 → dt ≤ 15 → 1 ≤ n → n ≤ s .width
+      → Sized (s .size) symbols → 1 ≤ length symbols → length symbols ≤ 16 → allOk (s .scheme) dt n (keys key (length symbols)) ≡ true
+      → ReadBy d n (repair (base + d) n (listsOf (s .scheme) dt n (keys key (length symbols))) symbols)
+      (reading s base room (repair-call (repairPacket key dt n esi symbols)))
+  unfolding reading readRepair check
+  repair-read key dt n symbols a b c e f g h ok =
+      let ks = keys key (length symbols) in
+      by-place base d n (λ x. check (allOk (s .scheme) dt n ks) 10 (located (repair (base + x) n (listsOf (s .scheme) dt n ks) symbols)))
+      _ _ small (rw ok)
+      (rw (
+        le-leb (workingSize s) room enough,
+        repair-form key dt n esi (s .size) symbols f z g h,
+        repair-symbols key dt n esi (s .size) symbols f z,
+        repair-key key dt n esi symbols a,
+        density-threshold key dt n esi symbols (omega arith) (omega arith),
+        protected-count key dt n esi symbols (omega arith) (omega arith),
+        first-esi key dt n esi symbols (mod-lt (base + d) (lit< tt)),
+        within-true 1 (s .width) n c e,
+      ))
+
+pub reads : Reads
+reads s v base room d enough small =
+    let z : 0 < s .size = omega (arith, v .size-least) in
+    record {
+      sources = source-read s z (v .width-most) base room d enough small;
+      repairs = repair-read s z (v .width-most) base room d enough small;
+    }

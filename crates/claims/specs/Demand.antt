@@ -1,0 +1,82 @@
+-- Demand 3: what is claimed of every list of packet calls from a fresh receiver.
+use mathlib.Core.Path.{_≡_}
+use mathlib.Core.Logic.{_↔_, _⊎_}
+use mathlib.Core.List.{List, [], _∷_, _++_, map}
+use mathlib.Core.Option.{some}
+use denote.Ref.{RefT, now}
+use Prim.Native.Nat.{ℕ, _+_, _%_, _^_, _≤_, _<_}
+use lib.ListN.{length, getD}
+use Rattle.wire.specs.declared.Setting.{Setting}
+use Rattle.wire.specs.Settings.{settingOf}
+use Rattle.receiver.specs.declared.Answer.{Answer}
+use Rattle.receiver.specs.Symbol.{bytesOf}
+use Rattle.receiver.specs.History.{Filling, Located, All, Consistent, Known, Log, fresh, baseOf, Said, value, refusal, Judged}
+use Rattle.receiver.specs.Promises.{Layout, said, Opened, SymbolAnswered, PartShown}
+use Rattle.claims.specs.Run.{Step, Run, final, read, history}
+use Rattle.claims.specs.Carrying.{Carries}
+
+-- The ESI of a position.
+abbrev pub esi : ℕ → ℕ
+esi p = p % 2 ^ 32
+
+-- What is claimed of the calls that show symbols, after the packets `qs` were accepted, when the receiver's memory is m: of whatever they may
+-- answer by their promises.
+module _ (L : Layout) (s : Setting) (m : List ℕ) where
+  open Setting s using (size as E, width)
+
+  -- A position in the window.
+  pub record ShownExactly (qs : List Located) (p : ℕ) : Type 0 where
+    -- The symbol call answers 0 or 12; 0 exactly when all fillings that satisfy every accepted packet hold the same bytes there.
+    pub answers : (a : Answer) → SymbolAnswered L m (esi p) a → (said a ≡ value 0) ⊎ (said a ≡ refusal 12)
+    pub shown : (a : Answer) → SymbolAnswered L m (esi p) a → (said a ≡ value 0) ↔ Known E qs p
+    -- Then those are shown; else the part is empty.
+    pub bytes : (memory part : RefT (List ℕ)) → now memory ≡ m → PartShown L memory part (esi p) → Known E qs p
+        → (f : Filling E) → All E qs f → now part ≡ bytesOf E (f p)
+    pub nothing : (memory part : RefT (List ℕ)) → now memory ≡ m → PartShown L memory part (esi p) → ¬ Known E qs p → now part ≡ []
+    -- Where a filling carries a sender's symbols, the bytes shown at their positions are the sender's.
+    pub sender : (memory part : RefT (List ℕ)) → now memory ≡ m → PartShown L memory part (esi p) → Known E qs p
+        → (all : List (List ℕ)) (offset : ℕ) (f : Filling E) → All E qs f → Carries E offset all f
+        → p + offset < length all → now part ≡ getD all (p + offset) []
+
+  -- Outside the window: 8 from 2^31 on, else 12, and the part is empty.
+  pub record HiddenOutside (base d : ℕ) : Type 0 where
+    pub past : d < 2 ^ 31 → (a : Answer) → SymbolAnswered L m (esi (base + d)) a → said a ≡ refusal 12
+    pub behind : 2 ^ 31 ≤ d → (a : Answer) → SymbolAnswered L m (esi (base + d)) a → said a ≡ refusal 8
+    pub nothing : (memory part : RefT (List ℕ)) → now memory ≡ m → PartShown L memory part (esi (base + d)) → now part ≡ []
+
+-- Each call of the list, after the calls before it, is answered as the history asks.
+abbrev pub Answered : Setting → List Step → Type 0
+Answered s ts =
+    (before : List Step) (t : Step) (after : List Step) → ts ≡ before ++ (t ∷ after)
+    → Judged s (history s before) (read s (history s before) t) (said (t .answer))
+
+-- Demand 3, of the list of calls `ts` that has left the memory m.
+pub record Demand-3 (L : Layout) (s : Setting) (ts : List Step) (m : List ℕ) : Type 0 where
+  -- A packet is accepted exactly when it passes the checks of form, place and coefficients and some filling of the whole stream satisfies it and
+  -- every packet accepted before; else its call answers the number of the first check that fails, or 11.
+  pub calls : Answered s ts
+  -- At least one filling satisfies every accepted packet.
+  pub consistent : Consistent (s .size) (history s ts .accepted)
+  -- A position in the window has its symbol shown exactly when all such fillings hold the same bytes there, and those are shown.
+  pub window : (i : ℕ) → i < s .width → ShownExactly L s m (history s ts .accepted) (baseOf (history s ts) + i)
+  pub outside : (d : ℕ) → s .width ≤ d → d < 2 ^ 32 → HiddenOutside L s m (baseOf (history s ts)) d
+
+-- From memory on which opening has just answered 0, with any scheme, E and width, demand 3 holds of every list of packet calls.
+abbrev pub Every-list : Layout → Type 0
+Every-list L =
+    (scheme E w : ℕ) (m₀ m : List ℕ) (a : Answer) → Opened L scheme E w m₀ m a → said a ≡ value 0
+    → (ts : List Step) → Run L m ts
+    → (s : Setting) × (settingOf scheme E w ≡ some s) × Demand-3 L s ts (final m ts)
+
+-- The same calls: packets, flows, and as much working memory.
+abbrev pub Alike : List Step → List Step → Type 0
+Alike [] [] = Unit {0}
+Alike [] (u ∷ us) = ⊥
+Alike (t ∷ ts) [] = ⊥
+Alike (t ∷ ts) (u ∷ us) = (t .call ≡ u .call) × (length (t .working) ≡ length (u .working)) × Alike ts us
+
+-- Demand 3 leaves a receiver no choice: two that meet it answer the same calls alike.
+abbrev pub No-choice : Type 0
+No-choice =
+    (s : Setting) (ts us : List Step) → Alike ts us → Answered s ts → Answered s us
+    → map (λ t. said (t .answer)) ts ≡ map (λ u. said (u .answer)) us

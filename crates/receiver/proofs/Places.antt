@@ -1,0 +1,51 @@
+-- Where the ESI of the position base + d lies.
+use mathlib.Core.Path.{_≡_, refl, sym, ap, _∙_}
+use mathlib.Core.Bool.{Bool, true, false, cond}
+use Prim.Native.Nat.{ℕ, _+_, _%_, _^_, _≤_, _<_}
+use native.Mathlib.Omega.{arith}
+use lib.Dec.{ltb, leb}
+use borrow.Author.Tests.{lt-ltb, le-ltb, le-leb, lt-leb}
+use Rattle.wire.specs.declared.Setting.{Setting}
+use Rattle.wire.specs.Numbers.{distanceOf}
+use Rattle.decoder.specs.Model.{known}
+use Rattle.receiver.specs.History.{Place, behind, ahead, placeOf, Reading, fails, check, placed}
+use Rattle.receiver.specs.Model.{State, Finding, hides, shown, symbolIn, finding}
+
+pub distance-is : (base d : ℕ) → d < 2 ^ 32 → distanceOf ((base + d) % 2 ^ 32) (base % 2 ^ 32) ≡ d
+distance-is base d h = omega arith
+
+module _ (base d : ℕ) (small : d < 2 ^ 32) where
+  pub place-ahead : d < 2 ^ 31 → placeOf base ((base + d) % 2 ^ 32) ≡ ahead d
+  unfolding placeOf
+  place-ahead h = rw (distance-is base d small, lt-ltb d (2 ^ 31) h)
+
+  pub place-behind : 2 ^ 31 ≤ d → placeOf base ((base + d) % 2 ^ 32) ≡ behind
+  unfolding placeOf
+  place-behind h = rw (distance-is base d small, le-ltb d (2 ^ 31) h)
+
+  -- Packets.
+  pub placed-taken : (n : ℕ) (next : ℕ → Reading) → d < 2 ^ 31 → d + n ≤ 65536 → placed n (placeOf base ((base + d) % 2 ^ 32)) next ≡ next d
+  unfolding placed check
+  placed-taken n next h k = rw (place-ahead h, le-leb (d + n) 65536 k)
+
+  pub placed-behind : (n : ℕ) (next : ℕ → Reading) → 2 ^ 31 ≤ d → placed n (placeOf base ((base + d) % 2 ^ 32)) next ≡ fails 8
+  unfolding placed
+  placed-behind n next h = rw (place-behind h)
+
+  pub placed-far : (n : ℕ) (next : ℕ → Reading) → d < 2 ^ 31 → 65536 < d + n → placed n (placeOf base ((base + d) % 2 ^ 32)) next ≡ fails 9
+  unfolding placed check
+  placed-far n next h k = rw (place-ahead h, lt-leb (d + n) 65536 k)
+
+-- The symbol call.
+module _ (s : Setting) (t : State s) (d : ℕ) (small : d < 2 ^ 32) where
+  pub found-inside : d < 2 ^ 31 → d < s .width → finding s t ((t .base + d) % 2 ^ 32) ≡ shown s (t .base + d) (known (t .window) d)
+  unfolding finding
+  found-inside h k = rw (place-ahead (t .base) d small h, lt-ltb d (s .width) k)
+
+  pub found-past : d < 2 ^ 31 → s .width ≤ d → finding s t ((t .base + d) % 2 ^ 32) ≡ hides 12
+  unfolding finding
+  found-past h k = rw (place-ahead (t .base) d small h, le-ltb d (s .width) k)
+
+  pub found-behind : 2 ^ 31 ≤ d → finding s t ((t .base + d) % 2 ^ 32) ≡ hides 8
+  unfolding finding
+  found-behind h = rw (place-behind (t .base) d small h)

@@ -1,0 +1,168 @@
+-- What the checks before 11 leave of a packet: where it lies, what it says, and that it fits the window.
+use mathlib.Core.Path.{_≡_, refl, sym, ap, _∙_, subst}
+use mathlib.Core.Bool.{Bool, true, false, _&&_}
+use mathlib.Core.List.{List, [], _∷_, _++_, map}
+use Prim.Native.Nat.{ℕ, zero, suc, _+_, _-_, _*_, _%_, _^_, _≤_, _<_}
+use native.Mathlib.Nat.{mod-lt, suc-mul}
+use native.Mathlib.Omega.{arith}
+use lib.ListN.{length, getD, take, drop, replicate, length-map, length-take, length-drop}
+use lib.Seq.{getD-drop}
+use lib.Dec.{ltb, leb, eqb, lit<}
+use borrow.Author.Tests.{ltb-true, leb-true, eqb-true}
+use Rattle.memory.specs.Part.{part}
+use Rattle.memory.specs.Number.{bytes, Bytes}
+use Rattle.memory.proofs.Number.{bytes-part}
+use Rattle.wire.specs.declared.Scheme.{Scheme}
+use Rattle.wire.specs.declared.Setting.{Setting}
+use Rattle.wire.specs.Numbers.{within, distanceOf}
+use Rattle.wire.specs.Packets.{zeros, chunks, symbolCount, adui, sourceSymbols, sourceForm, sourceAdu, sourceEsi, repairCount, repairForm, repairKey, densityThreshold, protectedCount, firstEsi, repairSymbols}
+use Rattle.wire.proofs.Settings.{both, within-bounds}
+use Rattle.wire.proofs.Adui.{length-adui, symbols-count, length-chunks}
+use Rattle.coefficients.specs.Coefficients.{keys, listsOf, allOk}
+use Rattle.coefficients.proofs.Lists.{length-keys, list-bytes}
+use Rattle.receiver.specs.History.{Located, source, repair, first, named, Place, behind, ahead, placeOf, Call, source-call, repair-call, OfBytes, Reading, fails, located, check, placed, readSource, readRepair, workingSize, readPacket, reading}
+use Rattle.receiver.proofs.Cases.{IsLocated, packet-path}
+use Rattle.receiver.proofs.Says.{Whole, Wholes, AllBytes, Formed}
+use Rattle.receiver.proofs.Answers.{Fits}
+
+pub check-passed : (t : Bool) (n : ℕ) (r : Reading) (q : Located) → check t n r ≡ located q → (t ≡ true) × (r ≡ located q)
+unfolding check
+check-passed true n r q e = (refl, e)
+check-passed false n r q e = absurd (subst IsLocated (sym e) tt)
+
+-- ---- Symbols of E bytes
+
+bytes-append : (l k : List ℕ) → Bytes l → Bytes k → Bytes (l ++ k)
+bytes-append [] k h g i = g i
+bytes-append (x ∷ l) k h g zero = h 0
+bytes-append (x ∷ l) k h g (suc i) = bytes-append l k (λ j. h (suc j)) g i
+
+zeros-bytes : (n : ℕ) → Bytes (zeros n)
+zeros-bytes zero i = lit< tt
+zeros-bytes (suc n) zero = lit< tt
+zeros-bytes (suc n) (suc i) = zeros-bytes n i
+
+number-bytes : (n v : ℕ) → Bytes (bytes n v)
+number-bytes zero v i = lit< tt
+number-bytes (suc n) v zero = mod-lt _ (lit< tt)
+number-bytes (suc n) v (suc i) = number-bytes n v i
+
+drop-bytes : (n : ℕ) (m : List ℕ) → Bytes m → Bytes (drop n m)
+drop-bytes n m h i = rw getD-drop (h (n + i))
+
+chunks-whole : (n E : ℕ) (m : List ℕ) → n * E ≤ length m → Bytes m → Wholes E (chunks n E m)
+unfolding part
+chunks-whole zero E m h b = tt
+chunks-whole (suc n) E m h b = (
+  record { sized = length-take E m ∙ omega (arith, suc-mul n E); small = bytes-part 0 E m b },
+  chunks-whole n E (drop E m) (omega (arith, suc-mul n E, length-drop E m)) (drop-bytes E m b),
+)
+
+adui-bytes : (flow : ℕ) (adu : List ℕ) (E : ℕ) → flow < 256 → Bytes adu → Bytes (adui flow adu E)
+unfolding adui
+adui-bytes flow adu E f b zero = f
+adui-bytes flow adu E f b (suc i) =
+    let n : ℕ = symbolCount E (length adu) * E - (3 + length adu) in
+    bytes-append (bytes 2 (length adu)) (adu ++ zeros n) (number-bytes 2 (length adu)) (bytes-append adu (zeros n) b (zeros-bytes n)) i
+
+pub source-whole : (flow : ℕ) (adu : List ℕ) (E : ℕ) → 0 < E → flow < 256 → Bytes adu → Wholes E (sourceSymbols flow adu E)
+unfolding sourceSymbols
+source-whole flow adu E z f b =
+    chunks-whole (symbolCount E (length adu)) E (adui flow adu E) (omega (arith, length-adui flow adu E z)) (adui-bytes flow adu E f b)
+
+pub repair-whole : (E : ℕ) (p : List ℕ) → repairForm E p ≡ true → Bytes p → Wholes E (repairSymbols E p)
+unfolding repairSymbols repairForm
+repair-whole E p h b =
+    let l : length p ≡ 8 + repairCount E p * E = eqb-true (length p) (8 + repairCount E p * E) (both (within 1 16 (repairCount E p)) _ h .1) in
+    chunks-whole (repairCount E p) E (drop 8 p) (omega (arith, length-drop 8 p, l)) (drop-bytes 8 p b)
+
+lists-bytes : (scheme : Scheme) (dt n : ℕ) (ks : List ℕ) → AllBytes (listsOf scheme dt n ks)
+lists-bytes scheme dt n [] = tt
+lists-bytes scheme dt n (k ∷ ks) = (list-bytes scheme k dt n, lists-bytes scheme dt n ks)
+
+-- ---- Place
+
+-- A packet's place has passed: it lies d ahead of the base, and not too far.
+pub record Places (base e n : ℕ) (next : ℕ → Reading) (q : Located) : Type 0 where
+  pub near : distanceOf e (base % 2 ^ 32) < 2 ^ 31
+  pub here : next (distanceOf e (base % 2 ^ 32)) ≡ located q
+
+places : (base e n : ℕ) (next : ℕ → Reading) (q : Located) → placed n (placeOf base e) next ≡ located q → Places base e n next q
+unfolding placed placeOf
+places base e n next q h = go (ltb (distanceOf e (base % 2 ^ 32)) (2 ^ 31)) refl
+  where
+    go : (t : Bool) → ltb (distanceOf e (base % 2 ^ 32)) (2 ^ 31) ≡ t → Places base e n next q
+    go false x = absurd (subst IsLocated (sym (rw x at h)) tt)
+    go true x = record { near = ltb-true _ _ x; here = check-passed (leb (distanceOf e (base % 2 ^ 32) + n) 65536) 9 _ q (rw x at h) .1 }
+
+-- ---- Packets
+
+module _ (s : Setting) where
+  open Setting s using (scheme, size as E, width)
+
+  -- A source packet that has passed.
+  pub record SourceRead (base flow : ℕ) (p : List ℕ) (q : Located) : Type 0 where
+    pub form : sourceForm p ≡ true
+    pub fits : symbolCount E (length (sourceAdu p)) ≤ width
+    pub near : distanceOf (sourceEsi p) (base % 2 ^ 32) < 2 ^ 31
+    pub says : source (base + distanceOf (sourceEsi p) (base % 2 ^ 32)) (sourceSymbols flow (sourceAdu p) E) ≡ q
+
+  pub source-read : (base flow : ℕ) (p : List ℕ) (q : Located) → readSource s base flow p ≡ located q → SourceRead base flow p q
+  unfolding readSource
+  source-read base flow p q h =
+      let (a, g) = check-passed (sourceForm p) 5 _ q h in
+      let (b, j) = check-passed (leb (length (sourceAdu p)) 65535 && leb (symbolCount E (length (sourceAdu p))) width) 4 _ q g in
+      let (c, d) = both (leb (length (sourceAdu p)) 65535) _ b in
+      let l = places base (sourceEsi p) (symbolCount E (length (sourceAdu p))) _ q j in
+      record { form = a; fits = leb-true _ _ d; near = l .near; says = packet-path (l .here) }
+
+  -- A repair packet that has passed.
+  pub record RepairRead (base : ℕ) (p : List ℕ) (q : Located) : Type 0 where
+    pub form : repairForm E p ≡ true
+    pub fits : protectedCount p ≤ width
+    pub near : distanceOf (firstEsi p) (base % 2 ^ 32) < 2 ^ 31
+    pub says :
+        repair (base + distanceOf (firstEsi p) (base % 2 ^ 32)) (protectedCount p)
+        (listsOf scheme (densityThreshold p) (protectedCount p) (keys (repairKey p) (length (repairSymbols E p)))) (repairSymbols E p) ≡ q
+
+  pub repair-read : (base : ℕ) (p : List ℕ) (q : Located) → readRepair s base p ≡ located q → RepairRead base p q
+  unfolding readRepair
+  repair-read base p q h =
+      let (a, g) = check-passed (repairForm E p) 5 _ q h in
+      let (b, j) = check-passed (within 1 width (protectedCount p)) 6 _ q g in
+      let l = places base (firstEsi p) (protectedCount p) _ q j in
+      let ks = keys (repairKey p) (length (repairSymbols E p)) in
+      let (f, k) = check-passed (allOk scheme (densityThreshold p) (protectedCount p) ks) 10 _ q (l .here) in
+      record { form = a; fits = within-bounds 1 width (protectedCount p) b .1; near = l .near; says = packet-path k }
+
+  pub reading-passed : (base room : ℕ) (c : Call) (q : Located) → reading s base room c ≡ located q → readPacket s base c ≡ located q
+  unfolding reading
+  reading-passed base room c q h = check-passed (leb (workingSize s) room) 2 _ q h .1
+
+  read-fits : 0 < E → (base : ℕ) (c : Call) (q : Located) → OfBytes c → readPacket s base c ≡ located q → Fits s base q
+  unfolding sourceAdu part
+  read-fits z base (source-call flow p) q (f, b) h =
+      let r = source-read base flow p q h in
+      subst (Fits s base) (r .says)
+      (record {
+        ahead = omega arith;
+        short = omega (arith, symbols-count flow (sourceAdu p) E, r .fits);
+        formed = source-whole flow (sourceAdu p) E z f (bytes-part 0 (length p - 4) p b);
+      })
+  read-fits z base (repair-call p) q b h =
+      let r = repair-read base p q h in
+      let ks = keys (repairKey p) (length (repairSymbols E p)) in
+      subst (Fits s base) (r .says)
+      (record {
+        ahead = omega arith;
+        short = r .fits;
+        formed = (
+          repair-whole E p (r .form) b,
+          lists-bytes scheme (densityThreshold p) (protectedCount p) ks,
+          length-map ks _ ∙ length-keys (repairKey p) (length (repairSymbols E p)),
+        );
+      })
+
+  -- Whatever passes the checks lies ahead of the base, is no longer than the window, and has symbols of E bytes.
+  pub reading-fits : 0 < E → (base room : ℕ) (c : Call) (q : Located) → OfBytes c → reading s base room c ≡ located q → Fits s base q
+  reading-fits z base room c q b h = read-fits z base c q b (reading-passed base room c q h)

@@ -1,0 +1,192 @@
+-- The receiver as a plain history (document 01, "Receiver, as a plain history"): what a packet says where it lies, which packets a list of
+-- calls has accepted, where that has brought the base, and what the next call has to answer. No memory and no elimination stands here.
+use mathlib.Core.Path.{_≡_}
+use mathlib.Core.Logic.{_↔_}
+use mathlib.Core.Bool.{Bool, true, false, cond, _&&_}
+use mathlib.Core.List.{List, [], _∷_, map}
+use Prim.Native.Nat.{ℕ, zero, suc, _+_, _-_, _*_, _%_, _^_, _<_, max}
+use lib.ListN.{length}
+use lib.Dec.{ltb, leb}
+use Rattle.memory.specs.Number.{Bytes}
+use Rattle.wire.specs.declared.Setting.{Setting}
+use Rattle.wire.specs.Numbers.{within, distanceOf}
+use Rattle.wire.specs.Packets.{symbolCount, sourceSymbols, sourceForm, sourceAdu, sourceEsi, repairForm, repairKey, densityThreshold, protectedCount, firstEsi, repairSymbols}
+use Rattle.coefficients.specs.Coefficients.{keys, listsOf, allOk}
+use Rattle.rows.specs.Combination.{combination}
+use Rattle.receiver.specs.Symbol.{Symbol, bytesOf}
+
+-- ---- What a packet says
+
+-- A packet at its place: the symbols of the positions from `first` on; or repair symbols, and for each its coefficients of the `n` positions
+-- from `first` on.
+pub data Located : Type 0 where
+  source : (first : ℕ) (symbols : List (List ℕ)) → Located
+  repair : (first n : ℕ) (coefficients symbols : List (List ℕ)) → Located
+
+-- Its first position, and how many positions it names.
+abbrev pub first : Located → ℕ
+first (source p symbols) = p
+first (repair p n coefficients symbols) = p
+
+abbrev pub named : Located → ℕ
+named (source p symbols) = length symbols
+named (repair p n coefficients symbols) = n
+
+-- A filling gives E bytes to every position.
+abbrev pub Filling : ℕ → Type 0
+Filling E = ℕ → Symbol E
+
+module _ (E : ℕ) where
+  -- The bytes that a filling gives to the n positions from p on.
+  abbrev pub symbolsAt : Filling E → (p n : ℕ) → List (List ℕ)
+  symbolsAt f p zero = []
+  symbolsAt f p (suc n) = bytesOf E (f p) ∷ symbolsAt f (suc p) n
+
+  -- A source packet is satisfied when its positions hold its symbols; a repair packet when every repair symbol equals its combination.
+  abbrev pub Satisfied : Located → Filling E → Type 0
+  Satisfied (source p symbols) f = symbolsAt f p (length symbols) ≡ symbols
+  Satisfied (repair p n coefficients symbols) f = map (λ (c : List ℕ). combination E c (symbolsAt f p n)) coefficients ≡ symbols
+
+  abbrev pub All : List Located → Filling E → Type 0
+  All [] f = Unit {0}
+  All (q ∷ qs) f = Satisfied q f × All qs f
+
+  -- Some filling satisfies all of them.
+  abbrev pub Consistent : List Located → Type 0
+  Consistent qs = (f : Filling E) × All qs f
+
+  -- All fillings that satisfy all of them agree at a position.
+  abbrev pub Known : List Located → ℕ → Type 0
+  Known qs p = (f g : Filling E) → All qs f → All qs g → f p ≡ g p
+
+-- ---- Place
+
+-- Where an ESI lies: behind the base, or d positions ahead of it.
+pub data Place : Type 0 where
+  behind : Place
+  ahead : (d : ℕ) → Place
+
+-- d = (e - base) mod 2^32; from 2^31 on it lies behind.
+unfoldable pub placeOf : (base e : ℕ) → Place
+placeOf base e = let d = distanceOf e (base % 2 ^ 32) in cond (ltb d (2 ^ 31)) (ahead d) behind
+
+-- ---- Reading a call
+
+-- A packet call: a source packet with its flow, or a repair packet.
+pub data Call : Type 0 where
+  source-call : (flow : ℕ) (packet : List ℕ) → Call
+  repair-call : (packet : List ℕ) → Call
+
+-- Its flow and its packet are bytes.
+abbrev pub OfBytes : Call → Type 0
+OfBytes (source-call flow packet) = (flow < 256) × Bytes packet
+OfBytes (repair-call packet) = Bytes packet
+
+-- What the checks that stand before 11 make of a call: the number of the first that fails, or the packet at its place.
+pub data Reading : Type 0 where
+  fails : ℕ → Reading
+  located : Located → Reading
+
+-- A check, and what comes after it.
+unfoldable pub check : Bool → ℕ → Reading → Reading
+check true n r = r
+check false n r = fails n
+
+-- n symbols at a place: 8 behind the base, 9 too far ahead of it, else what comes after.
+unfoldable pub placed : (n : ℕ) → Place → (ℕ → Reading) → Reading
+placed n behind next = fails 8
+placed n (ahead d) next = check (leb (d + n) 65536) 9 (next d)
+
+-- The bytes that a receiver needs, and those of the working memory that a packet call borrows.
+abbrev pub memorySize : Setting → ℕ
+memorySize s = 64 + s .width * (s .width + s .size + 4)
+
+abbrev pub workingSize : Setting → ℕ
+workingSize s = 64 + (s .width + 1) * (s .width + s .size + 4)
+
+module _ (s : Setting) where
+  open Setting s using (scheme, size as E, width)
+
+  -- A source packet: form (5), ADU (4), place (8, 9).
+  unfoldable pub readSource : (base flow : ℕ) → List ℕ → Reading
+  readSource base flow p =
+      let adu = sourceAdu p in
+      let n = symbolCount E (length adu) in
+      check (sourceForm p) 5
+      (check (leb (length adu) 65535 && leb n width) 4
+      (placed n (placeOf base (sourceEsi p)) (λ d. located (source (base + d) (sourceSymbols flow adu E)))))
+
+  -- A repair packet: form (5), number of symbols protected (6), place (8, 9), coefficients (10).
+  unfoldable pub readRepair : (base : ℕ) → List ℕ → Reading
+  readRepair base p =
+      let dt = densityThreshold p in
+      let n = protectedCount p in
+      let symbols = repairSymbols E p in
+      let ks = keys (repairKey p) (length symbols) in
+      check (repairForm E p) 5
+      (check (within 1 width n) 6
+      (placed n (placeOf base (firstEsi p))
+      (λ d. check (allOk scheme dt n ks) 10 (located (repair (base + d) n (listsOf scheme dt n ks) symbols)))))
+
+  abbrev pub readPacket : (base : ℕ) → Call → Reading
+  readPacket base (source-call flow p) = readSource base flow p
+  readPacket base (repair-call p) = readRepair base p
+
+  -- A call that is lent `room` bytes of working memory: too few are refused (2) before the packet is read.
+  unfoldable pub reading : (base room : ℕ) → Call → Reading
+  reading base room c = check (leb (workingSize s) room) 2 (readPacket base c)
+
+-- ---- The history
+
+-- What the calls so far have come to: the base, and the packets accepted, the last first.
+pub record Log : Type 0 where
+  pub base : ℕ
+  pub accepted : List Located
+
+abbrev pub fresh : Log
+fresh = record { base = 0; accepted = [] }
+
+abbrev pub baseOf : Log → ℕ
+baseOf l = l .base
+
+-- What a call answers: a number, or the number of a refusal.
+pub data Said : Type 0 where
+  value : ℕ → Said
+  refusal : ℕ → Said
+
+abbrev pub IsValue : Said → Type 0
+IsValue (value n) = Unit {0}
+IsValue (refusal n) = ⊥
+
+-- Of the numbers below n, k have the property.
+pub data Counted (P : ℕ → Type 0) : ℕ → ℕ → Type 0 where
+  nothing : Counted P 0 0
+  has : {n k : ℕ} → P n → Counted P n k → Counted P (suc n) (suc k)
+  lacks : {n k : ℕ} → ¬ P n → Counted P n k → Counted P (suc n) k
+
+module _ (s : Setting) where
+  open Setting s using (size as E, width)
+
+  -- A packet is accepted: base rises, by the least needed, until the packet's last position fits.
+  abbrev pub accept : Log → Located → Log
+  accept l q = record { base = max (baseOf l) (first q + named q - width); accepted = q ∷ l .accepted }
+
+  -- The log after a call that answered so: a packet is accepted when its call answers a count and no refusal.
+  abbrev pub logged : Log → Reading → Said → Log
+  logged l (located q) (value n) = accept l q
+  logged l (located q) (refusal n) = l
+  logged l (fails m) a = l
+
+  -- A position that is known after a packet and was not before it.
+  abbrev pub New : Log → Located → ℕ → Type 0
+  New l q p = Known E (q ∷ l .accepted) p × ¬ Known E (l .accepted) p
+
+  -- What the next call has to answer.
+  pub record Judged (l : Log) (r : Reading) (a : Said) : Type 0 where
+    -- It is accepted exactly when it passes the checks and some filling satisfies it and all accepted before.
+    pub accepted : IsValue a ↔ ((q : Located) × (r ≡ located q) × Consistent E (q ∷ l .accepted))
+    -- The answer counts the positions of the new window that are known now and were not before.
+    pub counted : (q : Located) (k : ℕ) → r ≡ located q → a ≡ value k → Counted (λ i. New l q (baseOf (accept l q) + i)) width k
+    -- Where a check fails, the number is that of the first; where none does, 11 says that no filling satisfies it and all accepted before.
+    pub failed : (m : ℕ) → r ≡ fails m → a ≡ refusal m
+    pub contradicts : (q : Located) → r ≡ located q → (a ≡ refusal 11) ↔ ¬ Consistent E (q ∷ l .accepted)

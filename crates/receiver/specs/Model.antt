@@ -1,0 +1,84 @@
+-- The receiver that computes: the window's equations in reduced row echelon form (crate `decoder`) in place of the whole history.
+-- The promises give answers and states by it. That these are the history's is proved (proofs/Answers): a reader of the claims need not believe it.
+use mathlib.Core.Bool.{cond}
+use mathlib.Core.Option.{Option, none, some}
+use mathlib.Core.List.{List, [], _∷_}
+use Prim.Native.Nat.{ℕ, _+_}
+use lib.ListN.{length, getD}
+use lib.Dec.{ltb}
+use Rattle.wire.specs.declared.Setting.{Setting}
+use Rattle.decoder.specs.Bytes.{byte, Coded}
+use Rattle.decoder.specs.Model.{known}
+use Rattle.decoder.specs.Receiver as decoder
+use Rattle.decoder.specs.Packets as packets
+use Rattle.receiver.specs.Symbol.{Symbol, symbolOf}
+use Rattle.receiver.specs.History.{Located, source, repair, Place, behind, ahead, placeOf, Call, Reading, fails, located, reading, Said, value, refusal}
+
+module _ (E : ℕ) where
+  -- A repair packet's equations.
+  abbrev pub equations : (coefficients symbols : List (List ℕ)) → List (packets.Repair (Coded E))
+  equations [] vs = []
+  equations (c ∷ cs) [] = []
+  equations (c ∷ cs) (v ∷ vs) = record { coefs = λ i. byte (getD c i 0); sym = symbolOf E v } ∷ equations cs vs
+
+  -- A packet's rows.
+  abbrev pub packetOf : Located → decoder.Packet (Coded E)
+  packetOf (source p symbols) = packets.source (Coded E) p (length symbols) (λ i. symbolOf E (getD symbols i []))
+  packetOf (repair p n coefficients symbols) = packets.repair (Coded E) p n (equations coefficients symbols)
+
+-- The state of a receiver: the base, and the equations of the window from there on.
+abbrev pub State : Setting → Type 0
+State s = decoder.Receiver (Coded (s .size)) (s .width)
+
+-- Just opened: base 0, no equation.
+abbrev pub opened : (s : Setting) → State s
+opened s = decoder.fresh (Coded (s .size)) (s .width)
+
+-- What a packet call comes to: the number of a refusal; or how many positions have become known, and the state after it.
+pub data Outcome (s : Setting) : Type 0 where
+  refused : ℕ → Outcome s
+  done : ℕ → State s → Outcome s
+
+-- What it answers, and the state after it.
+module _ {s : Setting} where
+  abbrev pub saidOf : Outcome s → Said
+  saidOf (refused n) = refusal n
+  saidOf (done n t) = value n
+
+  abbrev pub stateAfter : State s → Outcome s → State s
+  stateAfter t (refused n) = t
+  stateAfter t (done n t′) = t′
+
+-- What the symbol call comes to: a known symbol and its position, or the number of a refusal.
+pub data Finding (E : ℕ) : Type 0 where
+  shows : (position : ℕ) → Symbol E → Finding E
+  hides : ℕ → Finding E
+
+module _ (s : Setting) where
+  open Setting s using (size as E, width)
+
+  abbrev pub added : State s → Option (State s) → Outcome s
+  added t none = refused 11
+  added t (some t′) = done (decoder.newly t t′) t′
+
+  -- A call of which the checks before 11 have made this.
+  abbrev pub responds : State s → Reading → Outcome s
+  responds t (fails n) = refused n
+  responds t (located q) = added t (decoder.receive t (packetOf E q))
+
+  -- A packet call that is lent `room` bytes of working memory.
+  unfoldable pub receiving : State s → (room : ℕ) → Call → Outcome s
+  receiving t room c = responds t (reading s (t .base) room c)
+
+  abbrev pub shown : (position : ℕ) → Option (Symbol E) → Finding E
+  shown p none = hides 12
+  shown p (some v) = shows p v
+
+  -- The symbol at a place: 8 behind the base; 12 past the window, or where it is not known.
+  abbrev pub symbolIn : State s → Place → Finding E
+  symbolIn t behind = hides 8
+  symbolIn t (ahead d) = cond (ltb d width) (shown (t .base + d) (known (t .window) d)) (hides 12)
+
+  -- The symbol call for the ESI e.
+  unfoldable pub finding : State s → (e : ℕ) → Finding E
+  finding t e = symbolIn t (placeOf (t .base) e)

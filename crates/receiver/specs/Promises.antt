@@ -1,0 +1,89 @@
+-- What the receiver's public calls promise, in whatever way `Layout` a memory holds a state.
+-- m and v are the receiver's memory and the working memory, m′ and v′ these afterwards; a is the answer.
+use mathlib.Core.Path.{_≡_}
+use mathlib.Core.Logic.{_↔_, _⊎_}
+use mathlib.Core.Bool.{cond}
+use mathlib.Core.Option.{Option, none, some}
+use mathlib.Core.List.{List, []}
+use denote.Ref.{RefT, now}
+use Prim.Native.Nat.{ℕ}
+use lib.ListN.{length, drop}
+use lib.Dec.{ltb}
+use Rattle.memory.specs.Part.{LiesAt}
+use Rattle.wire.specs.declared.Setting.{Setting}
+use Rattle.wire.specs.Numbers.{numberOf}
+use Rattle.wire.specs.Settings.{settingOf}
+use Rattle.receiver.specs.declared.Answer.{Answer}
+use Rattle.receiver.specs.declared.Answer.the-variants.{Done, Refused}
+use Rattle.receiver.specs.declared.Header.{Header}
+use Rattle.receiver.specs.Symbol.{bytesOf}
+use Rattle.receiver.specs.History.{Call, memorySize, workingSize, Said, value, refusal}
+use Rattle.receiver.specs.Model.{State, opened, Outcome, refused, done, receiving, Finding, shows, hides, finding}
+use Rattle.receiver.specs.Header.{headerIn}
+
+-- Document 01's number of an answer.
+abbrev pub said : Answer → Said
+said (Done n) = value n
+said (Refused r) = refusal (numberOf r)
+
+-- How a memory holds a state.
+pub record Layout : Type 1 where
+  -- The memory holds the state of a receiver that was opened with the setting.
+  pub Holds : List ℕ → (s : Setting) → State s → Type 0
+  -- Where in the memory the symbol at a position starts.
+  pub symbolStart : Setting → (position : ℕ) → ℕ
+
+-- A memory keeps its length, and its bytes past a size.
+pub record Contained (size : ℕ) (m m′ : List ℕ) : Type 0 where
+  pub same : length m′ ≡ length m
+  pub past : drop size m′ ≡ drop size m
+
+-- Opening on `room` bytes: 1 where a value is none of its values, 2 where the memory is too short, else 0.
+abbrev pub opening : Option Setting → (room : ℕ) → Said
+opening none room = refusal 1
+opening (some s) room = cond (ltb room (memorySize s)) (refusal 2) (value 0)
+
+module _ (L : Layout) where
+  open Layout L using (Holds, symbolStart)
+
+  -- Opening with a scheme, E and width.
+  pub record Opened (scheme E w : ℕ) (m m′ : List ℕ) (a : Answer) : Type 0 where
+    pub answer : said a ≡ opening (settingOf scheme E w) (length m)
+    pub refused : (n : ℕ) → said a ≡ refusal n → m′ ≡ m
+    pub contained : (s : Setting) → settingOf scheme E w ≡ some s → Contained (memorySize s) m m′
+    pub holds : (s : Setting) → settingOf scheme E w ≡ some s → said a ≡ value 0 → Holds m′ s (opened s)
+
+  -- A packet call did what it comes to.
+  abbrev pub Does : (s : Setting) → Outcome s → (m m′ : List ℕ) → Answer → Type 0
+  Does s (refused n) m m′ a = (said a ≡ refusal n) × (m′ ≡ m)
+  Does s (done n t) m m′ a = (said a ≡ value n) × Holds m′ s t
+
+  -- A packet call, on any memory: refusal 3 exactly where it has no receiver's header, and then working memory too is as it was; a refusal changes
+  -- nothing but working memory; lengths, and bytes past the sizes, are kept. Where the memory holds a state, the call does what it comes to.
+  pub record Received (c : Call) (m m′ v v′ : List ℕ) (a : Answer) : Type 0 where
+    pub unopened : (said a ≡ refusal 3) ↔ (headerIn m ≡ none)
+    pub untouched : headerIn m ≡ none → v′ ≡ v
+    pub refused : (n : ℕ) → said a ≡ refusal n → m′ ≡ m
+    pub contained : (h : Header) → headerIn m ≡ some h → Contained (memorySize (h .setting)) m m′ × Contained (workingSize (h .setting)) v v′
+    pub does : (s : Setting) (t : State s) → Holds m s t → Does s (receiving s t (length v) c) m m′ a
+
+  -- The symbol call found this: it answers 0 for a known symbol, else a refusal.
+  abbrev pub Finds : {E : ℕ} → Finding E → Answer → Type 0
+  Finds (shows p v) a = said a ≡ value 0
+  Finds (hides n) a = said a ≡ refusal n
+
+  -- The symbol call for the ESI e, which changes nothing.
+  pub record SymbolAnswered (m : List ℕ) (e : ℕ) (a : Answer) : Type 0 where
+    pub unopened : (said a ≡ refusal 3) ↔ (headerIn m ≡ none)
+    pub finds : (s : Setting) (t : State s) → Holds m s t → Finds (finding s t e) a
+
+  -- A known symbol is shown as the part of the memory that holds it; else the part is empty.
+  abbrev pub Shows : (s : Setting) → Finding (s .size) → (m part : RefT (List ℕ)) → Type 0
+  Shows s (shows p v) m part = (now part ≡ bytesOf (s .size) v) × LiesAt part m (symbolStart s p) (s .size)
+  Shows s (hides n) m part = now part ≡ []
+
+  -- The call for the part, for the ESI e: on any memory the part is empty, or lies in it; it is empty where the symbol call says 3.
+  pub record PartShown (m part : RefT (List ℕ)) (e : ℕ) : Type 0 where
+    pub unopened : headerIn (now m) ≡ none → now part ≡ []
+    pub within : (h : Header) → headerIn (now m) ≡ some h → (now part ≡ []) ⊎ ((at : ℕ) × LiesAt part m at (h .setting .size))
+    pub shows : (s : Setting) (t : State s) → Holds (now m) s t → Shows s (finding s t e) m part

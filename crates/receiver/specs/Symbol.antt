@@ -1,0 +1,17 @@
+-- Symbols of E bytes.
+use Prim.Native.Nat.{ℕ}
+use mathlib.Core.List.{List}
+use Rattle.decoder.specs.Bytes.{Byte}
+use Rattle.decoder.specs.Symbols.{Tuple}
+use Rattle.decoder.specs.Stretch.{symbol-at, bytes-of}
+
+-- E bytes.
+abbrev pub Symbol : ℕ → Type 0
+Symbol E = Tuple Byte E
+
+-- The bytes of a symbol, and the symbol whose bytes stand in a list.
+abbrev pub bytesOf : (E : ℕ) → Symbol E → List ℕ
+bytesOf E v = bytes-of E v
+
+abbrev pub symbolOf : (E : ℕ) → List ℕ → Symbol E
+symbolOf E l = symbol-at E 0 l
