@@ -17,9 +17,11 @@ use Rattle.decoder.specs.Model.{known}
 use Rattle.decoder.specs.Receiver as decoder
 use Rattle.receiver.specs.declared.Answer.{Answer}
 use Rattle.receiver.specs.Symbol.{Symbol, bytesOf}
-use Rattle.receiver.specs.History.{Filling, Located, All, Consistent, Known, Reading, located, memorySize, reading, Log, fresh, baseOf, OfBytes, Said, value, refusal, logged, Judged}
-use Rattle.receiver.specs.Model.{State, opened, Outcome, refused, done, saidOf, stateAfter, responds, receiving, Finding, shows, hides, shown, finding}
-use Rattle.receiver.specs.Promises.{Layout, said, opening, Opened, Does, Received, Finds, SymbolAnswered, Shows, PartShown}
+use Rattle.receiver.specs.History.{IsValue, Filling, Located, All, Consistent, Known, Reading, located, memorySize, reading, Log, fresh, baseOf, OfBytes, Said}
+use Rattle.receiver.specs.History.{value, refusal, logged, Judged}
+use Rattle.receiver.specs.Model.{State, opened, Outcome, refused, done, saidOf, stateAfter, responds, receiving, Finding, shows, hides, shown}
+use Rattle.receiver.specs.Model.{finding}
+use Rattle.receiver.specs.Promises.{Layout, said, opening, Opened, Follows, Received, Finds, SymbolAnswered, Shows, PartShown}
 use Rattle.receiver.proofs.Answers.{Tracks, judged, known-exactly, known-value, tracks-consistent, fresh-tracks}
 use Rattle.receiver.proofs.Counting.{judged-once}
 use Rattle.receiver.proofs.Readings.{reading-fits}
@@ -27,10 +29,6 @@ use Rattle.receiver.proofs.Places.{found-inside, found-past, found-behind}
 use Rattle.claims.specs.Run.{Step, Run, final, read, goes-on, history}
 use Rattle.claims.specs.Demand.{esi, ShownExactly, HiddenOutside, Demand-3, Every-list, Alike, No-choice}
 use Rattle.claims.proofs.Carrying.{carried}
-
-abbrev pub IsValue : Said → Type 0
-IsValue (value n) = Unit {0}
-IsValue (refusal n) = ⊥
 
 module _ (L : Layout) (s : Setting) (v : Valid s) where
   open Setting s using (size as E, width)
@@ -46,7 +44,7 @@ module _ (L : Layout) (s : Setting) (v : Valid s) where
 
   -- ---- The calls
 
-  did : (m m′ : List ℕ) (a : Answer) (t : State s) (o : Outcome s) → Does L s o m m′ a → L .Holds m s t
+  did : (m m′ : List ℕ) (a : Answer) (t : State s) (o : Outcome s) → Follows L s o m m′ a → L .Holds m s t
       → (said a ≡ saidOf o) × L .Holds m′ s (stateAfter t o)
   did m m′ a t (refused n) (e, q) h = (e, subst (λ x. L .Holds x s t) (sym q) h)
   did m m′ a t (done n t′) p h = p
@@ -60,7 +58,7 @@ module _ (L : Layout) (s : Setting) (v : Valid s) where
       let r = reading s (x .base) room (t .call) in
       let same : r ≡ read s l t = ap (λ y. reading s y room (t .call)) (g .tracks .base-is) in
       let h = judged s some-bytes l x r (g .tracks) (λ q e. reading-fits s some-bytes (baseOf l) room (t .call) q b (sym same ∙ e)) in
-      let (e, z) = did m (t .memory) (t .answer) x (responds s x r) (p .does s x (g .held)) (g .held) in
+      let (e, z) = did m (t .memory) (t .answer) x (responds s x r) (p .follows s x (g .held)) (g .held) in
       let k = subst (λ a. Judged s l r a × Tracks s some-bytes (logged s l r a) (stateAfter x (responds s x r))) (sym e) h in
       let (j, n) = subst (λ y. Judged s l y (said (t .answer)) × Tracks s some-bytes (logged s l y (said (t .answer))) (stateAfter x (responds s x r))) same k in
       (j, record { state = stateAfter x (responds s x r); held = z; tracks = n })

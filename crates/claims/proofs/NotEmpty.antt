@@ -13,10 +13,10 @@ use Rattle.decoder.specs.Model.{Rref}
 use Rattle.receiver.specs.declared.Answer.{Answer}
 use Rattle.receiver.specs.declared.Answer.the-variants.{Done, Refused}
 use Rattle.receiver.specs.declared.Header.{Header}
-use Rattle.receiver.specs.History.{Call, OfBytes, memorySize, workingSize, Said, value, refusal}
+use Rattle.receiver.specs.History.{Call, OfBytes, memorySize, workingSize, Said, value, refusal, IsValue}
 use Rattle.receiver.specs.Model.{State, opened, Outcome, refused, done, stateAfter, receiving}
 use Rattle.receiver.specs.Header.{headerIn}
-use Rattle.receiver.specs.Promises.{said, opening, Opened, Contained, Does, Received}
+use Rattle.receiver.specs.Promises.{said, opening, Opened, Contained, Follows, Received}
 use Rattle.receiver.specs.Layout.{headerOf, Holds, receiverLayout}
 use Rattle.receiver.proofs.Building.{Built, built}
 use Rattle.receiver.proofs.Congruent.{Same, holds-same, held-same, Alike, both-refused, both-done, receiving-alike}
@@ -24,7 +24,7 @@ use Rattle.receiver.proofs.Naming.{Named, Sound, receiving-sound}
 use Rattle.receiver.proofs.Headers.{header-room}
 use Rattle.claims.specs.Run.{Step, Run}
 use Rattle.claims.specs.NotEmpty.{Asked, asked, AllOfBytes, Runs-exist}
-use Rattle.claims.proofs.Demand.{IsValue, had-setting}
+use Rattle.claims.proofs.Demand.{had-setting}
 
 module _ (s : Setting) (v : Valid s) where
   abbrev some-bytes : 0 < s .size
@@ -35,19 +35,19 @@ module _ (s : Setting) (v : Valid s) where
   settings-same m t u x h k = ap (λ (y : Header). y .setting) (Option·some-injective _ _ (sym (h .header) ∙ k .header))
 
   -- The call does, of every state that the memory holds, what it does of one.
-  does-all : (m m′ : List ℕ) (a : Answer) (t : State s) (room : ℕ) (c : Call) → Holds m s t → Does receiverLayout s (receiving s t room c) m m′ a
-      → (u : Setting) (x : State u) → Holds m u x → Does receiverLayout u (receiving u x room c) m m′ a
-  does-all m m′ a t room c h d u x k = go u (settings-same m t u x h k) x k
+  follows-all : (m m′ : List ℕ) (a : Answer) (t : State s) (room : ℕ) (c : Call) → Holds m s t → Follows receiverLayout s (receiving s t room c) m m′ a
+      → (u : Setting) (x : State u) → Holds m u x → Follows receiverLayout u (receiving u x room c) m m′ a
+  follows-all m m′ a t room c h d u x k = go u (settings-same m t u x h k) x k
     where
-      one : (o p : Outcome s) → Alike s o p → Does receiverLayout s o m m′ a → Does receiverLayout s p m m′ a
+      one : (o p : Outcome s) → Alike s o p → Follows receiverLayout s o m m′ a → Follows receiverLayout s p m m′ a
       one o p (both-refused n) g = g
       one o p (both-done n y z e) (q, g) = (q, holds-same s m′ y z e g)
 
-      here : (x : State s) → Holds m s x → Does receiverLayout s (receiving s x room c) m m′ a
+      here : (x : State s) → Holds m s x → Follows receiverLayout s (receiving s x room c) m m′ a
       here x k = one _ _ (receiving-alike s t x room c (held-same s m t x h k)) d
 
-      go : (u : Setting) → s ≡ u → (x : State u) → Holds m u x → Does receiverLayout u (receiving u x room c) m m′ a
-      go u e = subst (λ y. (x : State y) → Holds m y x → Does receiverLayout y (receiving y x room c) m m′ a) e here
+      go : (u : Setting) → s ≡ u → (x : State u) → Holds m u x → Follows receiverLayout u (receiving u x room c) m m′ a
+      go u e = subst (λ y. (x : State y) → Holds m y x → Follows receiverLayout y (receiving y x room c) m m′ a) e here
 
   contained : (m m′ w : List ℕ) (t : State s) → Holds m s t → Contained (memorySize s) m m′ → (h : Header) → headerIn m ≡ some h
       → Contained (memorySize (h .setting)) m m′ × Contained (workingSize (h .setting)) w w
@@ -78,8 +78,8 @@ module _ (s : Setting) (v : Valid s) where
           untouched = λ _. refl;
           refused = λ k q. refl;
           contained = contained m m w t h (record { same = refl; past = refl });
-          does = does-all m m (Refused (g .refusal)) t (length w) c h
-              (subst (λ x. Does receiverLayout s x m m (Refused (g .refusal))) (sym e) (ap refusal (g .number), refl));
+          follows = follows-all m m (Refused (g .refusal)) t (length w) c h
+              (subst (λ x. Follows receiverLayout s x m m (Refused (g .refusal))) (sym e) (ap refusal (g .number), refl));
         };
         state = t;
         held = h;
@@ -100,8 +100,8 @@ module _ (s : Setting) (v : Valid s) where
               refused = λ k q. absurd (subst IsValue q tt);
               contained = contained m (b .memory) w t h
                   (record { same = b .same ∙ omega (arith, length-drop (memorySize s) m, room); past = b .rest });
-              does = does-all m (b .memory) (Done n) t (length w) c h
-                  (subst (λ y. Does receiverLayout s y m (b .memory) (Done n)) (sym e) (refl, b .holds));
+              follows = follows-all m (b .memory) (Done n) t (length w) c h
+                  (subst (λ y. Follows receiverLayout s y m (b .memory) (Done n)) (sym e) (refl, b .holds));
             };
             state = x;
             held = b .holds;

@@ -11,9 +11,11 @@ use borrow.Author.Tests.{le-leb}
 use Rattle.wire.specs.declared.Setting.{Setting}
 use Rattle.wire.specs.Packets.{Sized, symbolCount, sourceSymbols, sourcePacket, repairPacket}
 use Rattle.wire.proofs.Settings.{within-true}
-use Rattle.wire.proofs.Reading.{source-form, source-adu, source-esi, repair-form, repair-symbols, repair-key, density-threshold, protected-count, first-esi}
+use Rattle.wire.proofs.Reading.{source-form, source-adu, source-esi, repair-form, repair-symbols, repair-key, density-threshold, protected-count}
+use Rattle.wire.proofs.Reading.{first-esi}
 use Rattle.coefficients.specs.Coefficients.{keys, listsOf, allOk}
-use Rattle.receiver.specs.History.{Located, source, repair, placeOf, source-call, repair-call, Reading, fails, located, check, placed, workingSize, readSource, readRepair, reading}
+use Rattle.receiver.specs.History.{Located, source, repair, placeOf, source-call, repair-call, Reading, fails, located, check, placed, workingSize}
+use Rattle.receiver.specs.History.{readSource, readRepair, reading}
 use Rattle.receiver.proofs.Places.{placed-taken, placed-behind, placed-far}
 use Rattle.claims.specs.Reading.{ReadBy, Read-as-written, Reads}
 

@@ -21,10 +21,12 @@ use Rattle.rows.proofs.Combinations.{length-combination}
 use Rattle.sender.specs.Repair.{repairSymbol}
 use Rattle.sender.specs.Calls.{openingWith, opening}
 use Rattle.sender.specs.Promises.{bytes, refusal as refused, Follows}
-use Rattle.receiver.specs.History.{Filling, Located, source, repair, symbolsAt, Satisfied, All, Call, source-call, repair-call, Reading, fails, located, workingSize, readPacket, reading, Log, fresh, baseOf, Said, value, refusal, IsValue, logged}
+use Rattle.receiver.specs.History.{Filling, Located, source, repair, symbolsAt, Satisfied, All, Call, source-call, repair-call, Reading, fails}
+use Rattle.receiver.specs.History.{located, workingSize, readPacket, reading, Log, fresh, baseOf, Said, value, refusal, IsValue, logged}
 use Rattle.receiver.specs.Promises.{Layout, said}
 use Rattle.receiver.proofs.Readings.{source-read, repair-read, reading-passed}
-use Rattle.claims.specs.SenderRun.{SenderCall, SenderRun, symbolsOf, AreSymbols, Packet, source as source-packet, repair as repair-packet, Wrote, wrote-source, wrote-repair}
+use Rattle.claims.specs.SenderRun.{SenderCall, SenderRun, symbolsOf, AreSymbols, Packet, source as source-packet, repair as repair-packet}
+use Rattle.claims.specs.SenderRun.{Wrote, wrote-source, wrote-repair}
 use Rattle.claims.specs.Run.{Step, read, goes-on, history}
 use Rattle.claims.specs.Carrying.{Carries}
 use Rattle.claims.specs.Sent.{callOf, named, Near, AsWritten, Peers, Sender-fills, Sent-accepted, Sent-shown}

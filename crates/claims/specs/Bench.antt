@@ -1,27 +1,46 @@
--- The bench sheet of document 01 and the small examples of its refusals, computed from the definitions that the promises use, as one table: C1 to C7,
--- C9, and refusals 1, 2, 3, 4, 6 and 7 of a sender.
+-- The bench sheet of document 01 (C1 to C12), the small examples of its refusals, and cases at the limits of place and density, computed from the
+-- definitions that the promises use, from the packets' bytes on: one table, one result.
 use mathlib.Core.Path.{_≡_, refl}
 use mathlib.Core.Option.{Option, none, some}
-use Prim.Native.Nat.{ℕ}
-use mathlib.Core.List.{List, [], _∷_}
+use mathlib.Core.List.{List, [], _∷_, map}
+use Prim.Native.Nat.{ℕ, _*_}
 use Rattle.tinymt.specs.Generator.{computing}
 use Rattle.field.specs.Gf256.{product, inverse, inverse-below}
 use Rattle.memory.specs.Part.{part}
 use Rattle.rows.specs.Combination.{combination}
 use Rattle.wire.specs.declared.Scheme.the-variants.{Gf2, Gf256}
+use Rattle.wire.specs.declared.Setting.{Setting}
 use Rattle.wire.specs.Settings.{inRange, settingOf, field, settingIn}
-use Rattle.wire.specs.Packets.{zeros, symbolCount, adui, sourceSymbols, sourcePacket, repairHeader, repairPacket}
+use Rattle.wire.specs.Packets.{zeros, symbolCount, adui, sourceSymbols, sourcePacket, sourceForm, sourceAdu, sourceEsi}
+use Rattle.wire.specs.Packets.{repairHeader, repairPacket, repairCount, repairForm, repairKey, densityThreshold, protectedCount, firstEsi}
+use Rattle.wire.specs.Packets.{repairSymbols}
 use Rattle.coefficients.specs.Coefficients.{nonzeroFrom, bitOf, byteOf, extend, coefficientsOf}
+use Rattle.decoder.specs.Model as model
+use Rattle.decoder.specs.Receiver as decoder
+use Rattle.decoder.specs.Packets as packets
 use Rattle.sender.specs.declared.Header.{Header}
 use Rattle.sender.specs.State.{Sender, fresh, headerIn}
 use Rattle.sender.specs.Repair.{repairSymbol}
 use Rattle.sender.specs.Calls.{Outcome, refused, done, opening, adding, repairing}
+use Rattle.receiver.specs.Symbol.{bytesOf}
+use Rattle.receiver.specs.History.{Call, source-call, repair-call, placeOf, check, placed, readSource, readRepair, reading, workingSize}
+use Rattle.receiver.specs.History.{Said, value, refusal as refuses}
+use Rattle.receiver.specs.Model as receiver
+use Rattle.receiver.specs.Model.{State, saidOf, stateAfter, receiving, Finding, shows, hides, finding}
 
--- a line of the sheet: numbers, the bytes of a packet, or the number of a refusal
+-- what the symbol call and the part show for an ESI: an answer, and bytes
+pub record Sight : Type 0 where
+  pub answer : Said
+  pub bytes : List ℕ
+
+-- a line of the sheet: numbers, the bytes of a packet, or the number of a refusal; or what packet calls answered, and what was shown after them
 pub data Line : Type 0 where
   numbers : List ℕ → Line
   packet : List ℕ → Line
   refusal : ℕ → Line
+  received : (answers : List Said) (sights : List Sight) → Line
+
+-- ---- a sender
 
 -- what a call comes to, and the sender after it where it is done
 abbrev line : Outcome → Line
@@ -47,31 +66,124 @@ first = adding opened 1 (0x41 ∷ []) 5
 abbrev second : Outcome
 second = adding (after first) 1 (0x42 ∷ []) 5
 
-abbrev pub table : List Line
-table =
+-- ---- a receiver
+
+module _ (s : Setting) where
+  -- what the calls of a list answer, with working memory enough, and the state after them
+  abbrev answers : State s → List Call → List Said
+  answers t [] = []
+  answers t (c ∷ cs) = let o = receiving s t (workingSize s) c in saidOf o ∷ answers (stateAfter t o) cs
+
+  abbrev state : State s → List Call → State s
+  state t [] = t
+  state t (c ∷ cs) = state (stateAfter t (receiving s t (workingSize s) c)) cs
+
+  abbrev seen : Finding (s .size) → Sight
+  seen (shows p v) = record { answer = value 0; bytes = bytesOf (s .size) v }
+  seen (hides n) = record { answer = refuses n; bytes = [] }
+
+  -- the calls of a list from a fresh receiver, and what is shown for some ESIs after them
+  abbrev case : List Call → List ℕ → Line
+  case cs es = received (answers (receiver.opened s) cs) (map (λ e. seen (finding s (state (receiver.opened s) cs) e)) es)
+
+-- scheme 9 and scheme 10, E 4
+abbrev gf2 : ℕ → Setting
+gf2 w = record { scheme = Gf2; size = 4; width = w }
+
+abbrev gf256 : ℕ → Setting
+gf256 w = record { scheme = Gf256; size = 4; width = w }
+
+-- F 1: source packets of an ADU of no byte and of two, which takes two symbols, with the ESI of these bytes; and of one byte, with a small ESI
+abbrev empty-at : (a b c d : ℕ) → Call
+empty-at a b c d = source-call 1 (a ∷ b ∷ c ∷ d ∷ [])
+
+abbrev two-at : (a b c d : ℕ) → Call
+two-at a b c d = source-call 1 (7 ∷ 7 ∷ a ∷ b ∷ c ∷ d ∷ [])
+
+abbrev adu : (byte esi : ℕ) → Call
+adu b e = source-call 1 (b ∷ 0 ∷ 0 ∷ 0 ∷ e ∷ [])
+
+-- a repair packet of key 0 and DT 15 over n symbols from ESI 0 on, whose one repair symbol ends in a byte
+abbrev repair-of : (n byte : ℕ) → Call
+repair-of n b = repair-call (0 ∷ 0 ∷ 0xF0 ∷ n ∷ 0 ∷ 0 ∷ 0 ∷ 0 ∷ 0 ∷ 0 ∷ 0 ∷ b ∷ [])
+
+-- a repair packet of key 1 and a DT over one symbol, its bytes zero
+abbrev zero-at : (dt : ℕ) → Call
+zero-at dt = repair-call (0 ∷ 1 ∷ dt * 16 ∷ 1 ∷ 0 ∷ 0 ∷ 0 ∷ 0 ∷ 0 ∷ 0 ∷ 0 ∷ 0 ∷ [])
+
+-- a symbol that is shown, and a refusal
+abbrev known : List ℕ → Sight
+known l = record { answer = value 0; bytes = l }
+
+abbrev says : ℕ → Sight
+says n = record { answer = refuses n; bytes = [] }
+
+-- ---- the sheet
+
+pub bench :
     -- C1 to C3: products and an inverse in GF(2^8)
     numbers (product 2 128 ∷ []) ∷ numbers (product 3 7 ∷ []) ∷ numbers (inverse 2 ∷ [])
     -- C4 to C6: coefficients
     ∷ numbers (coefficientsOf Gf256 1 15 5 .list) ∷ numbers (coefficientsOf Gf2 1 4 6 .list) ∷ numbers (coefficientsOf Gf256 1 4 5 .list)
     -- C7: two source packets, and the repair packet over both
     ∷ line first ∷ line second ∷ line (repairing (after second) 1 15 1 12)
+    -- C8: the first and the repair packet of C7; symbols 0 and 1
+    ∷ case (gf2 2) (adu 0x41 0 ∷ repair-of 2 3 ∷ []) (0 ∷ 1 ∷ [])
     -- C9: an ADU of 5 bytes taken, one of 6 refused
     ∷ line (adding opened 1 (zeros 5) 9) ∷ line (adding opened 1 (zeros 6) 10)
+    -- C10: one symbol at ESI 65535, 65536, 2147483647, 2147483648
+    ∷ case (gf2 1) (empty-at 0 0 0xFF 0xFF ∷ []) (65535 ∷ [])
+    ∷ case (gf2 1) (empty-at 0 1 0 0 ∷ []) []
+    ∷ case (gf2 1) (empty-at 0x7F 0xFF 0xFF 0xFF ∷ []) []
+    ∷ case (gf2 1) (empty-at 0x80 0 0 0 ∷ []) []
+    -- C11: neither symbol is known, before the second packet and after it
+    ∷ case (gf2 2) (repair-of 2 3 ∷ []) (0 ∷ 1 ∷ [])
+    ∷ case (gf2 2) (repair-of 2 3 ∷ source-call 1 (0 ∷ 0 ∷ 0 ∷ 0 ∷ 0 ∷ 0 ∷ 0 ∷ 0 ∷ 0 ∷ []) ∷ []) (0 ∷ 1 ∷ [])
+    -- C12
+    ∷ case (gf2 4) (repair-of 2 3 ∷ repair-of 4 4 ∷ adu 0x45 4 ∷ adu 0x46 5 ∷ adu 0x44 3 ∷ []) (2 ∷ [])
     -- refusal 1: E = 3; 2: output of 0 bytes for a 1-byte ADU; 3: 100 zero bytes; 4 is C9's; 6: DT 16; 7: repair straight after opening
     ∷ line (opening 9 3 2 40) ∷ line (adding opened 1 (0x41 ∷ []) 0) ∷ headed (headerIn (zeros 100))
     ∷ line (repairing opened 1 16 1 12) ∷ line (repairing opened 1 15 1 12)
+    -- the receiver's refusals 4; 5, of both packets; 6, of NSS 0 and of NSS over the width; 8 and 9; 11, of two unlike repair symbols
+    ∷ case (gf2 2) (source-call 1 (1 ∷ 2 ∷ 3 ∷ 4 ∷ 5 ∷ 6 ∷ 0 ∷ 0 ∷ 0 ∷ 0 ∷ []) ∷ []) []
+    ∷ case (gf2 2) (source-call 1 (0 ∷ 0 ∷ 0 ∷ []) ∷ repair-call (0 ∷ 0 ∷ 0xF0 ∷ 1 ∷ 0 ∷ 0 ∷ 0 ∷ 0 ∷ 0 ∷ []) ∷ []) []
+    ∷ case (gf2 2) (repair-of 0 0 ∷ repair-of 3 0 ∷ []) []
+    ∷ case (gf2 2) (empty-at 0xFF 0xFF 0xFF 0xFF ∷ empty-at 0 1 0 0 ∷ []) []
+    ∷ case (gf2 2) (repair-call (0 ∷ 0 ∷ 0xF0 ∷ 1 ∷ 0 ∷ 0 ∷ 0 ∷ 0 ∷ 0 ∷ 0 ∷ 0 ∷ 1 ∷ 0 ∷ 0 ∷ 0 ∷ 2 ∷ []) ∷ []) []
+    -- the symbol call of a fresh receiver: unknown, past the window, the last ESI ahead, the first behind, the last
+    ∷ case (gf2 2) [] (0 ∷ 2 ∷ 2147483647 ∷ 2147483648 ∷ 4294967295 ∷ [])
+    -- two symbols at ESI 65534 and at 65535
+    ∷ case (gf2 2) (two-at 0 0 0xFF 0xFE ∷ []) (65534 ∷ 65535 ∷ [])
+    ∷ case (gf2 2) (two-at 0 0 0xFF 0xFF ∷ []) []
+    -- DT 4, 7 and 8, in both schemes: the coefficient is zero at 4
+    ∷ case (gf2 1) (zero-at 4 ∷ zero-at 7 ∷ zero-at 8 ∷ []) []
+    ∷ case (gf256 1) (zero-at 4 ∷ zero-at 7 ∷ zero-at 8 ∷ []) []
     ∷ []
-
-pub bench :
-    table
     ≡ numbers (29 ∷ []) ∷ numbers (9 ∷ []) ∷ numbers (142 ∷ [])
     ∷ numbers (37 ∷ 225 ∷ 177 ∷ 176 ∷ 21 ∷ []) ∷ numbers (0 ∷ 1 ∷ 1 ∷ 1 ∷ 0 ∷ 0 ∷ []) ∷ numbers (0 ∷ 177 ∷ 21 ∷ 0 ∷ 0 ∷ [])
     ∷ packet (0x41 ∷ 0 ∷ 0 ∷ 0 ∷ 0 ∷ []) ∷ packet (0x42 ∷ 0 ∷ 0 ∷ 0 ∷ 1 ∷ []) ∷ packet (0 ∷ 0 ∷ 0xF0 ∷ 2 ∷ 0 ∷ 0 ∷ 0 ∷ 0 ∷ 0 ∷ 0 ∷ 0 ∷ 3 ∷ [])
+    ∷ received (value 1 ∷ value 1 ∷ []) (known (1 ∷ 0 ∷ 1 ∷ 0x41 ∷ []) ∷ known (1 ∷ 0 ∷ 1 ∷ 0x42 ∷ []) ∷ [])
     ∷ packet (0 ∷ 0 ∷ 0 ∷ 0 ∷ 0 ∷ 0 ∷ 0 ∷ 0 ∷ 0 ∷ []) ∷ refusal 4
+    ∷ received (value 1 ∷ []) (known (1 ∷ 0 ∷ 0 ∷ 0 ∷ []) ∷ [])
+    ∷ received (refuses 9 ∷ []) [] ∷ received (refuses 9 ∷ []) [] ∷ received (refuses 8 ∷ []) []
+    ∷ received (value 0 ∷ []) (says 12 ∷ says 12 ∷ []) ∷ received (value 0 ∷ refuses 11 ∷ []) (says 12 ∷ says 12 ∷ [])
+    ∷ received (value 0 ∷ value 0 ∷ value 1 ∷ value 1 ∷ value 2 ∷ []) (known (1 ∷ 0 ∷ 1 ∷ 0x43 ∷ []) ∷ [])
     ∷ refusal 1 ∷ refusal 2 ∷ refusal 3 ∷ refusal 6 ∷ refusal 7
+    ∷ received (refuses 4 ∷ []) [] ∷ received (refuses 5 ∷ refuses 5 ∷ []) [] ∷ received (refuses 6 ∷ refuses 6 ∷ []) []
+    ∷ received (refuses 8 ∷ refuses 9 ∷ []) [] ∷ received (refuses 11 ∷ []) []
+    ∷ received [] (says 12 ∷ says 12 ∷ says 12 ∷ says 8 ∷ says 8 ∷ [])
+    ∷ received (value 2 ∷ []) (known (1 ∷ 0 ∷ 2 ∷ 7 ∷ []) ∷ known (7 ∷ 0 ∷ 0 ∷ 0 ∷ []) ∷ []) ∷ received (refuses 9 ∷ []) []
+    ∷ received (value 0 ∷ value 1 ∷ value 0 ∷ []) [] ∷ received (value 0 ∷ value 1 ∷ value 0 ∷ []) []
     ∷ []
 unfolding
     computing product inverse inverse-below nonzeroFrom bitOf byteOf extend coefficientsOf combination
-    symbolCount adui sourceSymbols sourcePacket repairHeader repairPacket inRange settingOf
-    field part settingIn headerIn repairSymbol opening adding repairing
+    symbolCount adui sourceSymbols sourcePacket sourceForm sourceAdu sourceEsi
+    repairHeader repairPacket repairCount repairForm repairKey densityThreshold protectedCount firstEsi repairSymbols
+    inRange settingOf field part settingIn headerIn repairSymbol opening adding repairing
+    placeOf check placed readSource readRepair reading receiving finding
+    packets.source packets.source-rows packets.row packets.only packets.repair
+    decoder.fresh decoder.empty decoder.receive decoder.rise decoder.newly decoder.count-new decoder.is-new
+    decoder.embed decoder.advance-by decoder.insert-all
+    model.insert model.known model.settle model.settle-by model.reduce model.place model.place-free model.lead model.at
+    model.axpy model.scale model.symbol model.push model.extend model.advance
 bench = refl

@@ -1,6 +1,5 @@
 pub mod SenderRun
 pub mod Unopened
-pub mod Bench
 pub mod Run
 pub mod Carrying
 pub mod Demand
@@ -9,4 +8,4 @@ pub mod Reading
 pub mod NotEmpty
 pub mod ReceiverUnopened
 pub mod Receiver
-pub mod ReceiverBench
+pub mod Bench

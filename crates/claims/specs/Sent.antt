@@ -8,7 +8,8 @@ use Rattle.wire.specs.declared.Setting.{Setting}
 use Rattle.wire.specs.Settings.{Valid}
 use Rattle.wire.specs.Packets.{symbolCount, sourceAdu, protectedCount}
 use Rattle.receiver.specs.declared.Answer.{Answer}
-use Rattle.receiver.specs.History.{Filling, All, Call, source-call, repair-call, workingSize, reading, Log, fresh, baseOf, Said, value, IsValue, logged, Judged}
+use Rattle.receiver.specs.History.{Filling, All, Call, source-call, repair-call, workingSize, reading, Log, fresh, baseOf, Said, value, IsValue}
+use Rattle.receiver.specs.History.{logged, Judged}
 use Rattle.receiver.specs.Promises.{Layout, said, SymbolAnswered, PartShown}
 use Rattle.claims.specs.SenderRun.{SenderCall, SenderRun, symbolsOf, Packet, source, repair, Wrote}
 use Rattle.claims.specs.Run.{Step, read, history}
@@ -61,7 +62,8 @@ Sent-accepted =
 -- And what is shown at a position of the sender's is the sender's symbol.
 abbrev pub Sent-shown : Layout → Type 0
 Sent-shown L =
-    (t s : Setting) (l : List SenderCall) → Peers t s l → (ts : List Step) (m : List ℕ) → Demand-3 L s ts m → AsWritten s (symbolsOf (s .size) l) fresh ts
+    (t s : Setting) (l : List SenderCall) → Peers t s l → (ts : List Step) (m : List ℕ) → Demand-3 L s ts m
+    → AsWritten s (symbolsOf (s .size) l) fresh ts
     → (i : ℕ) → i < s .width → baseOf (history s ts) + i < length (symbolsOf (s .size) l)
     → (a : Answer) → SymbolAnswered L m (esi (baseOf (history s ts) + i)) a → said a ≡ value 0
     → (memory part : RefT (List ℕ)) → now memory ≡ m → PartShown L memory part (esi (baseOf (history s ts) + i))

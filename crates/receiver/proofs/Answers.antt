@@ -16,7 +16,8 @@ use Rattle.decoder.specs.Promises.{Follows}
 use Rattle.decoder.proofs.Bytes.{laws}
 use Rattle.decoder.proofs.History as history
 use Rattle.receiver.specs.Symbol.{Symbol}
-use Rattle.receiver.specs.History.{Filling, Located, source, repair, first, named, Satisfied, All, Consistent, Known, Reading, fails, located, Log, fresh, baseOf, accept, Said, value, refusal, logged, Counted, New, Judged}
+use Rattle.receiver.specs.History.{Filling, Located, source, repair, first, named, Satisfied, All, Consistent, Known, Reading, fails, located}
+use Rattle.receiver.specs.History.{Log, fresh, baseOf, accept, Said, value, refusal, logged, Counted, New, Judged}
 use Rattle.receiver.specs.Model.{packetOf, State, opened, saidOf, stateAfter, added, responds}
 use Rattle.receiver.proofs.Cases.{IsRefusal, numeral, IsLocated, packet-path, number-in}
 use Rattle.receiver.proofs.Counting.{count-counted}

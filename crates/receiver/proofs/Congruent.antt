@@ -10,7 +10,8 @@ use lib.Dec.{ltb, leb}
 use lib.ListN.{length, getD}
 use Rattle.wire.specs.declared.Setting.{Setting}
 use Rattle.wire.specs.Numbers.{within, distanceOf}
-use Rattle.wire.specs.Packets.{symbolCount, sourceSymbols, sourceForm, sourceAdu, sourceEsi, repairForm, repairKey, densityThreshold, protectedCount, firstEsi, repairSymbols}
+use Rattle.wire.specs.Packets.{symbolCount, sourceSymbols, sourceForm, sourceAdu, sourceEsi, repairForm, repairKey, densityThreshold, protectedCount}
+use Rattle.wire.specs.Packets.{firstEsi, repairSymbols}
 use Rattle.coefficients.specs.Coefficients.{keys, listsOf, allOk}
 use Rattle.decoder.specs.Bytes.{Byte, byte, Coded}
 use Rattle.decoder.specs.Model as model
@@ -21,7 +22,8 @@ use Rattle.decoder.specs.Table.{read, slot, view, Echelon}
 use Rattle.elimination.specs.Window as window
 use Rattle.receiver.specs.declared.Header.{Header}
 use Rattle.receiver.specs.Symbol.{symbolOf}
-use Rattle.receiver.specs.History.{Located, source, repair, Place, behind, ahead, placeOf, Call, source-call, repair-call, Reading, fails, located, check, placed, readSource, readRepair, readPacket, workingSize, reading}
+use Rattle.receiver.specs.History.{Located, source, repair, Place, behind, ahead, placeOf, Call, source-call, repair-call, Reading, fails}
+use Rattle.receiver.specs.History.{located, check, placed, readSource, readRepair, readPacket, workingSize, reading}
 use Rattle.receiver.specs.Model.{equations, packetOf, State, Outcome, refused, done, added, responds, receiving}
 use Rattle.receiver.specs.Layout.{headerOf, Holds}
 

@@ -26,7 +26,7 @@ use Rattle.receiver.specs.declared.Header.{Header}
 use Rattle.receiver.specs.declared.Spot.{Spot}
 use Rattle.receiver.specs.declared.Spot.the-variants.{At, Nowhere}
 use Rattle.receiver.specs.Symbol.{Symbol, bytesOf}
-use Rattle.receiver.specs.History.{behind, ahead, placeOf, Said, value, refusal}
+use Rattle.receiver.specs.History.{behind, ahead, placeOf, Said, value, refusal, IsValue}
 use Rattle.receiver.specs.Model.{State, Finding, shows, hides, shown, symbolIn, finding}
 use Rattle.receiver.specs.Header.{headerIn}
 use Rattle.receiver.specs.Promises.{said, Finds, SymbolAnswered, Shows, PartShown}
@@ -157,10 +157,6 @@ module _ (m : List ℕ) (e : ℕ) (h : Header) (k : headerIn m ≡ some h) where
 abbrev IsNowhere : Spot → Type 0
 IsNowhere (At a n) = ⊥
 IsNowhere (Nowhere x) = Unit {0}
-
-abbrev IsValue : Said → Type 0
-IsValue (value n) = Unit {0}
-IsValue (refusal n) = ⊥
 
 abbrev reason : Spot → ℕ
 reason (At a n) = 0

@@ -12,7 +12,8 @@ use Rattle.wire.specs.declared.Setting.{Setting}
 use Rattle.wire.specs.declared.Refusal.{Refusal}
 use Rattle.wire.specs.declared.Refusal.the-variants.{Short, Long, Form, Range, Behind, Ahead, Draws, Contradiction}
 use Rattle.wire.specs.Numbers.{within, numberOf}
-use Rattle.wire.specs.Packets.{symbolCount, sourceForm, sourceAdu, sourceEsi, repairForm, repairKey, densityThreshold, protectedCount, firstEsi, repairSymbols}
+use Rattle.wire.specs.Packets.{symbolCount, sourceForm, sourceAdu, sourceEsi, repairForm, repairKey, densityThreshold, protectedCount, firstEsi}
+use Rattle.wire.specs.Packets.{repairSymbols}
 use Rattle.coefficients.specs.Coefficients.{keys, listsOf, allOk}
 use Rattle.decoder.specs.Bytes.{Coded}
 use Rattle.decoder.specs.Model as model
@@ -20,7 +21,8 @@ use Rattle.decoder.specs.Model.{Rref}
 use Rattle.decoder.specs.Receiver as decoder
 use Rattle.decoder.proofs.Bytes.{laws}
 use Rattle.decoder.proofs.History as history
-use Rattle.receiver.specs.History.{Located, Place, behind, ahead, placeOf, Call, source-call, repair-call, Reading, fails, located, check, placed, readSource, readRepair, workingSize, reading}
+use Rattle.receiver.specs.History.{Located, Place, behind, ahead, placeOf, Call, source-call, repair-call, Reading, fails, located, check}
+use Rattle.receiver.specs.History.{placed, readSource, readRepair, workingSize, reading}
 use Rattle.receiver.specs.Model.{packetOf, State, Outcome, refused, done, stateAfter, added, responds, receiving}
 
 -- The number of a refusal that is not 3.

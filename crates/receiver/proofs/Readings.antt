@@ -15,12 +15,14 @@ use Rattle.memory.proofs.Number.{bytes-part}
 use Rattle.wire.specs.declared.Scheme.{Scheme}
 use Rattle.wire.specs.declared.Setting.{Setting}
 use Rattle.wire.specs.Numbers.{within, distanceOf}
-use Rattle.wire.specs.Packets.{zeros, chunks, symbolCount, adui, sourceSymbols, sourceForm, sourceAdu, sourceEsi, repairCount, repairForm, repairKey, densityThreshold, protectedCount, firstEsi, repairSymbols}
+use Rattle.wire.specs.Packets.{zeros, chunks, symbolCount, adui, sourceSymbols, sourceForm, sourceAdu, sourceEsi, repairCount, repairForm, repairKey}
+use Rattle.wire.specs.Packets.{densityThreshold, protectedCount, firstEsi, repairSymbols}
 use Rattle.wire.proofs.Settings.{both, within-bounds}
 use Rattle.wire.proofs.Adui.{length-adui, symbols-count, length-chunks}
 use Rattle.coefficients.specs.Coefficients.{keys, listsOf, allOk}
 use Rattle.coefficients.proofs.Lists.{length-keys, list-bytes}
-use Rattle.receiver.specs.History.{Located, source, repair, first, named, Place, behind, ahead, placeOf, Call, source-call, repair-call, OfBytes, Reading, fails, located, check, placed, readSource, readRepair, workingSize, readPacket, reading}
+use Rattle.receiver.specs.History.{Located, source, repair, first, named, Place, behind, ahead, placeOf, Call, source-call, repair-call}
+use Rattle.receiver.specs.History.{OfBytes, Reading, fails, located, check, placed, readSource, readRepair, workingSize, readPacket, reading}
 use Rattle.receiver.proofs.Cases.{IsLocated, packet-path}
 use Rattle.receiver.proofs.Says.{Whole, Wholes, AllBytes, Formed}
 use Rattle.receiver.proofs.Answers.{Fits}

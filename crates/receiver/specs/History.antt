@@ -10,7 +10,8 @@ use lib.Dec.{ltb, leb}
 use Rattle.memory.specs.Number.{Bytes}
 use Rattle.wire.specs.declared.Setting.{Setting}
 use Rattle.wire.specs.Numbers.{within, distanceOf}
-use Rattle.wire.specs.Packets.{symbolCount, sourceSymbols, sourceForm, sourceAdu, sourceEsi, repairForm, repairKey, densityThreshold, protectedCount, firstEsi, repairSymbols}
+use Rattle.wire.specs.Packets.{symbolCount, sourceSymbols, sourceForm, sourceAdu, sourceEsi, repairForm, repairKey, densityThreshold, protectedCount}
+use Rattle.wire.specs.Packets.{firstEsi, repairSymbols}
 use Rattle.coefficients.specs.Coefficients.{keys, listsOf, allOk}
 use Rattle.rows.specs.Combination.{combination}
 use Rattle.receiver.specs.Symbol.{Symbol, bytesOf}
@@ -146,6 +147,7 @@ pub record Log : Type 0 where
 abbrev pub fresh : Log
 fresh = record { base = 0; accepted = [] }
 
+-- The base. What is said of it is said through this.
 abbrev pub baseOf : Log → ℕ
 baseOf l = l .base
 

@@ -12,7 +12,8 @@ use Rattle.decoder.specs.Model.{known}
 use Rattle.decoder.specs.Receiver as decoder
 use Rattle.decoder.specs.Packets as packets
 use Rattle.receiver.specs.Symbol.{Symbol, symbolOf}
-use Rattle.receiver.specs.History.{Located, source, repair, Place, behind, ahead, placeOf, Call, Reading, fails, located, reading, Said, value, refusal}
+use Rattle.receiver.specs.History.{Located, source, repair, Place, behind, ahead, placeOf, Call, Reading, fails, located, reading, Said, value}
+use Rattle.receiver.specs.History.{refusal}
 
 module _ (E : ℕ) where
   -- A repair packet's equations.

@@ -54,9 +54,9 @@ module _ (L : Layout) where
     pub holds : (s : Setting) → settingOf scheme E w ≡ some s → said a ≡ value 0 → Holds m′ s (opened s)
 
   -- A packet call did what it comes to.
-  abbrev pub Does : (s : Setting) → Outcome s → (m m′ : List ℕ) → Answer → Type 0
-  Does s (refused n) m m′ a = (said a ≡ refusal n) × (m′ ≡ m)
-  Does s (done n t) m m′ a = (said a ≡ value n) × Holds m′ s t
+  abbrev pub Follows : (s : Setting) → Outcome s → (m m′ : List ℕ) → Answer → Type 0
+  Follows s (refused n) m m′ a = (said a ≡ refusal n) × (m′ ≡ m)
+  Follows s (done n t) m m′ a = (said a ≡ value n) × Holds m′ s t
 
   -- A packet call, on any memory: refusal 3 exactly where it has no receiver's header, and then working memory too is as it was; a refusal changes
   -- nothing but working memory; lengths, and bytes past the sizes, are kept. Where the memory holds a state, the call does what it comes to.
@@ -65,7 +65,7 @@ module _ (L : Layout) where
     pub untouched : headerIn m ≡ none → v′ ≡ v
     pub refused : (n : ℕ) → said a ≡ refusal n → m′ ≡ m
     pub contained : (h : Header) → headerIn m ≡ some h → Contained (memorySize (h .setting)) m m′ × Contained (workingSize (h .setting)) v v′
-    pub does : (s : Setting) (t : State s) → Holds m s t → Does s (receiving s t (length v) c) m m′ a
+    pub follows : (s : Setting) (t : State s) → Holds m s t → Follows s (receiving s t (length v) c) m m′ a
 
   -- The symbol call found this: it answers 0 for a known symbol, else a refusal.
   abbrev pub Finds : {E : ℕ} → Finding E → Answer → Type 0
