@@ -1,14 +1,14 @@
 -- A filling that carries a list of symbols holds every stretch of them; and there is one.
 use mathlib.Core.Path.{_≡_, refl, sym, ap, ap₂, _∙_, subst}
 use mathlib.Core.List.{List, [], _∷_, _++_}
-use Prim.Native.Nat.{ℕ, zero, suc, _+_, _-_, _≤_, _<_}
+use Prim.Native.Nat.{ℕ, suc, _+_, _-_, _<_}
 use native.Mathlib.Nat.{add-zero, add-suc, suc-add, zero-add, add-comm}
 use native.Mathlib.Omega.{arith}
 use lib.ListN.{length, getD, drop, length-drop}
 use lib.Seq.{getD-drop}
 use Rattle.receiver.specs.Symbol.{bytesOf, symbolOf}
 use Rattle.receiver.specs.History.{Filling, symbolsAt}
-use Rattle.receiver.proofs.Says.{Whole, Wholes, getD-at, holds}
+use Rattle.receiver.proofs.Says.{Wholes, getD-at, holds}
 use Rattle.claims.specs.SenderRun.{AreSymbols}
 use Rattle.claims.specs.Carrying.{Carries}
 

@@ -1,15 +1,13 @@
 -- Demand 3 holds of every list of calls that the promises allow.
 use mathlib.Core.Path.{_≡_, refl, sym, ap, ap₂, _∙_, subst}
 use mathlib.Core.Logic.{_↔_, _⊎_, inl, inr, Iff·trans}
-use mathlib.Core.Bool.{Bool, true, false, cond}
 use mathlib.Core.Option.{Option, none, some}
 use mathlib.Core.List.{List, [], _∷_, _++_, map}
 use denote.Ref.{RefT, now}
 use Prim.Native.Nat.{ℕ, _+_, _%_, _^_, _≤_, _<_}
 use native.Mathlib.Decide.{decLt}
 use native.Mathlib.Omega.{arith}
-use lib.Dec.{ltb}
-use lib.ListN.{length, getD}
+use lib.ListN.{length}
 use Rattle.wire.specs.declared.Setting.{Setting}
 use Rattle.wire.specs.Settings.{settingOf, Valid}
 use Rattle.wire.proofs.Settings.{setting-names}
@@ -17,7 +15,7 @@ use Rattle.decoder.specs.Model.{known}
 use Rattle.decoder.specs.Receiver as decoder
 use Rattle.receiver.specs.declared.Answer.{Answer}
 use Rattle.receiver.specs.Symbol.{Symbol, bytesOf}
-use Rattle.receiver.specs.History.{IsValue, Filling, Located, All, Consistent, Known, Reading, located, memorySize, reading, Log, fresh, baseOf, OfBytes, Said}
+use Rattle.receiver.specs.History.{IsValue, Filling, All, Known, reading, Log, fresh, baseOf, OfBytes}
 use Rattle.receiver.specs.History.{value, refusal, logged, Judged}
 use Rattle.receiver.specs.Model.{State, opened, Outcome, refused, done, saidOf, stateAfter, responds, receiving, Finding, shows, hides, shown}
 use Rattle.receiver.specs.Model.{finding}

@@ -1,26 +1,24 @@
 -- Every list of packet calls has a run: each call has an answer, and a memory to leave, that its promise allows.
-use mathlib.Core.Path.{_≡_, refl, sym, ap, ap₂, _∙_, subst}
-use mathlib.Core.Logic.{_↔_}
+use mathlib.Core.Path.{_≡_, refl, sym, ap, _∙_, subst}
 use mathlib.Core.Option.{Option, none, some, Option·none-ne-some, Option·some-injective}
 use mathlib.Core.List.{List, [], _∷_, map}
-use Prim.Native.Nat.{ℕ, _+_, _-_, _≤_, _<_}
+use Prim.Native.Nat.{ℕ, _-_, _<_}
 use native.Mathlib.Omega.{arith}
 use lib.ListN.{length, drop, length-drop}
 use Rattle.wire.specs.declared.Setting.{Setting}
 use Rattle.wire.specs.Settings.{settingOf, Valid}
 use Rattle.wire.proofs.Settings.{setting-names}
-use Rattle.decoder.specs.Model.{Rref}
 use Rattle.receiver.specs.declared.Answer.{Answer}
 use Rattle.receiver.specs.declared.Answer.the-variants.{Done, Refused}
 use Rattle.receiver.specs.declared.Header.{Header}
-use Rattle.receiver.specs.History.{Call, OfBytes, memorySize, workingSize, Said, value, refusal, IsValue}
-use Rattle.receiver.specs.Model.{State, opened, Outcome, refused, done, stateAfter, receiving}
+use Rattle.receiver.specs.History.{Call, memorySize, workingSize, Said, value, refusal, IsValue}
+use Rattle.receiver.specs.Model.{State, opened, Outcome, refused, done, receiving}
 use Rattle.receiver.specs.Header.{headerIn}
-use Rattle.receiver.specs.Promises.{said, opening, Opened, Contained, Follows, Received}
+use Rattle.receiver.specs.Promises.{Contained, Follows, Received}
 use Rattle.receiver.specs.Layout.{headerOf, Holds, receiverLayout}
-use Rattle.receiver.proofs.Building.{Built, built}
-use Rattle.receiver.proofs.Congruent.{Same, holds-same, held-same, Alike, both-refused, both-done, receiving-alike}
-use Rattle.receiver.proofs.Naming.{Named, Sound, receiving-sound}
+use Rattle.receiver.proofs.Building.{built}
+use Rattle.receiver.proofs.Congruent.{holds-same, held-same, Alike, both-refused, both-done, receiving-alike}
+use Rattle.receiver.proofs.Naming.{Sound, receiving-sound}
 use Rattle.receiver.proofs.Headers.{header-room}
 use Rattle.claims.specs.Run.{Step, Run}
 use Rattle.claims.specs.NotEmpty.{Asked, asked, AllOfBytes, Runs-exist}

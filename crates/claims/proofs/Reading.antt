@@ -1,12 +1,12 @@
 -- Every packet that RFC 8681 can write within our sizes is read at its place.
-use mathlib.Core.Path.{_≡_, refl, sym, ap, _∙_}
+use mathlib.Core.Path.{_≡_, refl, _∙_}
 use mathlib.Core.Bool.{true}
 use mathlib.Core.List.{List}
 use Prim.Native.Nat.{ℕ, _+_, _%_, _^_, _≤_, _<_}
 use native.Mathlib.Nat.{mod-lt}
 use native.Mathlib.Omega.{arith}
 use lib.ListN.{length}
-use lib.Dec.{leb, lit<}
+use lib.Dec.{lit<}
 use borrow.Author.Tests.{le-leb}
 use Rattle.wire.specs.declared.Setting.{Setting}
 use Rattle.wire.specs.Packets.{Sized, symbolCount, sourceSymbols, sourcePacket, repairPacket}
@@ -14,10 +14,10 @@ use Rattle.wire.proofs.Settings.{within-true}
 use Rattle.wire.proofs.Reading.{source-form, source-adu, source-esi, repair-form, repair-symbols, repair-key, density-threshold, protected-count}
 use Rattle.wire.proofs.Reading.{first-esi}
 use Rattle.coefficients.specs.Coefficients.{keys, listsOf, allOk}
-use Rattle.receiver.specs.History.{Located, source, repair, placeOf, source-call, repair-call, Reading, fails, located, check, placed, workingSize}
+use Rattle.receiver.specs.History.{Located, source, repair, placeOf, source-call, repair-call, Reading, located, check, placed, workingSize}
 use Rattle.receiver.specs.History.{readSource, readRepair, reading}
 use Rattle.receiver.proofs.Places.{placed-taken, placed-behind, placed-far}
-use Rattle.claims.specs.Reading.{ReadBy, Read-as-written, Reads}
+use Rattle.claims.specs.Reading.{ReadBy, Reads}
 
 -- A reading that comes to a place.
 by-place : (base d n : ℕ) (next : ℕ → Reading) (q : Located) (r : Reading) → d < 2 ^ 32 → next d ≡ located q

@@ -1,20 +1,16 @@
 -- What refusal 3 stands for at a receiver.
-use mathlib.Core.Path.{_≡_, sym, _∙_}
-use mathlib.Core.Option.{some}
-use mathlib.Core.List.{List}
-use Prim.Native.Nat.{ℕ, _<_}
+use mathlib.Core.Path.{sym, _∙_}
 use native.Mathlib.Omega.{arith}
 use lib.ListN.{length}
-use Rattle.wire.specs.declared.Setting.{Setting}
 use Rattle.wire.specs.Settings.{settingOf}
 use Rattle.wire.proofs.Settings.{setting-names}
 use Rattle.sender.specs.State as sender
 use Rattle.sender.proofs.Heads as heads
 use Rattle.receiver.specs.History.{fresh}
-use Rattle.receiver.specs.Layout.{headerOf, Holds, receiverLayout}
+use Rattle.receiver.specs.Layout.{headerOf, receiverLayout}
 use Rattle.receiver.proofs.Headers.{headed, zeros-unopened, other-unopened, short-unopened}
 use Rattle.claims.specs.ReceiverUnopened.{Receiver-unopened}
-use Rattle.claims.proofs.Demand.{had-setting, Stands, stands, opened-stands}
+use Rattle.claims.proofs.Demand.{had-setting, stands, opened-stands}
 
 pub receiver-unopened : Receiver-unopened
 receiver-unopened = record {

@@ -1,6 +1,5 @@
 -- The sender's symbols satisfy the sender's packets, which are accepted and shown.
-use mathlib.Core.Path.{_≡_, refl, sym, ap, ap₂, _∙_, subst}
-use mathlib.Core.Bool.{true}
+use mathlib.Core.Path.{_≡_, refl, sym, ap, _∙_, subst}
 use mathlib.Core.Option.{Option, none, some}
 use mathlib.Core.List.{List, [], _∷_, _++_, map}
 use Prim.Native.Nat.{ℕ, _+_, _-_, _%_, _^_, _≤_, _<_}
@@ -11,21 +10,21 @@ use lib.ListN.{length, getD, length-map}
 use Rattle.wire.specs.declared.Setting.{Setting}
 use Rattle.wire.specs.Numbers.{distanceOf}
 use Rattle.wire.specs.Settings.{schemeNumber, settingOf, Valid}
-use Rattle.wire.specs.Packets.{Sized, symbolCount, sourceSymbols, sourcePacket, sourceAdu, repairPacket, protectedCount}
+use Rattle.wire.specs.Packets.{Sized, symbolCount, sourceSymbols, sourcePacket, repairPacket}
 use Rattle.wire.proofs.Settings.{setting-names}
 use Rattle.wire.proofs.Reading.{source-adu, source-esi, repair-symbols, repair-key, density-threshold, protected-count, first-esi}
-use Rattle.coefficients.specs.Coefficients.{coefficientsOf, keys, listsOf, allOk}
+use Rattle.coefficients.specs.Coefficients.{coefficientsOf, keys, listsOf}
 use Rattle.coefficients.proofs.Lists.{length-keys}
 use Rattle.rows.specs.Combination.{combination}
 use Rattle.rows.proofs.Combinations.{length-combination}
 use Rattle.sender.specs.Repair.{repairSymbol}
 use Rattle.sender.specs.Calls.{openingWith, opening}
 use Rattle.sender.specs.Promises.{bytes, refusal as refused, Follows}
-use Rattle.receiver.specs.History.{Filling, Located, source, repair, symbolsAt, Satisfied, All, Call, source-call, repair-call, Reading, fails}
+use Rattle.receiver.specs.History.{Filling, Located, source, repair, Satisfied, All, source-call, repair-call, Reading, fails}
 use Rattle.receiver.specs.History.{located, workingSize, readPacket, reading, Log, fresh, baseOf, Said, value, refusal, IsValue, logged}
 use Rattle.receiver.specs.Promises.{Layout, said}
 use Rattle.receiver.proofs.Readings.{source-read, repair-read, reading-passed}
-use Rattle.claims.specs.SenderRun.{SenderCall, SenderRun, symbolsOf, AreSymbols, Packet, source as source-packet, repair as repair-packet}
+use Rattle.claims.specs.SenderRun.{SenderCall, SenderRun, symbolsOf, AreSymbols, Packet}
 use Rattle.claims.specs.SenderRun.{Wrote, wrote-source, wrote-repair}
 use Rattle.claims.specs.Run.{Step, read, goes-on, history}
 use Rattle.claims.specs.Carrying.{Carries}

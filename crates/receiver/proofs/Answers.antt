@@ -1,9 +1,9 @@
 -- The model's answers are the history's.
-use mathlib.Core.Path.{_≡_, refl, sym, ap, _∙_, subst}
+use mathlib.Core.Path.{_≡_, refl, sym, ap, subst}
 use mathlib.Core.Logic.{_↔_, Iff·rfl, Iff·and}
 use mathlib.Core.Option.{Option, none, some, Option·none-ne-some, Option·some-injective}
 use mathlib.Core.List.{List, [], _∷_, map}
-use Prim.Native.Nat.{ℕ, _+_, _-_, _≤_, _<_, max}
+use Prim.Native.Nat.{ℕ, _+_, _-_, _≤_, _<_}
 use native.Mathlib.Omega.{arith}
 use Rattle.wire.specs.declared.Setting.{Setting}
 use Rattle.decoder.specs.Field.{Laws}
@@ -16,8 +16,8 @@ use Rattle.decoder.specs.Promises.{Follows}
 use Rattle.decoder.proofs.Bytes.{laws}
 use Rattle.decoder.proofs.History as history
 use Rattle.receiver.specs.Symbol.{Symbol}
-use Rattle.receiver.specs.History.{Filling, Located, source, repair, first, named, Satisfied, All, Consistent, Known, Reading, fails, located}
-use Rattle.receiver.specs.History.{Log, fresh, baseOf, accept, Said, value, refusal, logged, Counted, New, Judged}
+use Rattle.receiver.specs.History.{Filling, Located, source, repair, first, named, All, Consistent, Known, Reading, fails, located}
+use Rattle.receiver.specs.History.{Log, fresh, baseOf, accept, refusal, logged, Counted, New, Judged}
 use Rattle.receiver.specs.Model.{packetOf, State, opened, saidOf, stateAfter, added, responds}
 use Rattle.receiver.proofs.Cases.{IsRefusal, numeral, IsLocated, packet-path, number-in}
 use Rattle.receiver.proofs.Counting.{count-counted}

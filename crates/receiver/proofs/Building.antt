@@ -2,14 +2,14 @@
 use mathlib.Core.Path.{_≡_, refl, sym, ap, ap₂, _∙_, subst}
 use mathlib.Core.Logic.{_≢_, _↔_}
 use mathlib.Core.Bool.{Bool, true, false, true≢false}
-use mathlib.Core.Option.{Option, none, some}
+use mathlib.Core.Option.{some}
 use mathlib.Core.List.{List, [], _∷_, _++_, append-assoc}
-use Prim.Native.Nat.{ℕ, zero, suc, _+_, _-_, _*_, _%_, _^_, _≤_, _<_}
+use Prim.Native.Nat.{ℕ, zero, suc, _+_, _-_, _*_, _%_, _^_, _<_}
 use native.Mathlib.Nat.{mod-lt, mod-eq-of-lt, add-zero, add-suc, suc-add, zero-add, mod-add-mod, mod-eq-sub-mod}
-use native.Mathlib.Decide.{decLt, ℕ-discrete}
+use native.Mathlib.Decide.{ℕ-discrete}
 use native.Mathlib.Omega.{arith}
-use lib.Dec.{ltb, leb, lit<}
-use lib.ListN.{length, getD, length-append, drop, take, List·getD-append}
+use lib.Dec.{ltb, lit<}
+use lib.ListN.{length, getD, length-append, drop, List·getD-append}
 use lib.Seq.{take-at, drop-at, drop-drop, getD-append-add}
 use borrow.Author.Tests.{le-leb, lt-ltb}
 use Rattle.memory.specs.Part.{part, splice}
@@ -24,7 +24,7 @@ use Rattle.wire.specs.Settings.{Valid, settingIn, settingBytes}
 use Rattle.wire.proofs.Settings.{setting-written}
 use Rattle.wire.proofs.Adui.{getD-chunks}
 use Rattle.wire.proofs.Reading.{length-joined}
-use Rattle.decoder.specs.Bytes.{Byte, byte, bytes as byte-ops, Coded}
+use Rattle.decoder.specs.Bytes.{byte, bytes as byte-ops, Coded}
 use Rattle.decoder.specs.Symbols.{nulls}
 use Rattle.decoder.specs.Model as model
 use Rattle.decoder.specs.Model.{Row, end, free, pivot, Rref}

@@ -2,9 +2,9 @@
 use mathlib.Core.Path.{_≡_, refl, sym, ap, ap₂, _∙_, subst}
 use mathlib.Core.Bool.{Bool, true, false, cond, _&&_}
 use mathlib.Core.Option.{Option, none, some, Option·some-injective}
-use mathlib.Core.List.{List, [], _∷_, map}
+use mathlib.Core.List.{List, map}
 use Prim.Native.Nat.{ℕ, zero, suc, _+_, _-_, _%_, _^_, _≤_, _<_}
-use native.Mathlib.Nat.{mod-add-mod, add-suc, suc-add}
+use native.Mathlib.Nat.{mod-add-mod}
 use native.Mathlib.Omega.{arith}
 use lib.Dec.{ltb, leb}
 use lib.ListN.{length, getD}
@@ -21,10 +21,9 @@ use Rattle.decoder.specs.Packets as packets
 use Rattle.decoder.specs.Table.{read, slot, view, Echelon}
 use Rattle.elimination.specs.Window as window
 use Rattle.receiver.specs.declared.Header.{Header}
-use Rattle.receiver.specs.Symbol.{symbolOf}
-use Rattle.receiver.specs.History.{Located, source, repair, Place, behind, ahead, placeOf, Call, source-call, repair-call, Reading, fails}
-use Rattle.receiver.specs.History.{located, check, placed, readSource, readRepair, readPacket, workingSize, reading}
-use Rattle.receiver.specs.Model.{equations, packetOf, State, Outcome, refused, done, added, responds, receiving}
+use Rattle.receiver.specs.History.{source, repair, Place, behind, ahead, placeOf, Call, source-call, repair-call, Reading, fails}
+use Rattle.receiver.specs.History.{located, check, placed, readSource, readRepair, workingSize, reading}
+use Rattle.receiver.specs.Model.{State, Outcome, refused, done, added, responds, receiving}
 use Rattle.receiver.specs.Layout.{headerOf, Holds}
 
 -- ---- Memory
@@ -137,24 +136,17 @@ module _ (b c : ℕ) where
   reading-shifted : (s : Setting) (room : ℕ) (call : Call) → b % 2 ^ 32 ≡ c % 2 ^ 32 → Shifted b c (reading s b room call) (reading s c room call)
   unfolding reading readSource readRepair
   reading-shifted s room (source-call flow p) h =
-      let adu = sourceAdu p in
-      let n = symbolCount (s .size) (length adu) in
-      check-shifted (leb (workingSize s) room) 2 _ _
-      (check-shifted (sourceForm p) 5 _ _
-      (check-shifted (leb (length adu) 65535 && leb n (s .width)) 4 _ _
+      check-shifted _ 2 _ _
+      (check-shifted _ 5 _ _
+      (check-shifted _ 4 _ _
       (rw (place-same (sourceEsi p) h)
-      (placed-shifted n (placeOf c (sourceEsi p)) _ _ (λ d. both-source d (sourceSymbols flow adu (s .size)))))))
+      (placed-shifted _ (placeOf c (sourceEsi p)) _ _ (λ d. both-source d (sourceSymbols flow (sourceAdu p) (s .size)))))))
   reading-shifted s room (repair-call p) h =
-      let dt = densityThreshold p in
-      let n = protectedCount p in
-      let vs = repairSymbols (s .size) p in
-      let ks = keys (repairKey p) (length vs) in
-      check-shifted (leb (workingSize s) room) 2 _ _
-      (check-shifted (repairForm (s .size) p) 5 _ _
-      (check-shifted (within 1 (s .width) n) 6 _ _
+      check-shifted _ 2 _ _
+      (check-shifted _ 5 _ _
+      (check-shifted _ 6 _ _
       (rw (place-same (firstEsi p) h)
-      (placed-shifted n (placeOf c (firstEsi p)) _ _
-      (λ d. check-shifted (allOk (s .scheme) dt n ks) 10 _ _ (both-repair d n (listsOf (s .scheme) dt n ks) vs))))))
+      (placed-shifted _ (placeOf c (firstEsi p)) _ _ (λ d. check-shifted _ 10 _ _ (both-repair d (protectedCount p) _ (repairSymbols (s .size) p)))))))
 
 -- Outcomes that differ by no more than the base.
 pub data Alike (s : Setting) : Outcome s → Outcome s → Type 0 where

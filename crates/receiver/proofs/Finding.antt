@@ -1,6 +1,6 @@
 -- From what the code reads in the memory to what the symbol calls promise.
 use mathlib.Core.Path.{_≡_, refl, sym, ap, _∙_, subst}
-use mathlib.Core.Logic.{_≢_, _⊎_, inl, inr}
+use mathlib.Core.Logic.{_≢_, inl, inr}
 use mathlib.Core.Bool.{Bool, true, false}
 use mathlib.Core.Option.{Option, none, some, Option·none-ne-some, Option·some-injective}
 use mathlib.Core.List.{List, []}
@@ -8,7 +8,6 @@ use denote.Ref.{RefT, now}
 use Prim.Native.Nat.{ℕ, _+_, _-_, _*_, _%_, _^_, _≤_, _<_}
 use native.Mathlib.Nat.{mod-eq-of-lt, mod-eq-sub-mod, mod-add-mod, mul-le-mul, mul-le-mul-right, suc-mul}
 use native.Mathlib.Omega.{arith}
-use lib.Dec.{ltb}
 use lib.ListN.{length}
 use borrow.Author.Tests.{lt-ltb, le-ltb}
 use Rattle.memory.specs.Part.{part, LiesAt}
@@ -25,14 +24,14 @@ use Rattle.receiver.specs.declared.Answer.the-variants.{Done, Refused}
 use Rattle.receiver.specs.declared.Header.{Header}
 use Rattle.receiver.specs.declared.Spot.{Spot}
 use Rattle.receiver.specs.declared.Spot.the-variants.{At, Nowhere}
-use Rattle.receiver.specs.Symbol.{Symbol, bytesOf}
-use Rattle.receiver.specs.History.{behind, ahead, placeOf, Said, value, refusal, IsValue}
-use Rattle.receiver.specs.Model.{State, Finding, shows, hides, shown, symbolIn, finding}
+use Rattle.receiver.specs.Symbol.{bytesOf}
+use Rattle.receiver.specs.History.{placeOf, Said, value, refusal, IsValue}
+use Rattle.receiver.specs.Model.{State, shows, hides, shown, finding}
 use Rattle.receiver.specs.Header.{headerIn}
-use Rattle.receiver.specs.Promises.{said, Finds, SymbolAnswered, Shows, PartShown}
+use Rattle.receiver.specs.Promises.{Finds, SymbolAnswered, Shows, PartShown}
 use Rattle.receiver.specs.Layout.{headerOf, Holds, receiverLayout}
 use Rattle.receiver.specs.Inner.{RowOf, SpottedFor, Spotted}
-use Rattle.receiver.proofs.Headers.{Headed, headed, header-fits}
+use Rattle.receiver.proofs.Headers.{header-fits}
 
 -- ---- The row of a position
 

@@ -1,8 +1,8 @@
 -- Every number that a packet call is refused with is that of a refusal, and not 3; a packet that is accepted leaves the window reduced.
-use mathlib.Core.Path.{_≡_, refl, sym, ap, _∙_, subst}
+use mathlib.Core.Path.{_≡_, refl}
 use mathlib.Core.Logic.{_≢_}
 use mathlib.Core.Bool.{Bool, true, false, _&&_}
-use mathlib.Core.Option.{Option, none, some, Option·none-ne-some, Option·some-injective}
+use mathlib.Core.Option.{Option, none, some}
 use mathlib.Core.List.{List}
 use Prim.Native.Nat.{ℕ, _+_, _-_, _<_}
 use native.Mathlib.Omega.{arith}
@@ -14,16 +14,16 @@ use Rattle.wire.specs.declared.Refusal.the-variants.{Short, Long, Form, Range, 
 use Rattle.wire.specs.Numbers.{within, numberOf}
 use Rattle.wire.specs.Packets.{symbolCount, sourceForm, sourceAdu, sourceEsi, repairForm, repairKey, densityThreshold, protectedCount, firstEsi}
 use Rattle.wire.specs.Packets.{repairSymbols}
-use Rattle.coefficients.specs.Coefficients.{keys, listsOf, allOk}
+use Rattle.coefficients.specs.Coefficients.{keys, allOk}
 use Rattle.decoder.specs.Bytes.{Coded}
 use Rattle.decoder.specs.Model as model
 use Rattle.decoder.specs.Model.{Rref}
 use Rattle.decoder.specs.Receiver as decoder
 use Rattle.decoder.proofs.Bytes.{laws}
 use Rattle.decoder.proofs.History as history
-use Rattle.receiver.specs.History.{Located, Place, behind, ahead, placeOf, Call, source-call, repair-call, Reading, fails, located, check}
+use Rattle.receiver.specs.History.{Place, behind, ahead, placeOf, Call, source-call, repair-call, Reading, fails, located, check}
 use Rattle.receiver.specs.History.{placed, readSource, readRepair, workingSize, reading}
-use Rattle.receiver.specs.Model.{packetOf, State, Outcome, refused, done, stateAfter, added, responds, receiving}
+use Rattle.receiver.specs.Model.{packetOf, State, Outcome, refused, done, added, responds, receiving}
 
 -- The number of a refusal that is not 3.
 pub record Named (n : ℕ) : Type 0 where
@@ -51,18 +51,14 @@ placed-named n (ahead d) f k = check-named (leb (d + n) 65536) 9 (f d) (named Ah
 reading-named : (s : Setting) (base room : ℕ) (c : Call) → NamedReading (reading s base room c)
 unfolding reading readSource readRepair
 reading-named s base room (source-call flow p) =
-    let n = symbolCount (s .size) (length (sourceAdu p)) in
-    check-named (leb (workingSize s) room) 2 _ (named Short (λ e. absurd (omega (arith, e))))
-    (check-named (sourceForm p) 5 _ (named Form (λ e. absurd (omega (arith, e))))
-    (check-named (leb (length (sourceAdu p)) 65535 && leb n (s .width)) 4 _ (named Long (λ e. absurd (omega (arith, e))))
-    (placed-named n (placeOf base (sourceEsi p)) _ (λ d. tt))))
+    check-named _ 2 _ (named Short (λ e. absurd (omega (arith, e))))
+    (check-named _ 5 _ (named Form (λ e. absurd (omega (arith, e))))
+    (check-named _ 4 _ (named Long (λ e. absurd (omega (arith, e)))) (placed-named _ (placeOf base (sourceEsi p)) _ (λ d. tt))))
 reading-named s base room (repair-call p) =
-    let ks = keys (repairKey p) (length (repairSymbols (s .size) p)) in
-    check-named (leb (workingSize s) room) 2 _ (named Short (λ e. absurd (omega (arith, e))))
-    (check-named (repairForm (s .size) p) 5 _ (named Form (λ e. absurd (omega (arith, e))))
-    (check-named (within 1 (s .width) (protectedCount p)) 6 _ (named Range (λ e. absurd (omega (arith, e))))
-    (placed-named (protectedCount p) (placeOf base (firstEsi p)) _
-    (λ d. check-named (allOk (s .scheme) (densityThreshold p) (protectedCount p) ks) 10 _ (named Draws (λ e. absurd (omega (arith, e)))) tt))))
+    check-named _ 2 _ (named Short (λ e. absurd (omega (arith, e))))
+    (check-named _ 5 _ (named Form (λ e. absurd (omega (arith, e))))
+    (check-named _ 6 _ (named Range (λ e. absurd (omega (arith, e))))
+    (placed-named _ (placeOf base (firstEsi p)) _ (λ d. check-named _ 10 _ (named Draws (λ e. absurd (omega (arith, e)))) tt))))
 
 module _ (s : Setting) (e : 0 < s .size) where
   open Setting s using (size as E, width as w)

@@ -1,8 +1,8 @@
 -- Opening: what it answers, and that the memory it leaves holds a fresh receiver.
 use mathlib.Core.Path.{_≡_, refl, sym, ap, ap₂, _∙_, subst}
-use mathlib.Core.Option.{Option, none, some, Option·none-ne-some, Option·some-injective}
-use mathlib.Core.List.{List, _++_}
-use Prim.Native.Nat.{ℕ, _+_, _*_, _%_, _^_, _≤_, _<_}
+use mathlib.Core.Option.{Option, none, some, Option·some-injective}
+use mathlib.Core.List.{List}
+use Prim.Native.Nat.{ℕ, _+_, _%_, _≤_, _<_}
 use native.Mathlib.Nat.{mod-eq-of-lt, zero-add}
 use native.Mathlib.Omega.{arith}
 use lib.ListN.{length, take, drop}
@@ -16,17 +16,16 @@ use Rattle.wire.specs.declared.Refusal.the-variants.{Values, Short}
 use Rattle.wire.specs.Packets.{zeros}
 use Rattle.wire.specs.Settings.{settingOf, settingIn, settingBytes, Valid}
 use Rattle.wire.proofs.Settings.{setting-names, setting-written, setting-kept}
-use Rattle.decoder.specs.Bytes.{Coded}
 use Rattle.decoder.specs.Receiver as decoder
 use Rattle.decoder.proofs.Bytes.{laws}
 use Rattle.decoder.proofs.History as history
 use Rattle.elimination.specs.Window as window
 use Rattle.elimination.specs.Place.{Emptied}
 use Rattle.receiver.specs.declared.Answer.the-variants.{Done, Refused}
-use Rattle.receiver.specs.History.{memorySize, Said, value, refusal}
+use Rattle.receiver.specs.History.{memorySize}
 use Rattle.receiver.specs.Model.{opened}
 use Rattle.receiver.specs.Header.{headerIn}
-use Rattle.receiver.specs.Promises.{Contained, opening, Opened}
+use Rattle.receiver.specs.Promises.{Contained, Opened}
 use Rattle.receiver.specs.Layout.{headerOf, Holds, receiverLayout}
 use Rattle.receiver.specs.Inner.{freshHeader}
 use Rattle.receiver.proofs.Cases.{IsRefusal}

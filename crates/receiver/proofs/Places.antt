@@ -1,15 +1,13 @@
 -- Where the ESI of the position base + d lies.
-use mathlib.Core.Path.{_≡_, refl, sym, ap, _∙_}
-use mathlib.Core.Bool.{Bool, true, false, cond}
+use mathlib.Core.Path.{_≡_}
 use Prim.Native.Nat.{ℕ, _+_, _%_, _^_, _≤_, _<_}
 use native.Mathlib.Omega.{arith}
-use lib.Dec.{ltb, leb}
 use borrow.Author.Tests.{lt-ltb, le-ltb, le-leb, lt-leb}
 use Rattle.wire.specs.declared.Setting.{Setting}
 use Rattle.wire.specs.Numbers.{distanceOf}
 use Rattle.decoder.specs.Model.{known}
-use Rattle.receiver.specs.History.{Place, behind, ahead, placeOf, Reading, fails, check, placed}
-use Rattle.receiver.specs.Model.{State, Finding, hides, shown, symbolIn, finding}
+use Rattle.receiver.specs.History.{behind, ahead, placeOf, Reading, fails, check, placed}
+use Rattle.receiver.specs.Model.{State, hides, shown, finding}
 
 pub distance-is : (base d : ℕ) → d < 2 ^ 32 → distanceOf ((base + d) % 2 ^ 32) (base % 2 ^ 32) ≡ d
 distance-is base d h = omega arith

@@ -1,13 +1,13 @@
 -- What the checks before 11 leave of a packet: where it lies, what it says, and that it fits the window.
-use mathlib.Core.Path.{_≡_, refl, sym, ap, _∙_, subst}
+use mathlib.Core.Path.{_≡_, refl, sym, _∙_, subst}
 use mathlib.Core.Bool.{Bool, true, false, _&&_}
-use mathlib.Core.List.{List, [], _∷_, _++_, map}
+use mathlib.Core.List.{List, [], _∷_, _++_}
 use Prim.Native.Nat.{ℕ, zero, suc, _+_, _-_, _*_, _%_, _^_, _≤_, _<_}
 use native.Mathlib.Nat.{mod-lt, suc-mul}
 use native.Mathlib.Omega.{arith}
-use lib.ListN.{length, getD, take, drop, replicate, length-map, length-take, length-drop}
+use lib.ListN.{length, drop, length-map, length-take, length-drop}
 use lib.Seq.{getD-drop}
-use lib.Dec.{ltb, leb, eqb, lit<}
+use lib.Dec.{ltb, leb, lit<}
 use borrow.Author.Tests.{ltb-true, leb-true, eqb-true}
 use Rattle.memory.specs.Part.{part}
 use Rattle.memory.specs.Number.{bytes, Bytes}
@@ -18,13 +18,13 @@ use Rattle.wire.specs.Numbers.{within, distanceOf}
 use Rattle.wire.specs.Packets.{zeros, chunks, symbolCount, adui, sourceSymbols, sourceForm, sourceAdu, sourceEsi, repairCount, repairForm, repairKey}
 use Rattle.wire.specs.Packets.{densityThreshold, protectedCount, firstEsi, repairSymbols}
 use Rattle.wire.proofs.Settings.{both, within-bounds}
-use Rattle.wire.proofs.Adui.{length-adui, symbols-count, length-chunks}
+use Rattle.wire.proofs.Adui.{length-adui, symbols-count}
 use Rattle.coefficients.specs.Coefficients.{keys, listsOf, allOk}
 use Rattle.coefficients.proofs.Lists.{length-keys, list-bytes}
-use Rattle.receiver.specs.History.{Located, source, repair, first, named, Place, behind, ahead, placeOf, Call, source-call, repair-call}
-use Rattle.receiver.specs.History.{OfBytes, Reading, fails, located, check, placed, readSource, readRepair, workingSize, readPacket, reading}
+use Rattle.receiver.specs.History.{Located, source, repair, ahead, placeOf, Call, source-call, repair-call}
+use Rattle.receiver.specs.History.{OfBytes, Reading, located, check, placed, readSource, readRepair, workingSize, readPacket, reading}
 use Rattle.receiver.proofs.Cases.{IsLocated, packet-path}
-use Rattle.receiver.proofs.Says.{Whole, Wholes, AllBytes, Formed}
+use Rattle.receiver.proofs.Says.{Wholes, AllBytes}
 use Rattle.receiver.proofs.Answers.{Fits}
 
 pub check-passed : (t : Bool) (n : ℕ) (r : Reading) (q : Located) → check t n r ≡ located q → (t ≡ true) × (r ≡ located q)

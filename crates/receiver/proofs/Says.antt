@@ -1,8 +1,8 @@
 -- A packet's rows say what the packet says: positions hold its symbols, or repair symbols equal their combinations.
-use mathlib.Core.Path.{_≡_, refl, sym, ap, ap₂, _∙_, subst}
-use mathlib.Core.Logic.{_↔_, Iff·rfl, Iff·trans, Iff·and}
+use mathlib.Core.Path.{_≡_, refl, sym, ap, ap₂, _∙_}
+use mathlib.Core.Logic.{_↔_, Iff·trans}
 use mathlib.Core.List.{List, [], _∷_, map}
-use Prim.Native.Nat.{ℕ, zero, suc, _+_, _≤_, _<_}
+use Prim.Native.Nat.{ℕ, zero, suc, _+_, _<_}
 use native.Mathlib.Nat.{mod-eq-of-lt, add-zero, add-suc, suc-add, zero-add}
 use native.Mathlib.Decide.{decLt}
 use native.Mathlib.Omega.{arith}
@@ -14,11 +14,10 @@ use Rattle.field.specs.Gf256.{product}
 use Rattle.field.proofs.Laws.{product-lt}
 use Rattle.field.proofs.Xor.{xor-assoc}
 use Rattle.memory.specs.Number.{Bytes}
-use Rattle.rows.specs.Combination.{dot, coefficient, tabulate, combination}
+use Rattle.rows.specs.Combination.{dot, coefficient, combination}
 use Rattle.rows.proofs.Dot.{dot-same}
-use Rattle.rows.proofs.Combinations.{getD-tabulate, length-combination, getD-combination}
-use Rattle.decoder.specs.Field.{Laws}
-use Rattle.decoder.specs.Bytes.{Byte, byte, byte-path, bytes, Coded}
+use Rattle.rows.proofs.Combinations.{length-combination, getD-combination}
+use Rattle.decoder.specs.Bytes.{byte, byte-path, bytes, Coded}
 use Rattle.decoder.specs.Symbols.{nulls, adds, times}
 use Rattle.decoder.specs.Stretch.{symbol-at}
 use Rattle.decoder.specs.Receiver as decoder

@@ -1,7 +1,6 @@
 -- `receiver::find::find` meets its contract.
 use mathlib.Core.Path.{_≡_}
 use mathlib.Core.Option.{some}
-use native.Mathlib.Omega.{arith}
 use Rattle.receiver.specs.declared.Header.{Header}
 use borrow.Author.Tests.{not-true, not-false}
 use Rattle.receiver.specs.Header.{headerIn}

@@ -1,7 +1,6 @@
 -- `receiver::front::read_header` meets its contract.
 use mathlib.Core.Path.{_≡_}
 use mathlib.Core.Option.{some}
-use native.Mathlib.Omega.{arith}
 use Rattle.wire.specs.declared.Setting.{Setting}
 use Rattle.wire.specs.Settings.{Valid, settingIn}
 use Rattle.wire.proofs.Settings.{setting-found}
