@@ -1,6 +1,6 @@
 -- A memory knows its base by two remainders. States that differ by no more than that are held by the same memories, and calls treat them alike.
 use mathlib.Core.Path.{_≡_, refl, sym, ap, ap₂, _∙_, subst}
-use mathlib.Core.Bool.{Bool, true, false, cond, _&&_}
+use mathlib.Core.Bool.{Bool, true, false, cond}
 use mathlib.Core.Option.{Option, none, some, Option·some-injective}
 use mathlib.Core.List.{List, map}
 use Prim.Native.Nat.{ℕ, zero, suc, _+_, _-_, _%_, _^_, _≤_, _<_}
@@ -9,10 +9,9 @@ use native.Mathlib.Omega.{arith}
 use lib.Dec.{ltb, leb}
 use lib.ListN.{length, getD}
 use Rattle.wire.specs.declared.Setting.{Setting}
-use Rattle.wire.specs.Numbers.{within, distanceOf}
-use Rattle.wire.specs.Packets.{symbolCount, sourceSymbols, sourceForm, sourceAdu, sourceEsi, repairForm, repairKey, densityThreshold, protectedCount}
+use Rattle.wire.specs.Numbers.{distanceOf}
+use Rattle.wire.specs.Packets.{sourceSymbols, sourceAdu, sourceEsi, protectedCount}
 use Rattle.wire.specs.Packets.{firstEsi, repairSymbols}
-use Rattle.coefficients.specs.Coefficients.{keys, listsOf, allOk}
 use Rattle.decoder.specs.Bytes.{Byte, byte, Coded}
 use Rattle.decoder.specs.Model as model
 use Rattle.decoder.specs.Model.{Row, Rref, known}
@@ -22,7 +21,7 @@ use Rattle.decoder.specs.Table.{read, slot, view, Echelon}
 use Rattle.elimination.specs.Window as window
 use Rattle.receiver.specs.declared.Header.{Header}
 use Rattle.receiver.specs.History.{source, repair, Place, behind, ahead, placeOf, Call, source-call, repair-call, Reading, fails}
-use Rattle.receiver.specs.History.{located, check, placed, readSource, readRepair, workingSize, reading}
+use Rattle.receiver.specs.History.{located, check, placed, readSource, readRepair, reading}
 use Rattle.receiver.specs.Model.{State, Outcome, refused, done, added, responds, receiving}
 use Rattle.receiver.specs.Layout.{headerOf, Holds}
 

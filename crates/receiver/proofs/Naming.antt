@@ -1,20 +1,17 @@
 -- Every number that a packet call is refused with is that of a refusal, and not 3; a packet that is accepted leaves the window reduced.
 use mathlib.Core.Path.{_≡_, refl}
 use mathlib.Core.Logic.{_≢_}
-use mathlib.Core.Bool.{Bool, true, false, _&&_}
+use mathlib.Core.Bool.{Bool, true, false}
 use mathlib.Core.Option.{Option, none, some}
 use mathlib.Core.List.{List}
 use Prim.Native.Nat.{ℕ, _+_, _-_, _<_}
 use native.Mathlib.Omega.{arith}
 use lib.Dec.{leb}
-use lib.ListN.{length}
 use Rattle.wire.specs.declared.Setting.{Setting}
 use Rattle.wire.specs.declared.Refusal.{Refusal}
 use Rattle.wire.specs.declared.Refusal.the-variants.{Short, Long, Form, Range, Behind, Ahead, Draws, Contradiction}
-use Rattle.wire.specs.Numbers.{within, numberOf}
-use Rattle.wire.specs.Packets.{symbolCount, sourceForm, sourceAdu, sourceEsi, repairForm, repairKey, densityThreshold, protectedCount, firstEsi}
-use Rattle.wire.specs.Packets.{repairSymbols}
-use Rattle.coefficients.specs.Coefficients.{keys, allOk}
+use Rattle.wire.specs.Numbers.{numberOf}
+use Rattle.wire.specs.Packets.{sourceEsi, firstEsi}
 use Rattle.decoder.specs.Bytes.{Coded}
 use Rattle.decoder.specs.Model as model
 use Rattle.decoder.specs.Model.{Rref}
@@ -22,7 +19,7 @@ use Rattle.decoder.specs.Receiver as decoder
 use Rattle.decoder.proofs.Bytes.{laws}
 use Rattle.decoder.proofs.History as history
 use Rattle.receiver.specs.History.{Place, behind, ahead, placeOf, Call, source-call, repair-call, Reading, fails, located, check}
-use Rattle.receiver.specs.History.{placed, readSource, readRepair, workingSize, reading}
+use Rattle.receiver.specs.History.{placed, readSource, readRepair, reading}
 use Rattle.receiver.specs.Model.{packetOf, State, Outcome, refused, done, added, responds, receiving}
 
 -- The number of a refusal that is not 3.

@@ -1,6 +1,6 @@
 -- What the checks before 11 leave of a packet: where it lies, what it says, and that it fits the window.
 use mathlib.Core.Path.{_≡_, refl, sym, _∙_, subst}
-use mathlib.Core.Bool.{Bool, true, false, _&&_}
+use mathlib.Core.Bool.{Bool, true, false}
 use mathlib.Core.List.{List, [], _∷_, _++_}
 use Prim.Native.Nat.{ℕ, zero, suc, _+_, _-_, _*_, _%_, _^_, _≤_, _<_}
 use native.Mathlib.Nat.{mod-lt, suc-mul}
@@ -19,7 +19,7 @@ use Rattle.wire.specs.Packets.{zeros, chunks, symbolCount, adui, sourceSymbols,
 use Rattle.wire.specs.Packets.{densityThreshold, protectedCount, firstEsi, repairSymbols}
 use Rattle.wire.proofs.Settings.{both, within-bounds}
 use Rattle.wire.proofs.Adui.{length-adui, symbols-count}
-use Rattle.coefficients.specs.Coefficients.{keys, listsOf, allOk}
+use Rattle.coefficients.specs.Coefficients.{keys, listsOf}
 use Rattle.coefficients.proofs.Lists.{length-keys, list-bytes}
 use Rattle.receiver.specs.History.{Located, source, repair, ahead, placeOf, Call, source-call, repair-call}
 use Rattle.receiver.specs.History.{OfBytes, Reading, located, check, placed, readSource, readRepair, workingSize, readPacket, reading}
@@ -112,8 +112,8 @@ module _ (s : Setting) where
   pub source-read : (base flow : ℕ) (p : List ℕ) (q : Located) → readSource s base flow p ≡ located q → SourceRead base flow p q
   unfolding readSource
   source-read base flow p q h =
-      let (a, g) = check-passed (sourceForm p) 5 _ q h in
-      let (b, j) = check-passed (leb (length (sourceAdu p)) 65535 && leb (symbolCount E (length (sourceAdu p))) width) 4 _ q g in
+      let (a, g) = check-passed _ 5 _ q h in
+      let (b, j) = check-passed _ 4 _ q g in
       let (c, d) = both (leb (length (sourceAdu p)) 65535) _ b in
       let l = places base (sourceEsi p) (symbolCount E (length (sourceAdu p))) _ q j in
       record { form = a; fits = leb-true _ _ d; near = l .near; says = packet-path (l .here) }
@@ -130,11 +130,10 @@ module _ (s : Setting) where
   pub repair-read : (base : ℕ) (p : List ℕ) (q : Located) → readRepair s base p ≡ located q → RepairRead base p q
   unfolding readRepair
   repair-read base p q h =
-      let (a, g) = check-passed (repairForm E p) 5 _ q h in
-      let (b, j) = check-passed (within 1 width (protectedCount p)) 6 _ q g in
+      let (a, g) = check-passed _ 5 _ q h in
+      let (b, j) = check-passed _ 6 _ q g in
       let l = places base (firstEsi p) (protectedCount p) _ q j in
-      let ks = keys (repairKey p) (length (repairSymbols E p)) in
-      let (f, k) = check-passed (allOk scheme (densityThreshold p) (protectedCount p) ks) 10 _ q (l .here) in
+      let (f, k) = check-passed _ 10 _ q (l .here) in
       record { form = a; fits = within-bounds 1 width (protectedCount p) b .1; near = l .near; says = packet-path k }
 
   pub reading-passed : (base room : ℕ) (c : Call) (q : Located) → reading s base room c ≡ located q → readPacket s base c ≡ located q
