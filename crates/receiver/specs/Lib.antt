@@ -3,3 +3,4 @@ pub mod History
 pub mod Model
 pub mod Header
 pub mod Promises
+pub mod Layout

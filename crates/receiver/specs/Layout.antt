@@ -1,0 +1,30 @@
+-- How the receiver's memory holds a state: a header of 64 bytes, then the window's rows (crate `elimination`).
+-- The claims hold of every layout: a reader of them need not believe this one.
+use mathlib.Core.Path.{_≡_}
+use mathlib.Core.Option.{some}
+use mathlib.Core.List.{List}
+use Prim.Native.Nat.{ℕ, _+_, _%_, _^_}
+use Rattle.wire.specs.declared.Setting.{Setting}
+use Rattle.decoder.specs.Model.{Rref}
+use Rattle.elimination.specs.Window as window
+use Rattle.receiver.specs.declared.Header.{Header}
+use Rattle.receiver.specs.Model.{State}
+use Rattle.receiver.specs.Header.{headerIn}
+use Rattle.receiver.specs.Promises.{Layout}
+
+-- The header of a state: row and ESI of a position are its remainders by the width and by 2^32.
+abbrev pub headerOf : (s : Setting) → State s → Header
+headerOf s t = record { setting = s; row = t .base % s .width; base = record { 0 = t .base % 2 ^ 32 } }
+
+-- The memory m holds the state t of a receiver opened with s.
+pub record Holds (m : List ℕ) (s : Setting) (t : State s) : Type 0 where
+  pub header : headerIn m ≡ some (headerOf s t)
+  pub reduced : Rref (t .window)
+  pub rows : window.Window (s .width) (s .size) m (t .base) (t .window)
+
+-- Where the symbol at a position stands: after the coefficients of its row.
+abbrev pub place : Setting → ℕ → ℕ
+place s p = window.place (s .width) (s .size) (p % s .width) + s .width
+
+abbrev pub receiverLayout : Layout
+receiverLayout = record { Holds = Holds; place = place }
