@@ -1,5 +1,5 @@
 -- A reduced equation settled, and what that says of the packet's equations.
-use mathlib.Core.Path.{_≡_, sym, ap, _∙_, subst}
+use mathlib.Core.Path.{_≡_, refl, sym, ap, _∙_, subst}
 use mathlib.Core.Logic.{_≢_}
 use mathlib.Core.List.{List, [], _∷_, _++_}
 use mathlib.Core.Option.{some}
@@ -19,13 +19,13 @@ use Rattle.rows.proofs.Sums.{length-scaled, getD-scaled}
 use Rattle.decoder.specs.Field.{Laws}
 use Rattle.decoder.specs.Bytes.{byte, Coded}
 use Rattle.decoder.specs.Model.{Row, State, Rref, scale, lead, symbol, reduce}
-use Rattle.decoder.specs.Receiver.{advance-by}
+use Rattle.decoder.specs.Receiver.{advance-by, insert-all}
 use Rattle.decoder.specs.Table.{read}
 use Rattle.decoder.specs.TableSteps.{Leads, scale-line}
 use Rattle.decoder.specs.Chain.{Chain, place-rows, eliminate}
 use Rattle.decoder.proofs.Bytes.{byte-inverse, laws, byte-zero, byte-nonzero}
 use Rattle.decoder.proofs.Stretch.{line-scale, symbol-null, symbol-nonnull}
-use Rattle.decoder.proofs.Chain.{chain-same, place-rows-same, eliminate-same, chain-reduce, normal, packet-implied, packet-contradicts, packet-places}
+use Rattle.decoder.proofs.Chain.{chain-none, chain-same, place-rows-same, eliminate-same, chain-reduce, normal, packet-implied, packet-contradicts, packet-places}
 use Rattle.decoder.proofs.Combining.{normal-line}
 use Rattle.decoder.proofs.Refine.{lead-read, lead-none}
 use Rattle.decoder.proofs.Steps.{symbol-read, leads-scaled}
@@ -275,6 +275,21 @@ gathered-same w E b kept S m m′ es pos same f =
       inserted = f .inserted ∙ ap some (place-rows-same L (spelled w E b m) (spelled w E b m′) kept S rows);
     }
 
+-- So a change in the row `kept` leaves them.
+pub gathered-only : (w E b kept z : ℕ) (S : State (Coded E) w) (m m′ : List ℕ) (es : List (Row (Coded E) w)) → 0 < E
+    → Only (place w E kept) z m m′ → z ≤ place w E kept + stride w E → Gathered w E b S m kept es → Gathered w E b S m′ kept es
+gathered-only w E b kept z S m m′ es pos f h =
+    gathered-same w E b kept S m m′ es pos (λ j l. only-row w E kept j z m m′ f h (omega arith))
+
+-- Before the first equation.
+pub gathered-none : (w E b : ℕ) (S : State (Coded E) w) (m : List ℕ) → 0 < E → Gathered w E b S m 0 []
+unfolding insert-all place-rows
+gathered-none w E b S m pos = record {
+  chain = chain-none (laws E pos) S (spelled w E b m);
+  marked = λ j l. absurd (omega arith);
+  inserted = refl;
+}
+
 module _ (w E base stay kept first count n : ℕ) (verdict : Verdict) (m work work₁ work₂ work′ : List ℕ) (fits : Fits w E m) (bytes : Bytes m)
     (g : Works w E kept work) (small : Bytes work) (near : Staying w base first count stay n)
     (f₁ : StateReduced w E kept first n m work work₁) (f₂ : PacketReduced w E kept kept work₁ work₂)
@@ -306,8 +321,7 @@ module _ (w E base stay kept first count n : ℕ) (verdict : Verdict) (m work wo
     -- What the rows before give, in all four memories.
     f′ : Gathered w E q S₀ work′ kept es
     f′ =
-        gathered-same w E q kept S₀ work work′ es (omega (arith, fits .some-symbol))
-        (λ j l. only-row w E kept j (place w E kept + (w + E + 1)) work work′ only₃ (omega arith) (omega arith)) f
+        gathered-only w E q kept (place w E kept + (w + E + 1)) S₀ work work′ es (omega (arith, fits .some-symbol)) only₃ (omega arith) f
 
     abbrev T : State (Coded E) w
     T = place-rows (spelled w E q work′) kept S₀
