@@ -8,3 +8,5 @@ pub mod Building
 pub mod Congruent
 pub mod Naming
 pub mod Headers
+pub mod Locating
+pub mod Finishing

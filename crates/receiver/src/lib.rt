@@ -1,4 +1,6 @@
 // The receiver: its calls, and what they answer.
+mod packet;
+
 use wire::Esi;
 use wire::Refusal;
 use wire::Setting;
@@ -14,4 +16,10 @@ pub struct Header {
     pub setting: Setting,
     pub row: usize,
     pub base: Esi,
+}
+
+// The header that a memory has, if it has one.
+pub enum Found {
+    HeaderIs(Header),
+    NoHeader,
 }
