@@ -99,16 +99,17 @@ pub header-room : (m : List ℕ) (h : Header) → headerIn m ≡ some h → memo
 header-room m h e = headed m h e .room
 
 -- The memory has room for the window's rows.
+pub setting-fits : (s : Setting) (m : List ℕ) → Valid s → memorySize s ≤ length m → Fits (s .width) (s .size) m
+setting-fits s m v h = record {
+  some-width = omega (arith, v .width-least);
+  wide = v .width-most;
+  some-symbol = v .size-least;
+  long = v .size-most;
+  room = h;
+}
+
 pub header-fits : (m : List ℕ) (h : Header) → headerIn m ≡ some h → Fits (h .setting .width) (h .setting .size) m
-header-fits m h e =
-    let k = headed m h e in
-    record {
-      some-width = omega (arith, k .valid .width-least);
-      wide = k .valid .width-most;
-      some-symbol = k .valid .size-least;
-      long = k .valid .size-most;
-      room = k .room;
-    }
+header-fits m h e = let k = headed m h e in setting-fits (h .setting) m (k .valid) (k .room)
 
 -- ---- What refusal 3 stands for
 
