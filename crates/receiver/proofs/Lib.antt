@@ -12,3 +12,5 @@ pub mod Finding
 pub mod Opening
 pub mod Locating
 pub mod Finishing
+pub mod Gathering
+pub mod Sourcing
