@@ -14,3 +14,5 @@ pub mod Locating
 pub mod Finishing
 pub mod Gathering
 pub mod Sourcing
+pub mod Receiving
+pub mod SourceCall

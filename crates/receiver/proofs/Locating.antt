@@ -14,7 +14,7 @@ use Rattle.receiver.specs.declared.packet.PacketPlace.{PacketPlace}
 use Rattle.receiver.specs.declared.packet.PlaceFound.{PlaceFound}
 use Rattle.receiver.specs.declared.packet.PlaceFound.the-variants.{PlaceIs, Out}
 use Rattle.receiver.specs.History.{Reading, fails, check, behind, ahead, placeOf, placed}
-use Rattle.receiver.specs.Steps.{placeAt, placeFound}
+use Rattle.receiver.specs.Steps.{placeAt, placeFound, PlaceOf}
 
 abbrev place-in : PacketPlace → PlaceFound → PacketPlace
 place-in p (PlaceIs q) = q
@@ -48,26 +48,29 @@ module _ (h : Header) (e n : ℕ) where
   distance = distanceOf e (h .base .0)
 
   -- A place that was found.
-  pub record Lies (p : PacketPlace) : Type 0 where
+  pub record FoundAt (p : PacketPlace) : Type 0 where
     pub at : p ≡ placeAt h distance n
     pub near : distance < 2 ^ 31
     pub fits : distance + n ≤ 65536
 
-  pub lies : (p : PacketPlace) → PlaceIs p ≡ placeFound h e n → Lies p
+  pub found-at : (p : PacketPlace) → PlaceIs p ≡ placeFound h e n → FoundAt p
   unfolding placeFound
-  lies p q = go (ltb distance (2 ^ 31)) (leb (distance + n) 65536) refl refl q
+  found-at p q = go (ltb distance (2 ^ 31)) (leb (distance + n) 65536) refl refl q
     where
       go : (t u : Bool) → ltb distance (2 ^ 31) ≡ t → leb (distance + n) 65536 ≡ u
-          → PlaceIs p ≡ cond t (cond u (PlaceIs (placeAt h distance n)) (Out Ahead)) (Out Behind) → Lies p
+          → PlaceIs p ≡ cond t (cond u (PlaceIs (placeAt h distance n)) (Out Ahead)) (Out Behind) → FoundAt p
       go true true a b k = record { at = ap (place-in p) k; near = ltb-true _ _ a; fits = leb-true _ _ b }
       go true false a b k = absurd (subst IsPlace k tt)
       go false u a b k = absurd (subst IsPlace k tt)
 
+  pub place-of : (p : PacketPlace) → PlaceIs p ≡ placeFound h e n → PlaceOf h n p
+  place-of p q = let f = found-at p q in record { distance = distance; is = f .at; near = f .fits }
+
   -- Of every base with the header's ESI, that is the packet's place by the history.
   module _ (b : ℕ) (esi : b % 2 ^ 32 ≡ h .base .0) (next : ℕ → Reading) where
-    pub lies-placed : (p : PacketPlace) → Lies p → placed n (placeOf b e) next ≡ next distance
+    pub at-placed : (p : PacketPlace) → FoundAt p → placed n (placeOf b e) next ≡ next distance
     unfolding placed placeOf check
-    lies-placed p l = rw (esi, lt-ltb distance (2 ^ 31) (l .near), le-leb (distance + n) 65536 (l .fits))
+    at-placed p l = rw (esi, lt-ltb distance (2 ^ 31) (l .near), le-leb (distance + n) 65536 (l .fits))
 
     pub out-placed : (r : Refusal) → Out r ≡ placeFound h e n → placed n (placeOf b e) next ≡ fails (numberOf r)
     unfolding placeFound placed placeOf check
