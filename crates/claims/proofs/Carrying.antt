@@ -9,7 +9,8 @@ use lib.Seq.{getD-drop}
 use Rattle.receiver.specs.Symbol.{bytesOf, symbolOf}
 use Rattle.receiver.specs.History.{Filling, symbolsAt}
 use Rattle.receiver.proofs.Says.{Whole, Wholes, getD-at, holds}
-use Rattle.claims.specs.Sender.{AreSymbols, Carries}
+use Rattle.claims.specs.SenderRun.{AreSymbols}
+use Rattle.claims.specs.Carrying.{Carries}
 
 -- The bytes at a position are the symbol that lies there.
 pub carried : (E offset : ℕ) (all : List (List ℕ)) (f : Filling E) → Carries E offset all f → (p : ℕ) → p + offset < length all
@@ -50,7 +51,10 @@ filler E all i = symbolOf E (getD all i [])
 
 wholes : (E : ℕ) (vs : List (List ℕ)) → AreSymbols E vs → Wholes E vs
 wholes E [] h = tt
-wholes E (v ∷ vs) (a, b, c) = (record { sized = a; small = b }, wholes E vs c)
+wholes E (v ∷ vs) h = (
+  record { sized = h .sized 0 (omega arith); small = h .small 0 },
+  wholes E vs (record { sized = λ p l. h .sized (suc p) (omega arith); small = λ p. h .small (suc p) }),
+)
 
 pub filler-carries : (E : ℕ) (all : List (List ℕ)) → AreSymbols E all → Carries E 0 all (filler E all)
 filler-carries E all h = holds E (filler E all) all (wholes E all h) 0 .0 (λ i l. ap (filler E all) (zero-add i))

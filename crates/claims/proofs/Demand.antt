@@ -28,7 +28,7 @@ use Rattle.claims.specs.Run.{Step, Run, final, read, goes-on, history}
 use Rattle.claims.specs.Demand.{esi, ShownExactly, HiddenOutside, Demand-3, Every-list, Alike, No-choice}
 use Rattle.claims.proofs.Carrying.{carried}
 
-abbrev IsValue : Said → Type 0
+abbrev pub IsValue : Said → Type 0
 IsValue (value n) = Unit {0}
 IsValue (refusal n) = ⊥
 
@@ -158,7 +158,7 @@ module _ (L : Layout) (s : Setting) (v : Valid s) where
       }
 
 -- An opening that answers 0 had a setting.
-had-setting : (o : Option Setting) (room : ℕ) → opening o room ≡ value 0 → (s : Setting) × (o ≡ some s)
+pub had-setting : (o : Option Setting) (room : ℕ) → opening o room ≡ value 0 → (s : Setting) × (o ≡ some s)
 had-setting none room e = absurd (subst IsValue (sym e) tt)
 had-setting (some s) room e = (s, refl)
 

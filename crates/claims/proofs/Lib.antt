@@ -5,3 +5,4 @@ pub mod Carrying
 pub mod Demand
 pub mod Reading
 pub mod Sent
+pub mod NotEmpty

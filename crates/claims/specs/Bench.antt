@@ -58,7 +58,8 @@ table =
     -- C9: an ADU of 5 bytes taken, one of 6 refused
     ∷ line (adding opened 1 (zeros 5) 9) ∷ line (adding opened 1 (zeros 6) 10)
     -- refusal 1: E = 3; 2: output of 0 bytes for a 1-byte ADU; 3: 100 zero bytes; 4 is C9's; 6: DT 16; 7: repair straight after opening
-    ∷ line (opening 9 3 2 40) ∷ line (adding opened 1 (0x41 ∷ []) 0) ∷ headed (headerIn (zeros 100)) ∷ line (repairing opened 1 16 1 12) ∷ line (repairing opened 1 15 1 12)
+    ∷ line (opening 9 3 2 40) ∷ line (adding opened 1 (0x41 ∷ []) 0) ∷ headed (headerIn (zeros 100))
+    ∷ line (repairing opened 1 16 1 12) ∷ line (repairing opened 1 15 1 12)
     ∷ []
 
 pub bench :
@@ -70,6 +71,7 @@ pub bench :
     ∷ refusal 1 ∷ refusal 2 ∷ refusal 3 ∷ refusal 6 ∷ refusal 7
     ∷ []
 unfolding
-    computing product inverse inverse-below nonzeroFrom bitOf byteOf extend coefficientsOf combination symbolCount adui sourceSymbols sourcePacket repairHeader repairPacket inRange settingOf
+    computing product inverse inverse-below nonzeroFrom bitOf byteOf extend coefficientsOf combination
+    symbolCount adui sourceSymbols sourcePacket repairHeader repairPacket inRange settingOf
     field part settingIn headerIn repairSymbol opening adding repairing
 bench = refl

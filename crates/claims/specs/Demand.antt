@@ -13,7 +13,7 @@ use Rattle.receiver.specs.Symbol.{bytesOf}
 use Rattle.receiver.specs.History.{Filling, Located, All, Consistent, Known, Log, fresh, baseOf, Said, value, refusal, Judged}
 use Rattle.receiver.specs.Promises.{Layout, said, Opened, SymbolAnswered, PartShown}
 use Rattle.claims.specs.Run.{Step, Run, final, read, history}
-use Rattle.claims.specs.Sender.{AreSymbols, Carries}
+use Rattle.claims.specs.Carrying.{Carries}
 
 -- The ESI of a position.
 abbrev pub esi : ℕ → ℕ

@@ -2,8 +2,9 @@ pub mod SenderRun
 pub mod Unopened
 pub mod Bench
 pub mod Run
-pub mod Sender
+pub mod Carrying
 pub mod Demand
 pub mod Sent
 pub mod Reading
+pub mod NotEmpty
 pub mod ReceiverBench

@@ -14,8 +14,7 @@ use Rattle.coefficients.specs.Coefficients.{keys, allOk}
 use Rattle.sender.specs.declared.Answer.{Answer}
 use Rattle.sender.specs.declared.Answer.the-variants.{Done, Refused}
 use Rattle.sender.specs.Repair.{repairSymbol}
-use Rattle.sender.specs.Calls.{opening, adding, repairing}
-use Rattle.sender.specs.Promises.{bytes, said, Follows, Promise}
+use Rattle.sender.specs.Promises.{bytes, said, Opens, Adds, Repairs}
 
 -- ---- the calls
 
@@ -28,16 +27,16 @@ pub data SenderCall : Type 0 where
 abbrev pub Calls : List ℕ → List SenderCall → Type 0
 Calls m [] = Unit {0}
 Calls m (added flow adu out r m′ out′ ∷ l) =
-    (flow < 256) × Bytes adu × Promise (λ s. adding s flow adu (length out)) m out r m′ out′ × Calls m′ l
+    (flow < 256) × Bytes adu × Adds flow adu m out r m′ out′ × Calls m′ l
 Calls m (repaired key dt count out r out′ ∷ l) =
-    (key < 2 ^ 16) × Promise (λ s. repairing s key dt count (length out)) m out r m out′ × Calls m l
+    (key < 2 ^ 16) × Repairs key dt count m out r out′ × Calls m l
 
 -- the calls follow an opening that answered 0
 pub record SenderRun (t : Setting) (l : List SenderCall) : Type 0 where
   pub before : List ℕ
   pub after : List ℕ
   pub answer : Answer
-  pub opened : Follows (opening (schemeNumber (t .scheme)) (t .size) (t .width) (length before)) before [] answer after []
+  pub opened : Opens (schemeNumber (t .scheme)) (t .size) (t .width) before answer after
   pub answered : said answer ≡ bytes 0
   pub calls : Calls after l
 
@@ -79,7 +78,9 @@ pub data Wrote (scheme : Scheme) (E : ℕ) (all : List (List ℕ)) : Packet → 
   wrote-repair : (before window after : List (List ℕ)) (key dt count : ℕ) → key < 2 ^ 16 → dt ≤ 15 → 1 ≤ length window → length window ≤ 255
       → 1 ≤ count → count ≤ 16 → allOk scheme dt (length window) (keys key count) ≡ true
       → all ≡ before ++ (window ++ after)
-      → Wrote scheme E all (repair (repairPacket key dt (length window) (length before % 2 ^ 32) (map (repairSymbol scheme dt E window) (keys key count)))) (length before)
+      → Wrote scheme E all
+      (repair (repairPacket key dt (length window) (length before % 2 ^ 32) (map (repairSymbol scheme dt E window) (keys key count))))
+      (length before)
 
 -- every packet of the list is one of these
 abbrev pub AllWrote : Scheme → ℕ → List (List ℕ) → List Packet → Type 0

@@ -1,38 +1,67 @@
 -- The sender's filling, and what becomes of a sender's packets at the receiver.
 use mathlib.Core.Path.{_≡_}
-use mathlib.Core.List.{List, []}
+use mathlib.Core.List.{List, [], _∷_}
 use denote.Ref.{RefT, now}
-use Prim.Native.Nat.{ℕ, _+_, _≤_, _<_}
+use Prim.Native.Nat.{ℕ, _+_, _^_, _≤_, _<_}
 use lib.ListN.{length, getD}
 use Rattle.wire.specs.declared.Setting.{Setting}
+use Rattle.wire.specs.Packets.{symbolCount, sourceAdu, protectedCount}
 use Rattle.receiver.specs.declared.Answer.{Answer}
-use Rattle.receiver.specs.History.{Filling, All, Call, workingSize, reading, fresh, baseOf, Said, value, IsValue, Judged}
+use Rattle.receiver.specs.History.{Filling, All, Call, source-call, repair-call, workingSize, reading, Log, fresh, baseOf, Said, value, IsValue, logged, Judged}
 use Rattle.receiver.specs.Promises.{Layout, said, SymbolAnswered, PartShown}
-use Rattle.claims.specs.Run.{Step, history}
-use Rattle.claims.specs.Sender.{AreSymbols, Carries, Wrote, Near, AsWritten}
+use Rattle.claims.specs.SenderRun.{SenderCall, SenderRun, symbolsOf, Packet, source, repair, Wrote}
+use Rattle.claims.specs.Run.{Step, read, history}
+use Rattle.claims.specs.Carrying.{Carries}
 use Rattle.claims.specs.Demand.{esi, Demand-3}
 
--- If all accepted packets are as a sender of the same scheme and E wrote them, F included, and stood less than 2^31 positions from base on
--- arrival, the sender's symbols, with any bytes after them, are a filling that satisfies them.
+-- The call that a packet is given to, and how many symbols it names.
+abbrev pub callOf : Packet → Call
+callOf (source flow p) = source-call flow p
+callOf (repair p) = repair-call p
+
+abbrev pub named : ℕ → Packet → ℕ
+named E (source flow p) = symbolCount E (length (sourceAdu p))
+named E (repair p) = protectedCount p
+
+-- Less than 2^31 positions apart.
+pub record Near (p base : ℕ) : Type 0 where
+  pub ahead : p < base + 2 ^ 31
+  pub behind : base < p + 2 ^ 31
+
+-- All packets that the list accepts are as a sender of the same scheme and E wrote them, F included, whose symbols are `all`, and stood less than
+-- 2^31 positions from base on arrival.
+module _ (s : Setting) (all : List (List ℕ)) where
+  abbrev pub AsWritten : Log → List Step → Type 0
+  AsWritten l [] = Unit {0}
+  AsWritten l (t ∷ ts) =
+      (IsValue (said (t .answer)) → (x : Packet) × (p : ℕ) × (callOf x ≡ t .call) × Wrote (s .scheme) (s .size) all x p × Near p (baseOf l))
+      × AsWritten (logged s l (read s l t) (said (t .answer))) ts
+
+-- Then the sender's symbols, with any bytes after them, are a filling that satisfies them.
 abbrev pub Sender-fills : Type 0
 Sender-fills =
     (s : Setting) → 0 < s .size → (all : List (List ℕ)) (ts : List Step) → AsWritten s all fresh ts
     → (f : Filling (s .size)) → Carries (s .size) 0 all f → All (s .size) (history s ts .accepted) f
 
--- Then every packet of the sender's that lies ahead of the base, not too far, and is no longer than the window, is accepted.
+-- A list of a sender's calls, and a receiver of the same scheme and E.
+pub record Peers (t s : Setting) (l : List SenderCall) : Type 0 where
+  pub run : SenderRun t l
+  pub scheme : t .scheme ≡ s .scheme
+  pub size : t .size ≡ s .size
+
+-- Every packet of the sender's that lies ahead of the base, not too far, and names no more symbols than the window has, is accepted.
 abbrev pub Sent-accepted : Type 0
 Sent-accepted =
-    (s : Setting) → 0 < s .size → s .width ≤ 255 → (all : List (List ℕ)) → AreSymbols (s .size) all → (ts : List Step) → AsWritten s all fresh ts
-    → (c : Call) (p n : ℕ) → Wrote s all c p n
-    → baseOf (history s ts) ≤ p → p + n ≤ baseOf (history s ts) + 65536 → n ≤ s .width
-    → (room : ℕ) → workingSize s ≤ room → (a : Said) → Judged s (history s ts) (reading s (baseOf (history s ts)) room c) a → IsValue a
+    (t s : Setting) (l : List SenderCall) → Peers t s l → s .width ≤ 255 → (ts : List Step) → AsWritten s (symbolsOf (s .size) l) fresh ts
+    → (x : Packet) (p : ℕ) → Wrote (s .scheme) (s .size) (symbolsOf (s .size) l) x p
+    → baseOf (history s ts) ≤ p → p + named (s .size) x ≤ baseOf (history s ts) + 65536 → named (s .size) x ≤ s .width
+    → (room : ℕ) → workingSize s ≤ room → (a : Said) → Judged s (history s ts) (reading s (baseOf (history s ts)) room (callOf x)) a → IsValue a
 
 -- And what is shown at a position of the sender's is the sender's symbol.
-abbrev pub Sent-shown : Type 1
-Sent-shown =
-    (L : Layout) (s : Setting) → 0 < s .size → (ts : List Step) (m : List ℕ) → Demand-3 L s ts m
-    → (all : List (List ℕ)) → AreSymbols (s .size) all → AsWritten s all fresh ts
-    → (i : ℕ) → i < s .width → baseOf (history s ts) + i < length all
+abbrev pub Sent-shown : Layout → Type 0
+Sent-shown L =
+    (t s : Setting) (l : List SenderCall) → Peers t s l → (ts : List Step) (m : List ℕ) → Demand-3 L s ts m → AsWritten s (symbolsOf (s .size) l) fresh ts
+    → (i : ℕ) → i < s .width → baseOf (history s ts) + i < length (symbolsOf (s .size) l)
     → (a : Answer) → SymbolAnswered L m (esi (baseOf (history s ts) + i)) a → said a ≡ value 0
     → (memory part : RefT (List ℕ)) → now memory ≡ m → PartShown L memory part (esi (baseOf (history s ts) + i))
-    → now part ≡ getD all (baseOf (history s ts) + i) []
+    → now part ≡ getD (symbolsOf (s .size) l) (baseOf (history s ts) + i) []

@@ -12,7 +12,6 @@ pub mod Counting
 pub mod Refine
 pub mod Steps
 pub mod Staying
-pub mod Together
 pub mod Stretch
 pub mod Turns
 pub mod Chain

@@ -1,4 +1,4 @@
--- What each step of the receiver does to the table, as a whole: add an equation, move the base on, look a symbol up.
+-- What each step of the receiver does to the table, as a whole: place a row, move the base on, look a symbol up.
 use mathlib.Core.Path.{_≡_, refl, sym, ap, ap₂, _∙_}
 use mathlib.Core.Logic.{_≢_}
 use mathlib.Core.Bool.{Bool, true, false, true≢false}
@@ -8,16 +8,15 @@ use native.Mathlib.Decide.{ℕ-discrete, decLt}
 use native.Mathlib.Omega.{arith}
 use native.Mathlib.Nat.{add-zero}
 use Rattle.decoder.specs.Field.{Ops, Laws}
-use Rattle.decoder.specs.Model.{Row, State, scale, lead, symbol, reduce, place, insert, known}
+use Rattle.decoder.specs.Model.{Row, State, lead, symbol, known}
 use Rattle.decoder.specs.Table.{Line, Table, read, slot, view, Echelon}
-use Rattle.decoder.specs.TableSteps.{add-line, scale-line, step-by, sweep, Leads, Places, Moves}
+use Rattle.decoder.specs.TableSteps.{add-line, Leads, Places, Moves}
 use Rattle.decoder.proofs.Linear as lin
 use Rattle.decoder.proofs.Refine as refine
-use Rattle.decoder.proofs.Chain as chain
 
 module _ {O : Ops} (L : Laws O) where
-  open Ops O using (𝟘, 𝟙, _+_, _*_, inv, zero?, null)
-  open Laws L using (+-𝟘, +-self, *-comm, *-𝟘, *-𝟙, *-inv, 𝟙≢𝟘)
+  open Ops O using (𝟘, 𝟙, _+_, _*_, zero?)
+  open Laws L using (+-𝟘, *-comm, *-𝟘)
 
   infixl 50 _+_
   infixl 60 _*_
@@ -25,77 +24,6 @@ module _ {O : Ops} (L : Laws O) where
   unfolding symbol read
   symbol-read e zero q = refl
   symbol-read e (suc n) q = symbol-read e n (suc q)
-
-  -- A swept line is zero at every pivot.
-  pub sweep-zero : (T : Table O) (b w : ℕ) → Echelon T b w → (n q : ℕ) (e : Line O) (j : ℕ) → b ≤ q → q ≤ j → j < q +ₙ n → q +ₙ n ≤ b +ₙ w
-      → T .has j ≡ true → sweep T n q e .cells j ≡ 𝟘
-  unfolding sweep step-by add-line
-  sweep-zero T b w h zero q e j c g l m t = absurd (omega arith)
-  sweep-zero T b w h (suc n) q e j c g l m t =
-      go (ℕ-discrete q j)
-      (λ g′. sweep-zero T b w h n (suc q) (step-by (T .has q) (e .cells q) (T .line q) e) j (omega arith) g′ (omega arith) (omega arith) t)
-    where
-      at-pivot : (u : Bool) → u ≡ true → step-by u (e .cells q) (T .line q) e .cells q ≡ e .cells q + e .cells q * T .line q .cells q
-      at-pivot true x = refl
-      at-pivot false x = absurd (true≢false (sym x))
-
-      go : Dec (q ≡ j) → (suc q ≤ j → sweep T n (suc q) (step-by (T .has q) (e .cells q) (T .line q) e) .cells j ≡ 𝟘)
-          → sweep T n (suc q) (step-by (T .has q) (e .cells q) (T .line q) e) .cells j ≡ 𝟘
-      go (yes x) ih =
-          let u : T .has q ≡ true = ap (T .has) x ∙ t in
-          ap (sweep T n (suc q) (step-by (T .has q) (e .cells q) (T .line q) e) .cells) (sym x)
-          ∙ refine.sweep-before L T b w h n (suc q) _ q c (omega arith) (omega arith)
-          ∙ at-pivot (T .has q) u
-          ∙ ap (λ a. e .cells q + e .cells q * a) (h .one-at q c (omega arith) u)
-          ∙ simp (*-𝟙, +-self)
-      go (no x) ih = ih (omega arith)
-
-  -- The leading coefficient of a swept line stands where there is no row yet.
-  free-at : (T : Table O) (b w : ℕ) → Echelon T b w → (e : Line O) (p : ℕ) → b ≤ p → p < b +ₙ w → sweep T w b e .cells p ≢ 𝟘 → T .has p ≡ false
-  free-at T b w h e p g l z = go (T .has p) (λ t. z (sweep-zero T b w h w b e p (omega arith) g l (omega arith) t))
-    where
-      go : (t : Bool) → ¬ (t ≡ true) → t ≡ false
-      go true n = absurd (n refl)
-      go false n = refl
-
-  pub leads-scaled : (e : Line O) (q p : ℕ) → Leads e q p → Leads (scale-line (inv (e .cells p)) e) q p
-  unfolding scale-line
-  leads-scaled e q p d = record {
-    below = λ j g l. ap (λ a. inv (e .cells p) * a) (d .below j g l) ∙ *-𝟘 _;
-    here = λ z. 𝟙≢𝟘 (sym (*-inv (e .cells p) (d .here)) ∙ z);
-  }
-
-  -- Adding an equation: sweep it, find where it leads, make that one, and place it.
-
-  module _ (T : Table O) (b w : ℕ) (h : Echelon T b w) (e : Line O) where
-    reduced : reduce (view T w b) (read e w b) ≡ read (sweep T w b e) w b
-    reduced = sym (refine.sweep-reduce L T b w h e)
-
-    pub insert-implied : ((j : ℕ) → b ≤ j → j < b +ₙ w → sweep T w b e .cells j ≡ 𝟘) → sweep T w b e .sym ≡ null
-        → insert (view T w b) (read e w b) ≡ some (view T w b)
-    insert-implied z y =
-        chain.reduced-implied L (view T w b) (read e w b) (ap (lead O w) reduced ∙ refine.lead-none L (sweep T w b e) w b z)
-        (ap (symbol O w) reduced ∙ symbol-read (sweep T w b e) w b ∙ y)
-
-    pub insert-contradicts : ((j : ℕ) → b ≤ j → j < b +ₙ w → sweep T w b e .cells j ≡ 𝟘) → sweep T w b e .sym ≢ null
-        → insert (view T w b) (read e w b) ≡ none
-    insert-contradicts z y =
-        chain.reduced-contradicts L (view T w b) (read e w b) (ap (lead O w) reduced ∙ refine.lead-none L (sweep T w b e) w b z)
-        (λ x. y (sym (ap (symbol O w) reduced ∙ symbol-read (sweep T w b e) w b) ∙ x))
-
-    pub insert-places : (p : ℕ) → b ≤ p → p < b +ₙ w → Leads (sweep T w b e) b p
-        → (T′ : Table O) → Places T T′ b w p (scale-line (inv (sweep T w b e .cells p)) (sweep T w b e))
-        → insert (view T w b) (read e w b) ≡ some (view T′ w b)
-    unfolding chain.normal
-    insert-places p g l d T′ f =
-        let E = sweep T w b e in
-        let a = E .cells p in
-        let led = refine.lead-read L E w b p d g l in
-        chain.reduced-places L (view T w b) (read e w b) (λ z. d .here (sym led ∙ sym (ap (lead O w) reduced) ∙ z))
-        ∙ ap (λ r. some (place (view T w b) (scale O w (inv (lead O w r)) r))) reduced
-        ∙ ap (λ k. some (place (view T w b) (scale O w (inv k) (read E w b)))) led
-        ∙ ap (λ r. some (place (view T w b) r)) (sym (refine.read-scale L (inv a) E w b))
-        ∙ ap some (sym (refine.view-place L T T′ b w p (scale-line (inv a) E) h f (free-at T b w h e p g l (d .here)) (leads-scaled E b p d) g l))
 
   -- The table stays in echelon form.
 
@@ -127,16 +55,6 @@ module _ {O : Ops} (L : Laws O) where
           let u = was q c l x t in
           ap (λ y. y .cells j) (f .line-old q c l x u)
           ∙ ap₂ _+_ (h .zero-before q c l u j k m) (cleared q c l u j k m (decLt j p)) ∙ +-𝟘 𝟘
-
-  -- So it does when an equation is added as above.
-  pub insert-echelon : (T : Table O) (b w : ℕ) → Echelon T b w → (e : Line O) (p : ℕ) → b ≤ p → Leads (sweep T w b e) b p
-      → (T′ : Table O) → Places T T′ b w p (scale-line (inv (sweep T w b e .cells p)) (sweep T w b e)) → Echelon T′ b w
-  unfolding scale-line
-  insert-echelon T b w h e p g d T′ f =
-      let E = sweep T w b e in
-      places-echelon T T′ b w p (scale-line (inv (E .cells p)) E) h f (leads-scaled E b p d) (*-inv (E .cells p) (d .here))
-      (λ q c l t. ap (λ a. inv (E .cells p) * a) (sweep-zero T b w h w b e q (omega arith) c l (omega arith) t) ∙ *-𝟘 _)
-      g
 
   pub moves-echelon : (T T′ : Table O) (b w : ℕ) → Echelon T b w → Moves T T′ b w → Echelon T′ (suc b) w
   moves-echelon T T′ b w h f = record {

@@ -2,8 +2,8 @@
 use mathlib.Core.Path.{_≡_, refl, sym, ap, _∙_}
 use mathlib.Core.Logic.{_≢_}
 use mathlib.Core.Bool.{Bool, true, false}
-use mathlib.Core.List.{List}
-use Prim.Native.Nat.{ℕ, suc, _+_, _-_, _%_, _≤_, _<_}
+use mathlib.Core.List.{List, [], _∷_}
+use Prim.Native.Nat.{ℕ, zero, suc, _+_, _-_, _%_, _≤_, _<_}
 use native.Mathlib.Nat.{mod-lt, mod-add-mod}
 use native.Mathlib.Decide.{ℕ-discrete}
 use native.Mathlib.Omega.{arith}
@@ -11,6 +11,7 @@ use lib.ListN.{length, getD, set, length-set}
 use lib.Seq.{getD-set-same, getD-set-other}
 use lib.Bits.{bitOr, or-add-and, and-le-l, and-le-r}
 use Rattle.decoder.proofs.Stretch.{remainders}
+use Rattle.memory.specs.Number.{Bytes}
 use Rattle.elimination.specs.GatherSteps.{if-used, multiplier, Collected, Staying}
 
 -- The column after the `i`th from `first` on.
@@ -30,13 +31,21 @@ used-zero false k z = refl
 pub or-zero : (a b : ℕ) → bitOr a b ≡ 0 → (a ≡ 0) × (b ≡ 0)
 or-zero a b z = let s = or-add-and a b in let l = and-le-l a b in let r = and-le-r a b in (omega arith, omega arith)
 
-module _ (w E first : ℕ) (m l : List ℕ) where
-  pub collected-none : (cs : List ℕ) → Collected w E first 0 0 m l cs cs
-  collected-none cs = record { size = refl; on = λ i h. absurd (omega arith); off = λ j d. refl; none = λ z i h. absurd (omega arith) }
+bytes-set : (l : List ℕ) (i v : ℕ) → Bytes l → v < 256 → Bytes (set l i v)
+bytes-set [] i v f h j = f j
+bytes-set (x ∷ l) zero v f h zero = h
+bytes-set (x ∷ l) zero v f h (suc j) = f (suc j)
+bytes-set (x ∷ l) (suc i) v f h zero = f 0
+bytes-set (x ∷ l) (suc i) v f h (suc j) = bytes-set l i v (λ k. f (suc k)) h j
 
-  pub collected-more : (i any c v : ℕ) (cs cs′ : List ℕ) → i < w → w ≤ length cs → c ≡ (first + i) % w
+module _ (w E first : ℕ) (m l : List ℕ) where
+  pub collected-none : (cs : List ℕ) → Bytes cs → Collected w E first 0 0 m l cs cs
+  collected-none cs small = record { small = small; size = refl; on = λ i h. absurd (omega arith); off = λ j d. refl; none = λ z i h. absurd (omega arith) }
+
+  pub collected-more : (i any c v : ℕ) (cs cs′ : List ℕ) → i < w → w ≤ length cs → v < 256 → c ≡ (first + i) % w
       → v ≡ multiplier w E c m l → Collected w E first i any m l cs cs′ → Collected w E first (i + 1) (bitOr any v) m l cs (set cs′ c v)
-  collected-more i any c v cs cs′ h n e q f = record {
+  collected-more i any c v cs cs′ h n byte e q f = record {
+    small = bytes-set cs′ c v (f .small) byte;
     size = length-set cs′ c v ∙ f .size;
     on = λ j g. at j g (ℕ-discrete j i);
     off = λ j d. getD-set-other cs′ c j v 0 (λ x. d i (omega arith) (sym e ∙ sym x)) ∙ f .off j (λ k g. d k (omega arith));

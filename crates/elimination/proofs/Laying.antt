@@ -12,7 +12,7 @@ use Rattle.memory.proofs.Parts.{length-part, length-splice, getD-part, getD-bef
 use Rattle.elimination.specs.Window.{stride, place, row}
 use Rattle.elimination.specs.Packet.{Works}
 use Rattle.elimination.specs.Gather.{Only, LaidIn}
-use Rattle.elimination.proofs.Framing.{only-splice, only-trans, row-room}
+use Rattle.elimination.proofs.Framing.{only-splice, only-trans, only-past, row-room}
 
 -- A column past the last is one from the first on.
 pub wrapped : (w c : ℕ) → w ≤ c → c < w + w → c % w ≡ c - w
@@ -175,3 +175,15 @@ module _ (w E k first : ℕ) (cs work : List ℕ) (g : Works w E k work) (h : fi
     laid-long m₁ m₂ m₃ p q r =
         subst (LaidIn w E k first cs work)
         (sym (r ∙ ap (splice at (part end left cs)) (q ∙ ap (splice (at + first) (part 0 end cs)) p))) laid-twice
+
+-- The symbol that the row held is still there.
+pub laid-symbol : (w E k first : ℕ) (cs work work′ : List ℕ) → LaidIn w E k first cs work work′ → (i : ℕ) → i < E
+    → getD (row w E k work′) (w + i) 0 ≡ getD (row w E k work) (w + i) 0
+laid-symbol w E k first cs work work′ f i h =
+    let same : (m : List ℕ) → getD (row w E k m) (w + i) 0 ≡ getD (part (place w E k + w) E m) i 0 =
+    (λ m.
+    let e : place w E k + (w + i) ≡ place w E k + w + i = omega arith in
+    getD-part (place w E k) (stride w E) (w + i) m (omega arith) ∙ ap (λ a. getD m a 0) e ∙ sym (getD-part (place w E k + w) E i m h)) in
+    same work′
+    ∙ ap (λ x. getD x i 0) (only-past (place w E k) (place w E k + w) (place w E k + w) E work work′ (f .only) (omega arith))
+    ∙ sym (same work)

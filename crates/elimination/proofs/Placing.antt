@@ -94,7 +94,7 @@ module _ (w E r n : ℕ) (x m m₁ m′ : List ℕ) (fits : Fits w E m) (h : r <
   one-more (suc zero) l = refl
   one-more (suc (suc k)) l = absurd (omega arith)
 
-  pub stored : Stored w E r n x m m′
+  stored : Stored w E r n x m m′
   stored =
       subst (λ y. Stored w E r n x m y) (sym (t .bytes)) record {
         changed = record {
@@ -106,6 +106,12 @@ module _ (w E r n : ℕ) (x m m₁ m′ : List ℕ) (fits : Fits w E m) (h : r <
         new = new-line;
         flags = (flagged-now, one-more n (t .tested .most) ∙ ap one-if-known (sym flag-now));
       }
+
+-- The code copies the working row from `at` on.
+pub stored-copy : (w E r n at : ℕ) (l m m₁ m′ : List ℕ) → Fits w E m → r < w → length l ≡ w + E → at ≡ place w E r
+    → m₁ ≡ splice at (part 0 (w + E) l) m → Marked w E r n m₁ m′ → Stored w E r n l m m′
+stored-copy w E r n at l m m₁ m′ fits h size here e t =
+    stored w E r n l m m₁ m′ fits h size (e ∙ ap (λ x. splice at x m) (whole (w + E) l size) ∙ ap (λ k. splice k l m) here) t
 
 -- The row `q` is passed over: it is not in use, or has no coefficient in the column.
 module _ (w E r q : ℕ) (l m : List ℕ) where

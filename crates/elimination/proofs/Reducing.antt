@@ -202,13 +202,13 @@ module _ (w E k first n at any : ℕ) (m work cs cs′ : List ℕ) (here : at �
         ∙ ap (λ x. splice (place w E k) x work) (sym (combined-none (rowAt m 64 (stride w E) (w + E)) w (part (place w E k) (w + E) work)));
   }
 
-  pub state-some : Bytes cs′ → (work′ : List ℕ)
+  pub state-some : (work′ : List ℕ)
       → work′ ≡ splice (place w E k) (combined (coefficient (take w cs′)) (rowAt m 64 (stride w E) (w + E)) w (part (place w E k) (w + E) work)) work
       → StateReduced w E k first n m work work′
   unfolding part
-  state-some bytes work′ s = record {
+  state-some work′ s = record {
     multipliers = take w cs′;
-    small = bytes-part 0 w cs′ bytes;
+    small = bytes-part 0 w cs′ (f .small);
     on = λ i h. getD-take w cs′ ((first + i) % w) 0 (inside i) ∙ f .on i h ∙ same ((first + i) % w) (inside i);
     off = λ j h d. getD-take w cs′ j 0 h ∙ f .off j d ∙ zeros j;
     sum = s;
@@ -304,7 +304,7 @@ module _ (w E k first n base count stay : ℕ) (m work work′ : List ℕ) (fits
     no-multiplier i h x =
         f .off ((b + rise + i) % w) (mod-lt (b + rise + i) (fits .some-width)) (λ t l. apart i t h (omega (arith, near .few)) (x t l))
 
-    no-coefficient : (i : ℕ) → i < w → ((t : ℕ) → t < count → d + t ≢ i) → getD (row w E k work) ((b + rise + i) % w) 0 ≡ 0
+    pub no-coefficient : (i : ℕ) → i < w → ((t : ℕ) → t < count → d + t ≢ i) → getD (row w E k work) ((b + rise + i) % w) 0 ≡ 0
     no-coefficient i h x = spans ((b + rise + i) % w) (mod-lt (b + rise + i) (fits .some-width)) (λ t l. apart i t h l (x t l))
 
     -- A position that stays.

@@ -52,5 +52,6 @@ pub record Admitted (w E base stay kept first n : ℕ) (verdict : Verdict) (m wo
   pub only : Only (place w E kept) (place w E kept + (w + E + 1)) work work′
   pub works : Works w E (count-kept kept verdict) work′
   pub outcome : (b rise d : ℕ) (S : State (Coded E) w) (es : List (Row (Coded E) w)) → (b + rise) % w ≡ base → stay ≡ w - rise
-      → (b + rise + d) % w ≡ first → d + n ≤ w → Window w E m b S → Rref S → Spans w first n (row w E kept work) → Gathered w E (b + rise) (advance-by rise S) work kept es
+      → (b + rise + d) % w ≡ first → d < w → d + n ≤ w → Window w E m b S → Rref S → Spans w first n (row w E kept work)
+      → Gathered w E (b + rise) (advance-by rise S) work kept es
       → Agrees w E (b + rise) (advance-by rise S) work′ kept (es ++ (equation w E (b + rise) (row w E kept work) ∷ [])) verdict

@@ -41,16 +41,21 @@ pub record Collected (w E first n any : ℕ) (m l cs cs′ : List ℕ) : Type 0 
   pub size : length cs′ ≡ length cs
   pub on : (i : ℕ) → i < n → getD cs′ ((first + i) % w) 0 ≡ multiplier w E ((first + i) % w) m l
   pub off : (j : ℕ) → ((i : ℕ) → i < n → (first + i) % w ≢ j) → getD cs′ j 0 ≡ getD cs j 0
+  pub small : Bytes cs′
   pub none : any ≡ 0 → (i : ℕ) → i < n → multiplier w E ((first + i) % w) m l ≡ 0
 
--- The row `k` of working memory has become `x`, with what is added to it: for some multipliers of the state's rows by column, those for the
--- `n` columns from `first` on and else zero.
+-- The sum of the state's rows, each times its multiplier of `cs`, has been added to the row `k` of working memory.
+abbrev pub RowsAdded : (w E k : ℕ) (cs m work work′ : List ℕ) → Type 0
+RowsAdded w E k cs m work work′ =
+    work′ ≡ splice (place w E k) (combined (coefficient cs) (rowAt m 64 (stride w E) (w + E)) w (part (place w E k) (w + E) work)) work
+
+-- So it has with multipliers by column: those for the `n` columns from `first` on, and else zero.
 pub record StateReduced (w E k first n : ℕ) (m work work′ : List ℕ) : Type 0 where
   pub multipliers : List ℕ
   pub small : Bytes multipliers
   pub on : (i : ℕ) → i < n → getD multipliers ((first + i) % w) 0 ≡ multiplier w E ((first + i) % w) m (row w E k work)
   pub off : (j : ℕ) → j < w → ((i : ℕ) → i < n → (first + i) % w ≢ j) → getD multipliers j 0 ≡ 0
-  pub sum : work′ ≡ splice (place w E k) (combined (coefficient multipliers) (rowAt m 64 (stride w E) (w + E)) w (part (place w E k) (w + E) work)) work
+  pub sum : RowsAdded w E k multipliers m work work′
 
 -- The pivot of the row `j` of working memory has been eliminated from the row `k`.
 abbrev pub Eliminated : (w E k j : ℕ) (work work′ : List ℕ) → Type 0
@@ -64,18 +69,18 @@ pub record PacketReduced (w E k j : ℕ) (work work′ : List ℕ) : Type 0 wher
   pub sum : (b : ℕ) → ((i : ℕ) → i < k → PivotMarked w E b (row w E i work))
       → spelled w E b work′ k ≡ eliminate (Coded E) w (spelled w E b work) j (spelled w E b work k)
 
--- The oldest coefficient of a row stands at the `i`th position of the window whose base has the row `base`; `w` if there is none.
-pub record Leading (w base i : ℕ) (l : List ℕ) : Type 0 where
+-- The first coefficient of a row stands in the `i`th of the columns from `first` on, around the window; `w` if there is none.
+pub record Leading (w first i : ℕ) (l : List ℕ) : Type 0 where
   pub within : i ≤ w
-  pub before : (j : ℕ) → j < i → getD l ((base + j) % w) 0 ≡ 0
-  pub here : i < w → getD l ((base + i) % w) 0 ≢ 0
+  pub before : (j : ℕ) → j < i → getD l ((first + j) % w) 0 ≡ 0
+  pub here : i < w → getD l ((first + i) % w) 0 ≢ 0
 
 -- The pivot found is that of the first of the rows from `from` on and before `to` that has one.
-abbrev pub Searched : (w E base from to : ℕ) → Pivot → List ℕ → Type 0
-Searched w E base from to (At r c) work =
-    (i : ℕ) × (i < w) × (c ≡ (base + i) % w) × (from ≤ r) × (r < to) × ((k : ℕ) → from ≤ k → k < r → Leading w base w (row w E k work))
-    × Leading w base i (row w E r work)
-Searched w E base from to Nothing work = (k : ℕ) → from ≤ k → k < to → Leading w base w (row w E k work)
+abbrev pub Searched : (w E first from to : ℕ) → Pivot → List ℕ → Type 0
+Searched w E first from to (At r c) work =
+    (i : ℕ) × (i < w) × (c ≡ (first + i) % w) × (from ≤ r) × (r < to) × ((k : ℕ) → from ≤ k → k < r → Leading w first w (row w E k work))
+    × Leading w first i (row w E r work)
+Searched w E first from to Nothing work = (k : ℕ) → from ≤ k → k < to → Leading w first w (row w E k work)
 
 -- The row `k` has been divided by its coefficient in the column `c`, and this is in its flag.
 pub record Normalised (w E k c : ℕ) (work work′ : List ℕ) : Type 0 where
@@ -94,10 +99,12 @@ Outcome w E b k work work′ Implied =
 Outcome w E b k work work′ Contradiction =
     (k < w → lead (Coded E) w (spelled w E b work k) ≡ Coded E .𝟘) × (symbol (Coded E) w (spelled w E b work k) ≢ Coded E .null)
 
-pub record Settled (w E base k : ℕ) (verdict : Verdict) (work work′ : List ℕ) : Type 0 where
+-- So it is where the row has no coefficient at the positions before that of the column `first`.
+pub record Settled (w E first k : ℕ) (verdict : Verdict) (work work′ : List ℕ) : Type 0 where
   pub only : Only (place w E k) (place w E k + (w + E + 1)) work work′
   pub works : Works w E (count-kept k verdict) work′
-  pub outcome : (b : ℕ) → b % w ≡ base → Outcome w E b k work work′ verdict
+  pub outcome : (b d : ℕ) → d < w → (b + d) % w ≡ first
+      → ((j : ℕ) → b ≤ j → j < b + d → line w E (row w E k work) .cells j ≡ Coded E .𝟘) → Outcome w E b k work work′ verdict
 
 -- `n` is how many of the `count` columns from `first` on are of the first `stay` positions of the window.
 pub record Staying (w base first count stay n : ℕ) : Type 0 where

@@ -3,12 +3,11 @@
 ghost use mathlib.Core.Path.{_≡_};
 ghost use Prim.Native.Nat.{ℕ, _+_, _%_, _≤_, _<_};
 ghost use lib.ListN.{length, take};
-ghost use Rattle.memory.specs.Part.{part, splice};
-ghost use Rattle.rows.specs.Combination.{combined, coefficient, rowAt};
-ghost use Rattle.elimination.specs.Window.{stride, place, row, inUse, Fits};
+ghost use Rattle.elimination.specs.Window.{row, inUse, Fits};
 ghost use Rattle.elimination.specs.Packet.{Works};
 ghost use Rattle.elimination.specs.Gather.{LaidIn, Admitted};
-ghost use Rattle.elimination.specs.GatherSteps.{if-used, Zeros, Collected, Staying, StateReduced, Eliminated, PacketReduced, Searched, Normalised, Settled};
+ghost use Rattle.elimination.specs.GatherSteps.{if-used, Collected, RowsAdded, StateReduced, Eliminated, PacketReduced};
+ghost use Rattle.elimination.specs.GatherSteps.{Searched, Normalised, Settled, Staying};
 use super::Shape;
 use field::Gf256;
 
@@ -67,8 +66,10 @@ fn collect(
     first: usize,
     n: usize,
 ) -> u8
-    requires { ⌜ Fits (shape .width) (shape .size) (now mem) × (length (now equation) ≡ shape .width) × (shape .width ≤ length (now multipliers)) × (first < shape .width) × (n ≤ shape .width) ⌝ }
-    ensures { λ any. ⌜ Collected (shape .width) (shape .size) first n any (now (mem .entry)) (now (equation .entry)) (now (multipliers .entry)) (now (multipliers .exit)) ⌝ }
+    requires { ⌜ Fits (shape .width) (shape .size) (now mem) × (length (now equation) ≡ shape .width)
+        × (shape .width ≤ length (now multipliers)) × (first < shape .width) × (n ≤ shape .width) ⌝ }
+    ensures { λ any. ⌜ Collected (shape .width) (shape .size) first n any (now (mem .entry)) (now (equation .entry))
+        (now (multipliers .entry)) (now (multipliers .exit)) ⌝ }
 {
     let w = shape.width;
     let mut c = first;
@@ -84,8 +85,10 @@ fn collect(
 
 // Adds to the row `k` of working memory the sum of the state's rows, each times its multiplier.
 fn add_rows(mem: &[u8], work: &mut [u8], multipliers: &[u8], shape: Shape, k: usize)
-    requires { ⌜ Fits (shape .width) (shape .size) (now mem) × Works (shape .width) (shape .size) k (now work) × (shape .width ≤ length (now multipliers)) ⌝ }
-    ensures { λ _. ⌜ now (work .exit) ≡ splice (place (shape .width) (shape .size) k) (combined (coefficient (take (shape .width) (now (multipliers .entry)))) (rowAt (now (mem .entry)) 64 (stride (shape .width) (shape .size)) (shape .width + shape .size)) (shape .width) (part (place (shape .width) (shape .size) k) (shape .width + shape .size) (now (work .entry)))) (now (work .entry)) ⌝ }
+    requires { ⌜ Fits (shape .width) (shape .size) (now mem) × Works (shape .width) (shape .size) k (now work)
+        × (shape .width ≤ length (now multipliers)) ⌝ }
+    ensures { λ _. ⌜ RowsAdded (shape .width) (shape .size) k (take (shape .width) (now (multipliers .entry)))
+        (now (mem .entry)) (now (work .entry)) (now (work .exit)) ⌝ }
 {
     let w = shape.width;
     let n = w + shape.size;
@@ -93,43 +96,21 @@ fn add_rows(mem: &[u8], work: &mut [u8], multipliers: &[u8], shape: Shape, k: us
     rows::combination::add_combination(&mut work[at..at + n], &multipliers[..w], mem, 64, n + 4);
 }
 
-// `reduce` with room for the multipliers, all zero.
-fn reduce_with(
-    mem: &[u8],
-    work: &mut [u8],
-    multipliers: &mut [u8],
-    shape: Shape,
-    k: usize,
-    first: usize,
-    n: usize,
-)
-    requires { ⌜ Fits (shape .width) (shape .size) (now mem) × Works (shape .width) (shape .size) k (now work) × (shape .width ≤ length (now multipliers)) × (first < shape .width) × (n ≤ shape .width) × Zeros (now multipliers) ⌝ }
-    ensures { λ _. ⌜ StateReduced (shape .width) (shape .size) k first n (now (mem .entry)) (now (work .entry)) (now (work .exit)) ⌝ }
-{
-    let at = super::start_of(shape, k);
-    if collect(
-        mem,
-        &work[at..at + shape.width],
-        multipliers,
-        shape,
-        first,
-        n,
-    )
-        == 0
-    {
-        return;
-    }
-    add_rows(mem, work, multipliers, shape, k);
-}
-
 // Reduces the row `k` of working memory by the state's rows of `n` of its columns, from `first` on. Since the state is reduced, the multipliers
 // are the coefficients that the row has before.
 fn reduce(mem: &[u8], work: &mut [u8], shape: Shape, k: usize, first: usize, n: usize)
-    requires { ⌜ Fits (shape .width) (shape .size) (now mem) × Works (shape .width) (shape .size) k (now work) × (first < shape .width) × (n ≤ shape .width) ⌝ }
+    requires { ⌜ Fits (shape .width) (shape .size) (now mem) × Works (shape .width) (shape .size) k (now work)
+        × (first < shape .width) × (n ≤ shape .width) ⌝ }
     ensures { λ _. ⌜ StateReduced (shape .width) (shape .size) k first n (now (mem .entry)) (now (work .entry)) (now (work .exit)) ⌝ }
 {
+    let w = shape.width;
+    let at = super::start_of(shape, k);
     let mut multipliers = [0u8; 255];
-    reduce_with(mem, work, &mut multipliers, shape, k, first, n);
+    let any = collect(mem, &work[at..at + w], &mut multipliers, shape, first, n);
+    if any == 0 {
+        return;
+    }
+    add_rows(mem, work, &multipliers, shape, k);
 }
 
 // Eliminates the pivot of the row `j` of working memory from the row `k`.
@@ -155,10 +136,10 @@ fn reduce_within(work: &mut [u8], shape: Shape, k: usize)
     }
 }
 
-// The first of the rows from `from` on and before `to` that has a coefficient, and the column of its oldest.
-fn find_pivot(work: &[u8], shape: Shape, from: usize, to: usize) -> Pivot
-    requires { ⌜ Works (shape .width) (shape .size) 0 (now work) × (shape .base < shape .width) × (from ≤ to) × (to ≤ shape .width) ⌝ }
-    ensures { λ r. ⌜ Searched (shape .width) (shape .size) (shape .base) from to r (now (work .entry)) ⌝ }
+// The first of the rows from `from` on and before `to` that has a coefficient, and the column of its first from the column `first` on.
+fn find_pivot(work: &[u8], shape: Shape, first: usize, from: usize, to: usize) -> Pivot
+    requires { ⌜ Works (shape .width) (shape .size) 0 (now work) × (first < shape .width) × (from ≤ to) × (to ≤ shape .width) ⌝ }
+    ensures { λ r. ⌜ Searched (shape .width) (shape .size) first from to r (now (work .entry)) ⌝ }
 {
     let w = shape.width;
     let mut r = from;
@@ -168,7 +149,7 @@ fn find_pivot(work: &[u8], shape: Shape, from: usize, to: usize) -> Pivot
         }
         let at = super::start_of(shape, r);
         let mut i: usize = 0;
-        let mut c = shape.base;
+        let mut c = first;
         loop {
             if i == w {
                 break;
@@ -195,13 +176,14 @@ fn normalise(work: &mut [u8], shape: Shape, k: usize, c: usize)
     work[at + n] = c as u8;
 }
 
-// What becomes of the reduced equation in the row `k`. All `w` rows leave no coefficient, so there is none to look for in one more.
-fn settle(work: &mut [u8], shape: Shape, k: usize) -> Verdict
-    requires { ⌜ Works (shape .width) (shape .size) k (now work) × (shape .base < shape .width) ⌝ }
-    ensures { λ r. ⌜ Settled (shape .width) (shape .size) (shape .base) k r (now (work .entry)) (now (work .exit)) ⌝ }
+// What becomes of the reduced equation in the row `k`, which has no coefficient older than the column `first`. All `w` rows leave none at all,
+// so there is none to look for in one more.
+fn settle(work: &mut [u8], shape: Shape, k: usize, first: usize) -> Verdict
+    requires { ⌜ Works (shape .width) (shape .size) k (now work) × (first < shape .width) ⌝ }
+    ensures { λ r. ⌜ Settled (shape .width) (shape .size) first k r (now (work .entry)) (now (work .exit)) ⌝ }
 {
     let w = shape.width;
-    if let Pivot::At(r, c) = find_pivot(work, shape, k, least(k + 1, w)) {
+    if let Pivot::At(r, c) = find_pivot(work, shape, first, k, least(k + 1, w)) {
         normalise(work, shape, r, c);
         return Verdict::Kept;
     }
@@ -254,11 +236,13 @@ pub fn admit(
     first: usize,
     count: usize,
 ) -> Verdict
-    requires { ⌜ Fits (shape .width) (shape .size) (now mem) × Works (shape .width) (shape .size) kept (now work) × (shape .base < shape .width) × (first < shape .width) × (count ≤ shape .width) ⌝ }
-    ensures { λ r. ⌜ Admitted (shape .width) (shape .size) (shape .base) stay kept first count r (now (mem .entry)) (now (work .entry)) (now (work .exit)) ⌝ }
+    requires { ⌜ Fits (shape .width) (shape .size) (now mem) × Works (shape .width) (shape .size) kept (now work)
+        × (shape .base < shape .width) × (first < shape .width) × (count ≤ shape .width) ⌝ }
+    ensures { λ r. ⌜ Admitted (shape .width) (shape .size) (shape .base) stay kept first count r
+        (now (mem .entry)) (now (work .entry)) (now (work .exit)) ⌝ }
 {
     let n = staying(shape, first, count, stay);
     reduce(mem, work, shape, kept, first, n);
     reduce_within(work, shape, kept);
-    settle(work, shape, kept)
+    settle(work, shape, kept, first)
 }

@@ -1,10 +1,12 @@
--- The multiples of an element by 1, 2, 4, .. 128.
+-- The multiples of an element by 1, 2, 4, .. 128, from which a product by it is summed. The element itself is the first of them, and the others
+-- are its doublings, as in the table of powers.
 use mathlib.Core.Path.{_≡_}
 use Prim.Native.Nat.{ℕ}
 use mathlib.Core.List.{List, [], _∷_}
 use Rattle.field.specs.Tables.{doublings}
 use Rattle.field.specs.declared.Multiples.{Multiples}
 
+-- all eight, in order
 abbrev pub listed : Multiples → List ℕ
 listed m = m .0 ∷ m .1 ∷ m .2 ∷ m .3 ∷ m .4 ∷ m .5 ∷ m .6 ∷ m .7 ∷ []
 

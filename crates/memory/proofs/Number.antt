@@ -1,7 +1,8 @@
 -- Numbers in bytes: written, read, and in pieces.
 use mathlib.Core.Path.{_≡_, refl, sym, ap, _∙_}
 use Prim.Native.Nat.{ℕ, zero, suc, _+_, _*_, _/_, _%_, _^_, _≤_, _<_}
-use native.Mathlib.Nat.{mod-one, mod-eq-of-lt, pow-suc, pow-succ', mul-le-mul-right, mul-add-div-right, div-eq-of-lt, add-zero, add-mul, mul-assoc, add-assoc, zero-mul, zero-add}
+use native.Mathlib.Nat.{mod-one, mod-eq-of-lt, pow-suc, pow-succ', mul-le-mul-right, mul-add-div-right}
+use native.Mathlib.Nat.{div-eq-of-lt, add-zero, add-mul, mul-assoc, add-assoc, zero-mul, zero-add}
 use native.Mathlib.Omega.{arith}
 use mathlib.Core.List.{List, [], _∷_, _++_}
 use lib.Arith.{mod-mul}

@@ -7,7 +7,8 @@ use native.Mathlib.Numerals.{add-one}
 use native.Mathlib.Omega.{arith}
 use mathlib.Core.List.{List, [], _∷_, _++_, append-assoc}
 use lib.ListN.{length, take, drop, getD, set, length-set, length-append, length-take, length-drop, take-append-drop}
-use lib.Seq.{take-all, getD-take, getD-drop, take-at, take-append-le, drop-append-le, take-append-seam, drop-append-seam, drop-append-add, drop-drop, take-take, take-add, drop-cons, sets, sets-eq, set-append-left}
+use lib.Seq.{take-all, getD-take, getD-drop, take-at, take-append-le, drop-append-le, take-append-seam, drop-append-seam}
+use lib.Seq.{drop-append-add, drop-drop, take-take, take-add, drop-cons, sets, sets-eq, set-append-left}
 use Rattle.memory.specs.Part.{part, splice, Apart}
 
 pub cons-eq : {A : Type 0} {x y : A} {l k : List A} → x ≡ y → l ≡ k → x ∷ l ≡ y ∷ k

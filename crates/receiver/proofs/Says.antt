@@ -45,7 +45,7 @@ Wholes E (v ∷ vs) = Whole E v × Wholes E vs
 pub bytes-symbol : (E : ℕ) (v : List ℕ) → Whole E v → bytesOf E (symbolOf E v) ≡ v
 bytes-symbol E v w = bytes-of-symbol E 0 v (w .small) (omega (arith, w .sized)) ∙ take-all E v (omega (arith, w .sized))
 
-symbol-tail : (n o x : ℕ) (l : List ℕ) → symbol-at n (suc o) (x ∷ l) ≡ symbol-at n o l
+pub symbol-tail : (n o x : ℕ) (l : List ℕ) → symbol-at n (suc o) (x ∷ l) ≡ symbol-at n o l
 symbol-tail zero o x l = refl
 symbol-tail (suc n) o x l = ap (λ v. (byte (getD l o 0), v)) (symbol-tail n (suc o) x l)
 

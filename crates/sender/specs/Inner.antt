@@ -3,14 +3,16 @@
 use mathlib.Core.Path.{_≡_}
 use mathlib.Core.Bool.{Bool, true, false}
 use mathlib.Core.Option.{Option, none, some}
-use Prim.Native.Nat.{ℕ, zero, suc, _+_, _-_, _*_, _%_, _<_}
+use Prim.Native.Nat.{ℕ, zero, suc, _+_, _-_, _*_, _%_, _≤_, _<_}
 use mathlib.Core.List.{List, [], _∷_, _++_, map}
 use lib.ListN.{length, take, drop, getD}
 use Rattle.memory.specs.Part.{part, splice}
 use Rattle.memory.specs.Number.{bytes}
 use Rattle.wire.specs.declared.Refusal.the-variants.{Draws}
 use Rattle.wire.specs.Numbers.{esiBefore}
-use Rattle.wire.specs.Packets.{chunks, repairPacket}
+use Rattle.wire.specs.declared.Setting.{Setting}
+use Rattle.wire.specs.Settings.{Valid}
+use Rattle.wire.specs.Packets.{symbolCount, sourceSymbols, chunks, repairPacket}
 use Rattle.rows.specs.Combination.{dot, coefficient, combination}
 use Rattle.coefficients.specs.Coefficients.{keys, allOk}
 use Rattle.sender.specs.declared.Answer.{Answer}
@@ -33,6 +35,14 @@ countBytes held next esi = bytes 2 held ++ (bytes 2 next ++ bytes 4 esi)
 
 -- ---- taking an ADU
 
+-- the symbols of an ADU, `count` of them, fit a window that starts at slot `first` of the memory
+pub record Fitting (t : Setting) (m : List ℕ) (first : ℕ) (adu : List ℕ) (count : ℕ) : Type 0 where
+  pub valid : Valid t
+  pub room : memorySize t ≤ length m
+  pub slot : first < t .width
+  pub short : length adu ≤ 65535
+  pub counted : count ≡ symbolCount (t .size) (length adu)
+
 -- new symbols were placed from slot `first` on: m became m′, and the slot after them is next
 pub record Placed (size width : ℕ) (m : List ℕ) (first : ℕ) (new : List (List ℕ)) (m′ : List ℕ) (next : ℕ) : Type 0 where
   pub same : length m′ ≡ length m
@@ -41,6 +51,16 @@ pub record Placed (size width : ℕ) (m : List ℕ) (first : ℕ) (new : List (L
   pub within : next < width
   pub slot : (xs : List (List ℕ)) → first ≡ length xs % width → next ≡ length (xs ++ new) % width
   pub slots : (xs : List (List ℕ)) → first ≡ length xs % width → InSlots size width m xs → InSlots size width m′ (xs ++ new)
+
+-- the symbols of an ADU were
+abbrev pub PlacedAdu : (t : Setting) (first flow : ℕ) (adu m m′ : List ℕ) (next : ℕ) → Type 0
+PlacedAdu t first flow adu m m′ next = Placed (t .size) (t .width) m first (sourceSymbols flow adu (t .size)) m′ next
+
+-- an ADU of `count` symbols can be taken
+pub record Takeable (t : Setting) (adu : List ℕ) (count : ℕ) : Type 0 where
+  pub short : length adu ≤ 65535
+  pub counted : count ≡ symbolCount (t .size) (length adu)
+  pub few : count ≤ t .width
 
 -- an ADU was taken: m became m′
 pub record Took (h : Header) (flow : ℕ) (adu m m′ : List ℕ) : Type 0 where
@@ -74,6 +94,11 @@ windowIn h m = stored (h .setting .size) (h .setting .width) m (firstSlot h) (h 
 unfoldable pub symbolsFrom : Header → List ℕ → (count : ℕ) → List ℕ → List (List ℕ)
 symbolsFrom h m count lists = map (λ (cs : List ℕ). combination (h .setting .size) cs (windowIn h m)) (chunks count (h .held) lists)
 
+-- the output has room for the packet, and the lists are there
+pub record HasRoom (h : Header) (count : ℕ) (coefficients out : List ℕ) : Type 0 where
+  pub symbols : 8 + count * h .setting .size ≤ length out
+  pub lists : count * h .held ≤ length coefficients
+
 -- the repair packet
 unfoldable pub packetFrom : Header → List ℕ → (key dt count : ℕ) → List ℕ
 packetFrom h m key dt count =
@@ -87,4 +112,5 @@ PacketOr10 false h key dt count m out r out′ = (r ≡ Refused Draws) × (out�
 
 abbrev pub Packed : (h : Header) (key dt count : ℕ) (m out : List ℕ) (r : Answer) (out′ : List ℕ) → Type 0
 Packed h key dt count m out r out′ =
-    PacketOr10 (allOk (h .setting .scheme) dt (h .held) (keys (writtenKey (h .setting .scheme) key dt) count)) h (writtenKey (h .setting .scheme) key dt) dt count m out r out′
+    let written = writtenKey (h .setting .scheme) key dt in
+    PacketOr10 (allOk (h .setting .scheme) dt (h .held) (keys written count)) h written dt count m out r out′

@@ -3,7 +3,7 @@
 use mathlib.Core.Path.{_≡_}
 use mathlib.Core.Option.{none, some}
 use Prim.Native.Nat.{ℕ}
-use mathlib.Core.List.{List}
+use mathlib.Core.List.{List, []}
 use lib.ListN.{length, drop}
 use Rattle.memory.specs.Part.{splice}
 use Rattle.wire.specs.Numbers.{numberOf}
@@ -11,7 +11,7 @@ use Rattle.sender.specs.declared.Answer.{Answer}
 use Rattle.sender.specs.declared.Answer.the-variants.{Done, Refused}
 use Rattle.sender.specs.declared.Header.{Header}
 use Rattle.sender.specs.State.{Sender, memorySize, headerIn, Holds}
-use Rattle.sender.specs.Calls.{Outcome, refused, done}
+use Rattle.sender.specs.Calls.{Outcome, refused, done, opening, adding, repairing}
 
 -- what an answer says: how many bytes were written, or the number of a refusal
 pub data Said : Type 0 where
@@ -59,3 +59,17 @@ pub record Promise (f : Sender → Outcome) (m out : List ℕ) (r : Answer) (m�
   pub unopened : headerIn m ≡ none → RefusedWith 3 m out r m′ out′
   pub contained : (h : Header) → headerIn m ≡ some h → Contained h m out r m′ out′
   pub follows : (s : Sender) → Holds m s → Follows (f s) m out r m′ out′
+
+-- ---- each call
+
+-- opening, which has no output
+abbrev pub Opens : (scheme size width : ℕ) (m : List ℕ) (r : Answer) (m′ : List ℕ) → Type 0
+Opens scheme size width m r m′ = Follows (opening scheme size width (length m)) m [] r m′ []
+
+-- adding an ADU
+abbrev pub Adds : (flow : ℕ) (adu m out : List ℕ) (r : Answer) (m′ out′ : List ℕ) → Type 0
+Adds flow adu m out r m′ out′ = Promise (λ s. adding s flow adu (length out)) m out r m′ out′
+
+-- making repair, which leaves the memory
+abbrev pub Repairs : (key dt count : ℕ) (m out : List ℕ) (r : Answer) (out′ : List ℕ) → Type 0
+Repairs key dt count m out r out′ = Promise (λ s. repairing s key dt count (length out)) m out r m out′

@@ -4,10 +4,9 @@ ghost use Prim.Native.Nat.{_+_, _*_, _%_, _<_, _≤_, min};
 ghost use lib.ListN.{length};
 ghost use mathlib.Core.Option.{some};
 ghost use Rattle.memory.specs.Part.{part, splice};
-ghost use Rattle.wire.specs.Packets.{symbolCount, adui, sourceSymbols};
-ghost use Rattle.wire.specs.Settings.{Valid};
-ghost use Rattle.sender.specs.State.{memorySize, headerIn};
-ghost use Rattle.sender.specs.Inner.{Placed, Took};
+ghost use Rattle.wire.specs.Packets.{symbolCount, adui};
+ghost use Rattle.sender.specs.State.{headerIn};
+ghost use Rattle.sender.specs.Inner.{Fitting, PlacedAdu, Takeable, Took};
 use super::Header;
 use super::front;
 use wire::Setting;
@@ -46,8 +45,8 @@ fn place_symbols(
     adu: &[u8],
     count: usize,
 ) -> usize
-    requires { ⌜ Valid setting × (memorySize setting ≤ length (now mem)) × (first < setting .width) × (length (now adu) ≤ 65535) × (count ≡ symbolCount (setting .size) (length (now adu))) ⌝ }
-    ensures { λ r. ⌜ Placed (setting .size) (setting .width) (now (mem .entry)) first (sourceSymbols flow (now (adu .entry)) (setting .size)) (now (mem .exit)) r ⌝ }
+    requires { ⌜ Fitting setting (now mem) first (now adu) count ⌝ }
+    ensures { λ r. ⌜ PlacedAdu setting first flow (now (adu .entry)) (now (mem .entry)) (now (mem .exit)) r ⌝ }
 {
     let size = setting.size;
     let width = setting.width;
@@ -61,7 +60,7 @@ fn place_symbols(
 
 // Takes an ADU of `count` symbols into the window.
 pub fn take_adu(mem: &mut [u8], header: Header, flow: u8, adu: &[u8], count: usize)
-    requires { ⌜ (headerIn (now mem) ≡ some header) × (length (now adu) ≤ 65535) × (count ≡ symbolCount (header .setting .size) (length (now adu))) × (count ≤ header .setting .width) ⌝ }
+    requires { ⌜ (headerIn (now mem) ≡ some header) × Takeable (header .setting) (now adu) count ⌝ }
     ensures { λ _. ⌜ Took header flow (now (adu .entry)) (now (mem .entry)) (now (mem .exit)) ⌝ }
 {
     let setting = header.setting;

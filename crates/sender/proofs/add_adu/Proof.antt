@@ -44,7 +44,8 @@ returns-4 c =
     (λ s k q. adding-short _ _ _ s (header p) q (c .before .before .before .before .before .if1 .left) (rw n at (c .before .if2 .left)) (c .if3 .taken))
 
 take-adu-requires : tie.Need-take-adu-requires
-take-adu-requires c κs = (has (c .before .before .before .before .before .before .before .before), c .before .before .before .before .before .before .if1 .left, c .before .before .before .before .symbol-count .ensures, c .before .before .if2 .left)
+take-adu-requires c κs =
+    (has (c .before .before .before .before .before .before .before .before), record { short = c .before .before .before .before .before .before .if1 .left; counted = c .before .before .before .before .symbol-count .ensures; few = c .before .before .if2 .left })
 
 write-source-requires : tie.Need-write-source-requires
 write-source-requires c κs = c .before .before .before .before .before .if3 .left

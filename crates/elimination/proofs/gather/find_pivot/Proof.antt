@@ -15,21 +15,21 @@ use Rattle.elimination.proofs.next.Reads as next-reads
 use Rattle.elimination.proofs.start_of.Reads as start-of-reads
 
 abbrev Inv-loop : tie.InvT-loop
-Inv-loop work shape from to w r at i₀ c₀ i c = (i ≤ w) × (w ≡ shape .width) × (c ≡ (shape .base + i) % w) × (c < w) × Blank w (shape .base) i (row w (shape .size) r work)
+Inv-loop work shape first from to w r at i₀ c₀ i c = (i ≤ w) × (w ≡ shape .width) × (c ≡ (first + i) % w) × (c < w) × Blank w first i (row w (shape .size) r work)
 
 abbrev μ-loop : tie.MeasureT-loop
-μ-loop work shape from to w r at i₀ c₀ i c = w - i
+μ-loop work shape first from to w r at i₀ c₀ i c = w - i
 
 abbrev Inv-rows : tie.InvT-rows
-Inv-rows work shape from to w r₀ r = (from ≤ r) × (r ≤ to) × (w ≡ shape .width) × BlankRows w (shape .size) (shape .base) from r work
+Inv-rows work shape first from to w r₀ r = (from ≤ r) × (r ≤ to) × (w ≡ shape .width) × BlankRows w (shape .size) first from r work
 
 abbrev μ-rows : tie.MeasureT-rows
-μ-rows work shape from to w r₀ r = to - r
+μ-rows work shape first from to w r₀ r = to - r
 
 rows-holds : tie.Need-rows-holds Inv-loop μ-loop Inv-rows μ-rows
 rows-holds c =
     let a = c .before .args in
-    (search needs, search needs, refl, rows-none (a .shape .width) (a .shape .size) (a .shape .base) (a .from) (a .from) (a .work .now) refl)
+    (search needs, search needs, refl, rows-none (a .shape .width) (a .shape .size) (a .first) (a .from) (a .from) (a .work .now) refl)
 
 start-of-requires : tie.Need-start-of-requires Inv-loop μ-loop Inv-rows μ-rows
 start-of-requires c κs = search needs
@@ -37,7 +37,7 @@ start-of-requires c κs = search needs
 loop-holds : tie.Need-loop-holds Inv-loop μ-loop Inv-rows μ-rows
 loop-holds c =
     let a = c .before .before .before .before .args in
-    (search needs, refl, sym (ap (λ k. k % a .shape .width) (add-zero (a .shape .base)) ∙ mod-eq-of-lt (omega arith)), search needs, blank-none (a .shape .width) (a .shape .base) (row (a .shape .width) (a .shape .size) (c .before .before .rows .r) (a .work .now)))
+    (search needs, refl, sym (ap (λ k. k % a .shape .width) (add-zero (a .first)) ∙ mod-eq-of-lt (omega arith)), search needs, blank-none (a .shape .width) (a .first) (row (a .shape .width) (a .shape .size) (c .before .before .rows .r) (a .work .now)))
 
 add-if2 : tie.Need-add-if2 Inv-loop μ-loop Inv-rows μ-rows
 add-if2 c = search needs
@@ -62,9 +62,9 @@ loop-again c =
     let zero = ap (λ k. lib.ListN.getD (row (a .shape .width) (a .shape .size) r (a .work .now)) k 0) (sym (turn .inv .2)) ∙ sym (read-cell (a .shape .width) (a .shape .size) r (c .before .before .before .before .before .start-of .result) (turn .c) (a .work .now) (c .before .before .before .before .before .start-of .ensures .start) (turn .inv .3)) ∙ c .before .if2 .left in (
       search needs,
       refl,
-      c .next .ensures .0 ∙ next-column (a .shape .width) (a .shape .base) (turn .i) (turn .c) (turn .inv .2),
+      c .next .ensures .0 ∙ next-column (a .shape .width) (a .first) (turn .i) (turn .c) (turn .inv .2),
       c .next .ensures .1,
-      blank-more (a .shape .width) (a .shape .base) (turn .i) (row (a .shape .width) (a .shape .size) r (a .work .now)) (turn .inv .4) zero,
+      blank-more (a .shape .width) (a .first) (turn .i) (row (a .shape .width) (a .shape .size) r (a .work .now)) (turn .inv .4) zero,
     )
 
 add-r : tie.Need-add-r Inv-loop μ-loop Inv-rows μ-rows
@@ -81,8 +81,8 @@ rows-again c =
       search needs,
       search needs,
       refl,
-      rows-more (a .shape .width) (a .shape .size) (a .shape .base) (a .from) (outer .r) (a .work .now) (outer .inv .3)
-          (blank-all (a .shape .width) (a .shape .base) (inner .i) (row (a .shape .width) (a .shape .size) (outer .r) (a .work .now)) (omega arith) (inner .inv .4)),
+      rows-more (a .shape .width) (a .shape .size) (a .first) (a .from) (outer .r) (a .work .now) (outer .inv .3)
+          (blank-all (a .shape .width) (a .first) (inner .i) (row (a .shape .width) (a .shape .size) (outer .r) (a .work .now)) (omega arith) (inner .inv .4)),
     )
 
 returns : tie.Need-returns Inv-loop μ-loop Inv-rows μ-rows
@@ -103,7 +103,7 @@ returns-2 c =
       outer .inv .0,
       omega arith,
       outer .inv .3,
-      leading-here (a .shape .width) (a .shape .base) (turn .i) (turn .c) l (omega arith) (turn .inv .2)
+      leading-here (a .shape .width) (a .first) (turn .i) (turn .c) l (omega arith) (turn .inv .2)
           (λ z. c .if2 .taken (read-cell (a .shape .width) (a .shape .size) (outer .r) (c .before .before .before .before .start-of .result) (turn .c) (a .work .now) (c .before .before .before .before .start-of .ensures .start) (turn .inv .3) ∙ z)) (turn .inv .4),
     )
 

@@ -52,11 +52,13 @@ loop-less c = search needs
 loop-again : tie.Need-loop-again Inv-loop μ-loop
 loop-again c =
     let start = c .before .before .before .before .before .before .before .before .before in
-    let turn = c .before .before .before .before .before .before .before .loop in (
-      search needs,
-      search needs,
-      leaving-more _ _ _ (turn .i) (turn .oldest) _ _ (turn .mem) _ (start .pre .0) (turn .inv .2) (c .before .before .before .set-flag .ensures) (c .next .ensures),
-    )
+    let a = start .args in
+    let turn = c .before .before .before .before .before .before .before .loop in
+    let freed = c .before .before .before .set-flag in
+    let more =
+    leaving-more (a .shape .width) (a .shape .size) (a .shape .base) (turn .i) (turn .oldest) (c .next .result) (a .mem .now) (turn .mem) (freed .last .0)
+    (start .pre .0) (turn .inv .2) (freed .ensures) (c .next .ensures) in
+    (search needs, search needs, more)
 
 -- src/place.rt:35:1
 same-length-2 : tie.Need-same-length-2 Inv-loop μ-loop

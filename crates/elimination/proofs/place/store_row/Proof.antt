@@ -1,9 +1,5 @@
-use mathlib.Core.Path.{ap, _∙_}
-use Prim.Native.Nat.{_+_}
 use native.Mathlib.Omega.{arith}
-use Rattle.memory.specs.Part.{splice}
-use Rattle.memory.proofs.Parts.{whole}
-use Rattle.elimination.proofs.Placing.{stored}
+use Rattle.elimination.proofs.Placing.{stored-copy}
 use Rattle.elimination.proofs.Rows.{row-end}
 use borrow.Author.Needs.{needs}
 use Rattle.elimination.proofs.place.store_row.Statement.{statement}
@@ -41,15 +37,11 @@ returns : tie.Need-returns
 returns c =
     let start = c .before .before .before .before .before .before .before .before .before .before .before .before in
     let a = start .args in
-    let w = a .shape .width in
-    let E = a .shape .size in
     let at = c .before .before .before .before .before .before .before .before .before .start-of in
     let copied = c .before .before .before .before .before .before .copy-part in
-    stored w E (a .r) _ (a .row .now) (a .mem .now) (copied .last .0) _ (start .pre .0) (omega arith) (omega arith)
-    (copied .ensures
-    ∙ ap (λ x. splice (at .result) x (a .mem .now)) (whole (w + E) (a .row .now) (omega arith))
-    ∙ ap (λ k. splice k (a .row .now) (a .mem .now)) (at .ensures .start))
-    (c .before .before .mark .ensures)
+    let marked = c .before .before .mark in
+    stored-copy (a .shape .width) (a .shape .size) (a .r) (marked .result) (at .result) (a .row .now) (a .mem .now) (copied .last .0) (marked .last .0)
+    (start .pre .0) (omega arith) (omega arith) (at .ensures .start) (copied .ensures) (marked .ensures)
 
 pub store-row-spec : {M : Type 1} → statement M
 store-row-spec =

@@ -21,10 +21,10 @@ abbrev μ-loop : tie.MeasureT-loop
 
 -- symbol i lies in the output, and its coefficients in the lists
 inside : (p : tie.In-loop Inv-loop μ-loop) → 8 + p .before .loop .i * p .before .before .before .before .before .args .header .setting .size + p .before .before .before .before .before .args .header .setting .size ≤ length (p .before .loop .out)
-inside p = let a = p .before .before .before .before .before .args in omega (arith, row-fits (a .count) (a .header .setting .size) (p .before .loop .i) (p .loop-test .taken), p .before .before .before .before .before .pre .1, p .before .loop .inv .1)
+inside p = let a = p .before .before .before .before .before .args in omega (arith, row-fits (a .count) (a .header .setting .size) (p .before .loop .i) (p .loop-test .taken), p .before .before .before .before .before .pre .1 .symbols, p .before .loop .inv .1)
 
 within : (p : tie.In-loop Inv-loop μ-loop) → p .before .loop .i * p .before .before .before .before .before .args .header .held + p .before .before .before .before .before .args .header .held ≤ length (p .before .before .before .before .before .args .lists .now)
-within p = let a = p .before .before .before .before .before .args in omega (arith, row-fits (a .count) (a .header .held) (p .before .loop .i) (p .loop-test .taken), p .before .before .before .before .before .pre .2)
+within p = let a = p .before .before .before .before .before .args in omega (arith, row-fits (a .count) (a .header .held) (p .before .loop .i) (p .loop-test .taken), p .before .before .before .before .before .pre .1 .lists)
 
 loop-holds : tie.Need-loop-holds Inv-loop μ-loop
 loop-holds c = (omega arith, refl, carried-none _ _ _)

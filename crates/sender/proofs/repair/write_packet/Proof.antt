@@ -34,8 +34,8 @@ fill-lists-requires c κs =
     let o = says s in
     (omega (arith, fits s, c .before .room-for-lists .ensures), omega arith, omega arith)
 
-returns : tie.Need-returns
-returns c =
+refuses : tie.Need-returns
+refuses c =
     let a = c .before .before .before .before .before .before .before .before .before .before .before .args in
     packed-refused (a .header) (a .key .0) (a .dt) (a .count) (a .mem .now) (a .out .now) _ (c .before .before .before .before .before .before .written-key .ensures) (lists-were-refused (c .before .before .before .fill-lists .ensures) (c .enum-told2 .given .1))
 
@@ -49,19 +49,19 @@ repair-symbols-requires : tie.Need-repair-symbols-requires
 repair-symbols-requires c κs =
     let s = c .before .before .before .before .before .before .before .before .before .before .before .before .before .before .before .before .before .before in
     let l = c .before .before .before .before .before .before .before .before .before .before .fill-lists .kept .0 in
-    (s .pre .0, omega (arith, c .before .before .before .before .write-repair .kept .0), omega (arith, l, fits s, c .before .before .before .before .before .before .before .before .before .before .before .before .room-for-lists .ensures), omega arith)
+    (s .pre .0, record { symbols = omega (arith, c .before .before .before .before .write-repair .kept .0); lists = omega (arith, l, fits s, c .before .before .before .before .before .before .before .before .before .before .before .before .room-for-lists .ensures) }, omega arith)
 
-mul-t27 : tie.Need-mul-t27
-mul-t27 c = omega (arith, area (c .before .before .before .before .before .before .before .before .before .before .before .before .before .before .before .before .before .before .before .before .before .before))
+mul-written-bytes : tie.Need-mul-written-bytes
+mul-written-bytes c = omega (arith, area (c .before .before .before .before .before .before .before .before .before .before .before .before .before .before .before .before .before .before .before .before .before .before))
 
-add-t28 : tie.Need-add-t28
-add-t28 c = omega (arith, area (c .before .before .before .before .before .before .before .before .before .before .before .before .before .before .before .before .before .before .before .before .before .before))
+add-written-bytes : tie.Need-add-written-bytes
+add-written-bytes c = omega (arith, area (c .before .before .before .before .before .before .before .before .before .before .before .before .before .before .before .before .before .before .before .before .before .before))
 
 same-length : tie.Need-same-length
 same-length c = c .before .before .before .repair-symbols .kept .0 ∙ c .before .before .before .before .before .before .before .before .write-repair .kept .0
 
-returns-2 : tie.Need-returns-2
-returns-2 c =
+writes : tie.Need-returns-2
+writes c =
     let a = c .before .before .before .before .before .before .before .before .before .before .before .before .before .before .before .before .before .before .before .before .before .before .args in
     let f = c .before .before .before .before .before .before .before .before .before .before .before .before .before .before .fill-lists .ensures in
     let d = c .before .before .before .before .before .before .before .before .before .before .before .enum-told .given .1 in
@@ -78,13 +78,13 @@ write-packet-spec =
     fill-lists-requires
     (λ c. search needs)
     (λ c. search needs)
-    returns
+    refuses
     cast-minus
     (λ c κs. search needs)
     write-repair-requires
     (λ c. search needs)
     repair-symbols-requires
-    mul-t27
-    add-t28
+    mul-written-bytes
+    add-written-bytes
     same-length
-    returns-2)
+    writes)

@@ -14,7 +14,8 @@ says p = opened (p .args .mem .now) (p .args .header) (p .pre .0)
 place-symbols-requires : tie.Need-place-symbols-requires
 place-symbols-requires c κs =
     let o = says (c .before .before .before .before) in
-    (o .valid, o .room, o .next, search needs, search needs)
+    let k = c .before .before .before .before .pre .1 in
+    record { valid = o .valid; room = o .room; slot = o .next; short = k .short; counted = k .counted }
 
 add-smaller : tie.Need-add-smaller
 add-smaller c = let o = says (c .before .before .before .before .before .before .before .before) in omega arith
@@ -37,7 +38,7 @@ returns c =
     let a = s .args in
     let p = c .before .before .before .before .before .before .before .before .before .before .place-symbols in
     let e = rw (c .before .before .before .plus .ensures) at (c .before .before .write-counts .ensures) in
-    rw e (took (a .header) (a .flow) (a .adu .now) (a .mem .now) (p .last .0) (p .result) (a .count) (c .before .before .before .before .before .before .smaller .result) (s .pre .0) (s .pre .2) (c .before .before .before .before .before .before .smaller .ensures) (p .ensures))
+    rw e (took (a .header) (a .flow) (a .adu .now) (a .mem .now) (p .last .0) (p .result) (a .count) (c .before .before .before .before .before .before .smaller .result) (s .pre .0) (s .pre .1 .counted) (c .before .before .before .before .before .before .smaller .ensures) (p .ensures))
 
 pub take-adu-spec : {M : Type 1} → statement M
 take-adu-spec =

@@ -1,0 +1,224 @@
+-- A memory knows its base by two remainders. States that differ by no more than that are held by the same memories, and calls treat them alike.
+use mathlib.Core.Path.{_≡_, refl, sym, ap, ap₂, _∙_, subst}
+use mathlib.Core.Bool.{Bool, true, false, cond, _&&_}
+use mathlib.Core.Option.{Option, none, some, Option·some-injective}
+use mathlib.Core.List.{List, [], _∷_, map}
+use Prim.Native.Nat.{ℕ, zero, suc, _+_, _-_, _%_, _^_, _≤_, _<_}
+use native.Mathlib.Nat.{mod-add-mod, add-suc, suc-add}
+use native.Mathlib.Omega.{arith}
+use lib.Dec.{ltb, leb}
+use lib.ListN.{length, getD}
+use Rattle.wire.specs.declared.Setting.{Setting}
+use Rattle.wire.specs.Numbers.{within, distanceOf}
+use Rattle.wire.specs.Packets.{symbolCount, sourceSymbols, sourceForm, sourceAdu, sourceEsi, repairForm, repairKey, densityThreshold, protectedCount, firstEsi, repairSymbols}
+use Rattle.coefficients.specs.Coefficients.{keys, listsOf, allOk}
+use Rattle.decoder.specs.Bytes.{Byte, byte, Coded}
+use Rattle.decoder.specs.Model as model
+use Rattle.decoder.specs.Model.{Row, Rref, known}
+use Rattle.decoder.specs.Receiver as decoder
+use Rattle.decoder.specs.Packets as packets
+use Rattle.decoder.specs.Table.{read, slot, view, Echelon}
+use Rattle.elimination.specs.Window as window
+use Rattle.receiver.specs.declared.Header.{Header}
+use Rattle.receiver.specs.Symbol.{symbolOf}
+use Rattle.receiver.specs.History.{Located, source, repair, Place, behind, ahead, placeOf, Call, source-call, repair-call, Reading, fails, located, check, placed, readSource, readRepair, readPacket, workingSize, reading}
+use Rattle.receiver.specs.Model.{equations, packetOf, State, Outcome, refused, done, added, responds, receiving}
+use Rattle.receiver.specs.Layout.{headerOf, Holds}
+
+-- ---- Memory
+
+-- Positions that go on from congruent ones are congruent.
+on : (w b c i : ℕ) → b % w ≡ c % w → (b + i) % w ≡ (c + i) % w
+on w b c i h = sym (mod-add-mod b w i) ∙ ap (λ x. (x + i) % w) h ∙ mod-add-mod c w i
+
+next : (w b c : ℕ) → b % w ≡ c % w → suc b % w ≡ suc c % w
+next w b c h =
+    let e : suc b ≡ b + 1 = omega arith in
+    let g : c + 1 ≡ suc c = omega arith in
+    ap (λ x. x % w) e ∙ on w b c 1 h ∙ ap (λ x. x % w) g
+
+module _ (w E : ℕ) (m : List ℕ) where
+  read-same : (l : List ℕ) (n q p : ℕ) → q % w ≡ p % w → read (window.line w E l) n q ≡ read (window.line w E l) n p
+  unfolding read
+  read-same l zero q p h = refl
+  read-same l (suc n) q p h =
+      ap₂ (λ a x. (a, x)) (ap (λ k. byte (getD l k 0)) h) (read-same l n (suc q) (suc p) (next w q p h))
+
+  view-same : (n q p : ℕ) → q % w ≡ p % w → view (window.table w E m) n q ≡ view (window.table w E m) n p
+  unfolding view
+  view-same zero q p h = refl
+  view-same (suc n) q p h =
+      ap₂ (λ (t : Bool) (r : Row (Coded E) n × model.State (Coded E) n). slot t (r .0) (r .1)) (ap (λ k. window.inUse w E (window.row w E k m)) h)
+      (ap₂ (λ x y. (x, y))
+      (ap (λ k. read (window.line w E (window.row w E k m)) n (suc q)) h ∙ read-same (window.row w E (p % w) m) n (suc q) (suc p) (next w q p h))
+      (view-same n (suc q) (suc p) (next w q p h)))
+
+  echelon-same : (b c : ℕ) → b % w ≡ c % w → Echelon (window.table w E m) b w → Echelon (window.table w E m) c w
+  echelon-same b c h e = record {
+    one-at = λ q x y z.
+        let k = at q x y in
+        ap₂ cell (sym k) (sym k) ∙ e .one-at (b + (q - c)) (omega arith) (omega arith) (ap (λ r. window.inUse w E (window.row w E r m)) k ∙ z);
+    zero-before = λ q x y z j u v.
+        let k = at q x y in
+        ap₂ cell (sym k) (sym (at j u (omega arith)))
+        ∙ e .zero-before (b + (q - c)) (omega arith) (omega arith) (ap (λ r. window.inUse w E (window.row w E r m)) k ∙ z) (b + (j - c)) (omega arith) (omega arith);
+  }
+    where
+      cell : ℕ → ℕ → Byte
+      cell r k = byte (getD (window.row w E r m) k 0)
+
+      at : (q : ℕ) → c ≤ q → q < c + w → (b + (q - c)) % w ≡ q % w
+      at q x y = let g : c + (q - c) ≡ q = omega arith in on w b c (q - c) h ∙ ap (λ z. z % w) g
+
+  window-same : (b c : ℕ) (S : model.State (Coded E) w) → b % w ≡ c % w → window.Window w E m b S → window.Window w E m c S
+  window-same b c S h k = record {
+    echelon = echelon-same b c h (k .echelon);
+    reads = view-same w c b (sym h) ∙ k .reads;
+    flags = k .flags;
+  }
+
+-- ---- States
+
+-- The same window at congruent bases.
+pub record Same (s : Setting) (t u : State s) : Type 0 where
+  pub row : t .base % s .width ≡ u .base % s .width
+  pub esi : t .base % 2 ^ 32 ≡ u .base % 2 ^ 32
+  pub window : t .window ≡ u .window
+
+module _ (s : Setting) where
+  open Setting s using (size as E, width as w)
+
+  header-same : (t u : State s) → Same s t u → headerOf s t ≡ headerOf s u
+  header-same t u k = ap₂ (λ r e. record { setting = s; row = r; base = record { 0 = e } }) (k .row) (k .esi)
+
+  pub holds-same : (m : List ℕ) (t u : State s) → Same s t u → Holds m s t → Holds m s u
+  holds-same m t u k h = record {
+    header = h .header ∙ ap some (header-same t u k);
+    reduced = subst Rref (k .window) (h .reduced);
+    rows = window-same w E m (t .base) (u .base) (u .window) (k .row) (subst (window.Window w E m (t .base)) (k .window) (h .rows));
+  }
+
+  -- What one memory holds is the same.
+  pub held-same : (m : List ℕ) (t u : State s) → Holds m s t → Holds m s u → Same s t u
+  held-same m t u h k =
+      let e : headerOf s t ≡ headerOf s u = Option·some-injective _ _ (sym (h .header) ∙ k .header) in
+      let r = ap (λ (x : Header). x .row) e in
+      record {
+        row = r;
+        esi = ap (λ (x : Header). x .base .0) e;
+        window = sym (h .rows .reads) ∙ view-same w E m w (t .base) (u .base) r ∙ k .rows .reads;
+      }
+
+-- ---- Calls
+
+-- One packet, read at two bases.
+data Shifted (b c : ℕ) : Reading → Reading → Type 0 where
+  both-fail : (n : ℕ) → Shifted b c (fails n) (fails n)
+  both-source : (d : ℕ) (vs : List (List ℕ)) → Shifted b c (located (source (b + d) vs)) (located (source (c + d) vs))
+  both-repair : (d n : ℕ) (cs vs : List (List ℕ)) → Shifted b c (located (repair (b + d) n cs vs)) (located (repair (c + d) n cs vs))
+
+module _ (b c : ℕ) where
+  check-shifted : (t : Bool) (n : ℕ) (r q : Reading) → Shifted b c r q → Shifted b c (check t n r) (check t n q)
+  unfolding check
+  check-shifted true n r q k = k
+  check-shifted false n r q k = both-fail n
+
+  placed-shifted : (n : ℕ) (p : Place) (f g : ℕ → Reading) → ((d : ℕ) → Shifted b c (f d) (g d)) → Shifted b c (placed n p f) (placed n p g)
+  unfolding placed
+  placed-shifted n behind f g k = both-fail 8
+  placed-shifted n (ahead d) f g k = check-shifted (leb (d + n) 65536) 9 (f d) (g d) (k d)
+
+  place-same : (e : ℕ) → b % 2 ^ 32 ≡ c % 2 ^ 32 → placeOf b e ≡ placeOf c e
+  unfolding placeOf
+  place-same e h = ap (λ x. let d = distanceOf e x in cond (ltb d (2 ^ 31)) (ahead d) behind) h
+
+  reading-shifted : (s : Setting) (room : ℕ) (call : Call) → b % 2 ^ 32 ≡ c % 2 ^ 32 → Shifted b c (reading s b room call) (reading s c room call)
+  unfolding reading readSource readRepair
+  reading-shifted s room (source-call flow p) h =
+      let adu = sourceAdu p in
+      let n = symbolCount (s .size) (length adu) in
+      check-shifted (leb (workingSize s) room) 2 _ _
+      (check-shifted (sourceForm p) 5 _ _
+      (check-shifted (leb (length adu) 65535 && leb n (s .width)) 4 _ _
+      (rw (place-same (sourceEsi p) h)
+      (placed-shifted n (placeOf c (sourceEsi p)) _ _ (λ d. both-source d (sourceSymbols flow adu (s .size)))))))
+  reading-shifted s room (repair-call p) h =
+      let dt = densityThreshold p in
+      let n = protectedCount p in
+      let vs = repairSymbols (s .size) p in
+      let ks = keys (repairKey p) (length vs) in
+      check-shifted (leb (workingSize s) room) 2 _ _
+      (check-shifted (repairForm (s .size) p) 5 _ _
+      (check-shifted (within 1 (s .width) n) 6 _ _
+      (rw (place-same (firstEsi p) h)
+      (placed-shifted n (placeOf c (firstEsi p)) _ _
+      (λ d. check-shifted (allOk (s .scheme) dt n ks) 10 _ _ (both-repair d n (listsOf (s .scheme) dt n ks) vs))))))
+
+-- Outcomes that differ by no more than the base.
+pub data Alike (s : Setting) : Outcome s → Outcome s → Type 0 where
+  both-refused : (n : ℕ) → Alike s (refused n) (refused n)
+  both-done : (n : ℕ) (t u : State s) → Same s t u → Alike s (done n t) (done n u)
+
+module _ (s : Setting) where
+  open Setting s using (size as E, width as w)
+
+  -- A packet d ahead of the base b, of n positions.
+  abbrev packet : (b d n : ℕ) → List (Row (Coded E) n) → decoder.Packet (Coded E)
+  packet b d n rows = record { first = b + d; count = n; rows = rows }
+
+  abbrev rise : (d n : ℕ) → ℕ
+  rise d n = (d + n) - w
+
+  abbrev inserted : (d n : ℕ) → List (Row (Coded E) n) → model.State (Coded E) w → Option (model.State (Coded E) w)
+  inserted d n rows S = decoder.insert-all (map (decoder.embed (Coded E) w (d - rise d n) n) rows) (decoder.advance-by (rise d n) S)
+
+  -- What receiving it comes to, by what its place makes of the window.
+  receive-at : (b d n : ℕ) (rows : List (Row (Coded E) n)) (S : model.State (Coded E) w)
+      → decoder.receive (record { base = b; window = S }) (packet b d n rows)
+      ≡ decoder.and-then (inserted d n rows S) (λ T. some (record { base = b + rise d n; window = T }))
+  unfolding decoder.receive decoder.rise
+  receive-at b d n rows S =
+      let k : (b + d + n) - (b + w) ≡ rise d n = omega arith in
+      let j : (b + d) - (b + rise d n) ≡ d - rise d n = omega arith in
+      ap
+      (λ x.
+      decoder.and-then (decoder.insert-all (decoder.over (Coded E) w (b + x) (packet b d n rows)) (decoder.advance-by x S))
+      (λ T. some (record { base = b + x; window = T }))) k
+      ∙ ap
+      (λ x.
+      decoder.and-then (decoder.insert-all (map (decoder.embed (Coded E) w x n) rows) (decoder.advance-by (rise d n) S))
+      (λ T. some (record { base = b + rise d n; window = T }))) j
+
+  newly-at : (b k : ℕ) (S T : model.State (Coded E) w)
+      → decoder.newly (record { base = b; window = S }) (record { base = b + k; window = T }) ≡ decoder.count-new w (known T) (λ i. known S (k + i))
+  unfolding decoder.newly
+  newly-at b k S T = let e : b + k - b ≡ k = omega arith in ap (λ x. decoder.count-new w (known T) (λ i. known S (x + i))) e
+
+  added-alike : (b c k : ℕ) (S : model.State (Coded E) w) (o : Option (model.State (Coded E) w)) → b % w ≡ c % w → b % 2 ^ 32 ≡ c % 2 ^ 32
+      → Alike s (added s (record { base = b; window = S }) (decoder.and-then o (λ T. some (record { base = b + k; window = T }))))
+      (added s (record { base = c; window = S }) (decoder.and-then o (λ T. some (record { base = c + k; window = T }))))
+  added-alike b c k S none h g = both-refused 11
+  added-alike b c k S (some T) h g =
+      rw (newly-at b k S T, newly-at c k S T)
+      (both-done _ _ _ (record { row = on w b c k h; esi = on (2 ^ 32) b c k g; window = refl }))
+
+  packet-alike : (b c d n : ℕ) (rows : List (Row (Coded E) n)) (S : model.State (Coded E) w) → b % w ≡ c % w → b % 2 ^ 32 ≡ c % 2 ^ 32
+      → Alike s (added s (record { base = b; window = S }) (decoder.receive (record { base = b; window = S }) (packet b d n rows)))
+      (added s (record { base = c; window = S }) (decoder.receive (record { base = c; window = S }) (packet c d n rows)))
+  packet-alike b c d n rows S h g =
+      rw (receive-at b d n rows S, receive-at c d n rows S) (added-alike b c (rise d n) S (inserted d n rows S) h g)
+
+  responds-alike : (b c : ℕ) (S : model.State (Coded E) w) (r q : Reading) → b % w ≡ c % w → b % 2 ^ 32 ≡ c % 2 ^ 32 → Shifted b c r q
+      → Alike s (responds s (record { base = b; window = S }) r) (responds s (record { base = c; window = S }) q)
+  unfolding packets.source packets.repair
+  responds-alike b c S r q h g (both-fail n) = both-refused n
+  responds-alike b c S r q h g (both-source d vs) = packet-alike b c d (length vs) _ S h g
+  responds-alike b c S r q h g (both-repair d n cs vs) = packet-alike b c d n _ S h g
+
+  -- A packet call comes to the same.
+  pub receiving-alike : (t u : State s) (room : ℕ) (c : Call) → Same s t u → Alike s (receiving s t room c) (receiving s u room c)
+  unfolding receiving
+  receiving-alike t u room c k =
+      subst (λ S. Alike s (responds s t (reading s (t .base) room c)) (responds s (record { base = u .base; window = S }) (reading s (u .base) room c)))
+      (k .window)
+      (responds-alike (t .base) (u .base) (t .window) _ _ (k .row) (k .esi) (reading-shifted (t .base) (u .base) s room c (k .esi)))

@@ -1,0 +1,90 @@
+-- Every number that a packet call is refused with is that of a refusal, and not 3; a packet that is accepted leaves the window reduced.
+use mathlib.Core.Path.{_≡_, refl, sym, ap, _∙_, subst}
+use mathlib.Core.Logic.{_≢_}
+use mathlib.Core.Bool.{Bool, true, false, _&&_}
+use mathlib.Core.Option.{Option, none, some, Option·none-ne-some, Option·some-injective}
+use mathlib.Core.List.{List}
+use Prim.Native.Nat.{ℕ, _+_, _-_, _<_}
+use native.Mathlib.Omega.{arith}
+use lib.Dec.{leb}
+use lib.ListN.{length}
+use Rattle.wire.specs.declared.Setting.{Setting}
+use Rattle.wire.specs.declared.Refusal.{Refusal}
+use Rattle.wire.specs.declared.Refusal.the-variants.{Short, Long, Form, Range, Behind, Ahead, Draws, Contradiction}
+use Rattle.wire.specs.Numbers.{within, numberOf}
+use Rattle.wire.specs.Packets.{symbolCount, sourceForm, sourceAdu, sourceEsi, repairForm, repairKey, densityThreshold, protectedCount, firstEsi, repairSymbols}
+use Rattle.coefficients.specs.Coefficients.{keys, listsOf, allOk}
+use Rattle.decoder.specs.Bytes.{Coded}
+use Rattle.decoder.specs.Model as model
+use Rattle.decoder.specs.Model.{Rref}
+use Rattle.decoder.specs.Receiver as decoder
+use Rattle.decoder.proofs.Bytes.{laws}
+use Rattle.decoder.proofs.History as history
+use Rattle.receiver.specs.History.{Located, Place, behind, ahead, placeOf, Call, source-call, repair-call, Reading, fails, located, check, placed, readSource, readRepair, workingSize, reading}
+use Rattle.receiver.specs.Model.{packetOf, State, Outcome, refused, done, stateAfter, added, responds, receiving}
+
+-- The number of a refusal that is not 3.
+pub record Named (n : ℕ) : Type 0 where
+  pub refusal : Refusal
+  pub number : numberOf refusal ≡ n
+  pub other : n ≢ 3
+
+named : (r : Refusal) → numberOf r ≢ 3 → Named (numberOf r)
+named r h = record { refusal = r; number = refl; other = h }
+
+abbrev NamedReading : Reading → Type 0
+NamedReading (fails n) = Named n
+NamedReading (located q) = Unit {0}
+
+check-named : (t : Bool) (n : ℕ) (r : Reading) → Named n → NamedReading r → NamedReading (check t n r)
+unfolding check
+check-named true n r a b = b
+check-named false n r a b = a
+
+placed-named : (n : ℕ) (p : Place) (f : ℕ → Reading) → ((d : ℕ) → NamedReading (f d)) → NamedReading (placed n p f)
+unfolding placed
+placed-named n behind f k = named Behind (λ e. absurd (omega (arith, e)))
+placed-named n (ahead d) f k = check-named (leb (d + n) 65536) 9 (f d) (named Ahead (λ e. absurd (omega (arith, e)))) (k d)
+
+reading-named : (s : Setting) (base room : ℕ) (c : Call) → NamedReading (reading s base room c)
+unfolding reading readSource readRepair
+reading-named s base room (source-call flow p) =
+    let n = symbolCount (s .size) (length (sourceAdu p)) in
+    check-named (leb (workingSize s) room) 2 _ (named Short (λ e. absurd (omega (arith, e))))
+    (check-named (sourceForm p) 5 _ (named Form (λ e. absurd (omega (arith, e))))
+    (check-named (leb (length (sourceAdu p)) 65535 && leb n (s .width)) 4 _ (named Long (λ e. absurd (omega (arith, e))))
+    (placed-named n (placeOf base (sourceEsi p)) _ (λ d. tt))))
+reading-named s base room (repair-call p) =
+    let ks = keys (repairKey p) (length (repairSymbols (s .size) p)) in
+    check-named (leb (workingSize s) room) 2 _ (named Short (λ e. absurd (omega (arith, e))))
+    (check-named (repairForm (s .size) p) 5 _ (named Form (λ e. absurd (omega (arith, e))))
+    (check-named (within 1 (s .width) (protectedCount p)) 6 _ (named Range (λ e. absurd (omega (arith, e))))
+    (placed-named (protectedCount p) (placeOf base (firstEsi p)) _
+    (λ d. check-named (allOk (s .scheme) (densityThreshold p) (protectedCount p) ks) 10 _ (named Draws (λ e. absurd (omega (arith, e)))) tt))))
+
+module _ (s : Setting) (e : 0 < s .size) where
+  open Setting s using (size as E, width as w)
+
+  abbrev pub Sound : Outcome s → Type 0
+  Sound (refused n) = Named n
+  Sound (done n t) = Rref (t .window)
+
+  inserted-sound : (t : State s) (b : ℕ) (S : model.State (Coded E) w) (es : List (model.Row (Coded E) w)) (o : Option (model.State (Coded E) w))
+      → history.Added-all (laws E e) S es o → Sound (added s t (decoder.and-then o (λ T. some (record { base = b; window = T }))))
+  inserted-sound t b S es none h = named Contradiction (λ e. absurd (omega (arith, e)))
+  inserted-sound t b S es (some T) h = h .0
+
+  responds-sound : (t : State s) → Rref (t .window) → (r : Reading) → NamedReading r → Sound (responds s t r)
+  unfolding decoder.receive
+  responds-sound t k (fails n) h = h
+  responds-sound t k (located q) h =
+      let d = decoder.rise t (packetOf E q) in
+      let S = decoder.advance-by d (t .window) in
+      let es = decoder.over (Coded E) w (t .base + d) (packetOf E q) in
+      inserted-sound t (t .base + d) S es (decoder.insert-all es S)
+      (history.insert-all-added (laws E e) es S (history.advance-by-rref (laws E e) d (t .window) k))
+
+  -- What a packet call comes to: a refusal with its number, or a reduced window.
+  pub receiving-sound : (t : State s) → Rref (t .window) → (room : ℕ) (c : Call) → Sound (receiving s t room c)
+  unfolding receiving
+  receiving-sound t k room c = responds-sound t k (reading s (t .base) room c) (reading-named s (t .base) room c)
