@@ -10,13 +10,13 @@ use native.Mathlib.Nat.{add-zero}
 use Rattle.decoder.specs.Field.{Ops, Laws}
 use Rattle.decoder.specs.Model.{Row, State, lead, symbol, known}
 use Rattle.decoder.specs.Table.{Line, Table, read, slot, view, Echelon}
-use Rattle.decoder.specs.TableSteps.{add-line, Leads, Places, Moves}
+use Rattle.decoder.specs.TableSteps.{add-line, scale-line, Leads, Places, Moves}
 use Rattle.decoder.proofs.Linear as lin
 use Rattle.decoder.proofs.Refine as refine
 
 module _ {O : Ops} (L : Laws O) where
-  open Ops O using (𝟘, 𝟙, _+_, _*_, zero?)
-  open Laws L using (+-𝟘, *-comm, *-𝟘)
+  open Ops O using (𝟘, 𝟙, _+_, _*_, inv, zero?)
+  open Laws L using (+-𝟘, *-comm, *-𝟘, *-inv, 𝟙≢𝟘)
 
   infixl 50 _+_
   infixl 60 _*_
@@ -24,6 +24,14 @@ module _ {O : Ops} (L : Laws O) where
   unfolding symbol read
   symbol-read e zero q = refl
   symbol-read e (suc n) q = symbol-read e n (suc q)
+
+  -- A line divided by its leading coefficient leads as before.
+  pub leads-scaled : (e : Line O) (q p : ℕ) → Leads e q p → Leads (scale-line (inv (e .cells p)) e) q p
+  unfolding scale-line
+  leads-scaled e q p d = record {
+    below = λ j g l. ap (λ a. inv (e .cells p) * a) (d .below j g l) ∙ *-𝟘 _;
+    here = λ z. 𝟙≢𝟘 (sym (*-inv (e .cells p) (d .here)) ∙ z);
+  }
 
   -- The table stays in echelon form.
 
