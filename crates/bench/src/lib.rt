@@ -1,9 +1,11 @@
-// The row operations under C names, for the driver bench/rows.c. A call whose lengths do not fit does nothing.
+// The row operations and the sender's calls under C names, for the drivers of bench/. A row operation whose lengths do not fit does nothing.
 ghost use mathlib.Core.Path.{_≡_};
 ghost use lib.ListN.{length};
 ghost use Rattle.rows.specs.Rows.{addScaled};
 use field::Gf256;
 use field::tables;
+use sender::Answer;
+use wire::RepairKey;
 
 // dst becomes src.
 #[no_mangle]
@@ -85,4 +87,38 @@ pub extern "C" fn bench_add_combination(dst: &mut [u8], cs: &[u8], mem: &[u8]) {
         return;
     }
     rows::combination::add_combination(dst, cs, mem, 0, s);
+}
+
+// The number that a call of the sender answers; where it is refused, one that no call answers.
+fn answered(answer: Answer) -> usize {
+    match answer {
+        Answer::Done(n) => n,
+        Answer::Refused(_r) => 1000000,
+    }
+}
+
+#[no_mangle]
+pub extern "C" fn bench_sender_open(
+    mem: &mut [u8],
+    scheme: usize,
+    size: usize,
+    width: usize,
+) -> usize {
+    answered(sender::open(mem, scheme, size, width))
+}
+
+#[no_mangle]
+pub extern "C" fn bench_add_adu(mem: &mut [u8], flow: u8, adu: &[u8], out: &mut [u8]) -> usize {
+    answered(sender::add_adu(mem, flow, adu, out))
+}
+
+#[no_mangle]
+pub extern "C" fn bench_make_repair(
+    mem: &[u8],
+    key: u16,
+    dt: usize,
+    count: usize,
+    out: &mut [u8],
+) -> usize {
+    answered(sender::make_repair(mem, RepairKey(key), dt, count, out))
 }

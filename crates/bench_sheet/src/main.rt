@@ -1,6 +1,7 @@
 // Prints cases C1 to C7 and C9 of document 01 and a sender's refusals, as the code computes them: a line for each case, packets in hexadecimal.
 ghost use mathlib.Core.Path.{_≡_};
 ghost use Prim.Native.Nat.{_<_};
+ghost use lib.ListN.{length};
 ghost use Rattle.wire.specs.Numbers.{numberOf};
 use coefficients::Filled;
 use field::Gf256;
@@ -112,6 +113,25 @@ fn print_opening(answer: Answer) {
     }
 }
 
+// The memory of a sender with E 4 and width 2, and room for its packets.
+fn memory_for_two() -> [u8; 40]
+    ensures { λ r. ⌜ length r ≡ 40 ⌝ }
+{
+    [0; 40]
+}
+
+fn output() -> [u8; 12]
+    ensures { λ r. ⌜ length r ≡ 12 ⌝ }
+{
+    [0; 12]
+}
+
+fn hundred_zeros() -> [u8; 100]
+    ensures { λ r. ⌜ length r ≡ 100 ⌝ }
+{
+    [0; 100]
+}
+
 fn field_case(name: &[u8], value: Gf256) {
     print(name);
     print_number(value.0);
@@ -129,8 +149,8 @@ fn coefficients_case(name: &[u8], row: &mut [u8], scheme: Scheme, dt: u8) {
 
 // E 4, F 1, ADUs 41 and 42: two source packets and a repair packet of scheme 9.
 fn packets_case() {
-    let mut mem = [0u8; 40];
-    let mut out = [0u8; 12];
+    let mut mem = memory_for_two();
+    let mut out = output();
     sender::open(&mut mem, 9, 4, 2);
     print(b"C7");
     let first = sender::add_adu(&mut mem, 1, b"\x41", &mut out);
@@ -146,8 +166,8 @@ fn packets_case() {
 
 // E 4, width 2: an ADU of 5 bytes taken, one of 6 refused.
 fn width_case() {
-    let mut mem = [0u8; 40];
-    let mut out = [0u8; 12];
+    let mut mem = memory_for_two();
+    let mut out = output();
     sender::open(&mut mem, 9, 4, 2);
     print(b"C9");
     let taken = sender::add_adu(&mut mem, 1, b"\0\0\0\0\0", &mut out);
@@ -166,9 +186,9 @@ fn print_short(mem: &mut [u8], out: &mut [u8]) {
 
 // A sender's refusals: E = 3; output of 0 bytes for a 1-byte ADU; 100 zero bytes; DT 16; repair straight after opening.
 fn refusals_case() {
-    let mut mem = [0u8; 40];
-    let mut out = [0u8; 12];
-    let zero = [0u8; 100];
+    let mut mem = memory_for_two();
+    let mut out = output();
+    let zero = hundred_zeros();
     print(b"refusals");
     let values = sender::open(&mut mem, 9, 3, 2);
     print_opening(values);

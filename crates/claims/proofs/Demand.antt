@@ -35,14 +35,14 @@ IsValue (refusal n) = ⊥
 module _ (L : Layout) (s : Setting) (v : Valid s) where
   open Setting s using (size as E, width)
 
-  abbrev some-bytes : 0 < E
+  abbrev pub some-bytes : 0 < E
   some-bytes = let h = v .size-least in omega arith
 
   -- The memory holds a state that follows the history.
-  record Stands (m : List ℕ) (l : Log) : Type 0 where
-    state : State s
-    held : L .Holds m s state
-    tracks : Tracks s some-bytes l state
+  pub record Stands (m : List ℕ) (l : Log) : Type 0 where
+    pub state : State s
+    pub held : L .Holds m s state
+    pub tracks : Tracks s some-bytes l state
 
   -- ---- The calls
 
@@ -65,7 +65,7 @@ module _ (L : Layout) (s : Setting) (v : Valid s) where
       let (j, n) = subst (λ y. Judged s l y (said (t .answer)) × Tracks s some-bytes (logged s l y (said (t .answer))) (stateAfter x (responds s x r))) same k in
       (j, record { state = stateAfter x (responds s x r); held = z; tracks = n })
 
-  stands : (ts : List Step) (m : List ℕ) (l : Log) → Stands m l → Run L m ts → Stands (final m ts) (goes-on s l ts)
+  pub stands : (ts : List Step) (m : List ℕ) (l : Log) → Stands m l → Run L m ts → Stands (final m ts) (goes-on s l ts)
   stands [] m l g p = g
   stands (t ∷ ts) m l g p = stands ts (t .memory) _ (step m l t g (p .0) (p .1) .1) (p .2)
 
@@ -147,6 +147,10 @@ module _ (L : Layout) (s : Setting) (v : Valid s) where
         sender = λ memory part q p k all offset f h c n. bytes-shown memory part q p k f h ∙ carried E offset all f c (baseOf l + i) n;
       }
 
+  pub opened-stands : (scheme size w : ℕ) (m₀ m : List ℕ) (a : Answer) → Opened L scheme size w m₀ m a → said a ≡ value 0
+      → settingOf scheme size w ≡ some s → Stands m fresh
+  opened-stands scheme size w m₀ m a p e h = record { state = opened s; held = p .holds s h e; tracks = fresh-tracks s some-bytes }
+
   demand : (m : List ℕ) → Stands m fresh → (ts : List Step) → Run L m ts → Demand-3 L s ts (final m ts)
   demand m g ts p =
       let n = stands ts m fresh g p in
@@ -166,8 +170,7 @@ pub demand-3 : (L : Layout) → Every-list L
 demand-3 L scheme E w m₀ m a p e ts r =
     let (s, h) = had-setting (settingOf scheme E w) (length m₀) (sym (p .answer) ∙ e) in
     let v = setting-names scheme E w s h .valid in
-    let g : Stands L s v m fresh = record { state = opened s; held = p .holds s h e; tracks = fresh-tracks s (some-bytes L s v) } in
-    (s, h, demand L s v m g ts r)
+    (s, h, demand L s v m (opened-stands L s v scheme E w m₀ m a p e h) ts r)
 
 -- ---- No choice
 

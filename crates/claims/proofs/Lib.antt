@@ -6,3 +6,5 @@ pub mod Demand
 pub mod Reading
 pub mod Sent
 pub mod NotEmpty
+pub mod ReceiverUnopened
+pub mod Receiver

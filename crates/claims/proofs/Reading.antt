@@ -66,7 +66,9 @@ module _ (s : Setting) (z : 0 < s .size) (w : s .width â‰¤ 255) (base room d : â
       ))
 
 pub reads : Reads
-reads s z w base room d enough small = record {
-  sources = source-read s z w base room d enough small;
-  repairs = repair-read s z w base room d enough small;
-}
+reads s v base room d enough small =
+    let z : 0 < s .size = omega (arith, v .size-least) in
+    record {
+      sources = source-read s z (v .width-most) base room d enough small;
+      repairs = repair-read s z (v .width-most) base room d enough small;
+    }

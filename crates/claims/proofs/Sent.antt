@@ -10,7 +10,7 @@ use lib.Dec.{lit<}
 use lib.ListN.{length, getD, length-map}
 use Rattle.wire.specs.declared.Setting.{Setting}
 use Rattle.wire.specs.Numbers.{distanceOf}
-use Rattle.wire.specs.Settings.{schemeNumber, settingOf}
+use Rattle.wire.specs.Settings.{schemeNumber, settingOf, Valid}
 use Rattle.wire.specs.Packets.{Sized, symbolCount, sourceSymbols, sourcePacket, sourceAdu, repairPacket, protectedCount}
 use Rattle.wire.proofs.Settings.{setting-names}
 use Rattle.wire.proofs.Reading.{source-adu, source-esi, repair-symbols, repair-key, density-threshold, protected-count, first-esi}
@@ -127,12 +127,12 @@ module _ (s : Setting) (z : 0 < s .size) (all : List (List ℕ)) where
   -- ---- A packet of the sender's ahead of the base is read
 
   read-ahead : (x : Packet) (p : ℕ) → Wrote scheme E all x p → (base : ℕ) → base ≤ p → p + named E x ≤ base + 65536 → named E x ≤ width
-      → width ≤ 255 → (room : ℕ) → workingSize s ≤ room → (q : Located) × (reading s base room (callOf x) ≡ located q)
+      → Valid s → (room : ℕ) → workingSize s ≤ room → (q : Located) × (reading s base room (callOf x) ≡ located q)
   read-ahead x p (wrote-source before after flow adu i j l e) base a b k w room enough =
       let d : ℕ = length before - base in
       let here : base + d ≡ length before = omega arith in
       let n = ap (λ (y : List ℕ). symbolCount E (length y)) (source-adu adu (length before % 2 ^ 32)) in
-      let g = reads s z w base room d enough (omega arith) .sources flow adu l (omega (arith, n)) .taken (omega arith) (omega (arith, n)) in
+      let g = reads s w base room d enough (omega arith) .sources flow adu l (omega (arith, n)) .taken (omega arith) (omega (arith, n)) in
       (_, subst (λ y. reading s base room (source-call flow (sourcePacket adu (y % 2 ^ 32))) ≡ located (source y (sourceSymbols flow adu E))) here g)
   read-ahead x p (wrote-repair before window after key dt count i j u v c d′ ok e) base a b k w room enough =
       let d : ℕ = length before - base in
@@ -141,7 +141,7 @@ module _ (s : Setting) (z : 0 < s .size) (all : List (List ℕ)) where
       let xs = repairs window key dt count in
       let many = repairs-count window key dt count in
       let n = protected-count key dt m (length before % 2 ^ 32) xs (omega arith) (omega arith) in
-      let g = reads s z w base room d enough (omega arith) .repairs key dt m xs i j u (omega (arith, n)) (repairs-sized window key dt count)
+      let g = reads s w base room d enough (omega arith) .repairs key dt m xs i j u (omega (arith, n)) (repairs-sized window key dt count)
       (omega (arith, many)) (omega (arith, many)) (rw many ok) .taken (omega arith) (omega (arith, n)) in
       (_, subst (λ y. reading s base room (repair-call (repairPacket key dt m (y % 2 ^ 32) xs)) ≡ located (repair y m (listsOf scheme dt m (keys key (length xs))) xs)) here g)
 
@@ -159,7 +159,7 @@ run-bytes t l r = go (settingOf (schemeNumber (t .scheme)) (t .size) (t .width))
     go (some u) e k = let n = setting-names _ _ _ u e in omega (arith, n .size, n .valid .size-least)
 
 pub sender-fills : Sender-fills
-sender-fills s z all ts w f c = filled s z all ts fresh w f c tt
+sender-fills s v all ts w f c = filled s (omega (arith, v .size-least)) all ts fresh w f c tt
 
 module _ (t s : Setting) (l : List SenderCall) (k : Peers t s l) where
   abbrev all : List (List ℕ)
@@ -175,7 +175,7 @@ module _ (t s : Setting) (l : List SenderCall) (k : Peers t s l) where
   carries = filler-carries (s .size) all (subst (λ E. AreSymbols E (symbolsOf E l)) (k .size) (sender-symbols t l (k .run)))
 
   accepted : (ts : List Step) → AsWritten s all fresh ts → All (s .size) (history s ts .accepted) f
-  accepted ts w = sender-fills s some-bytes all ts w f carries
+  accepted ts w = filled s some-bytes all ts fresh w f carries tt
 
 pub sent-accepted : Sent-accepted
 sent-accepted t s l k v ts w x p o a b c room enough r j =

@@ -45,8 +45,8 @@ module _ (L : Layout) (s : Setting) (m : List ℕ) where
     pub nothing : (memory part : RefT (List ℕ)) → now memory ≡ m → PartShown L memory part (esi (base + d)) → now part ≡ []
 
 -- Each call of the list, after the calls before it, is answered as the history asks.
-abbrev pub Calls : Setting → List Step → Type 0
-Calls s ts =
+abbrev pub Answered : Setting → List Step → Type 0
+Answered s ts =
     (before : List Step) (t : Step) (after : List Step) → ts ≡ before ++ (t ∷ after)
     → Judged s (history s before) (read s (history s before) t) (said (t .answer))
 
@@ -54,7 +54,7 @@ Calls s ts =
 pub record Demand-3 (L : Layout) (s : Setting) (ts : List Step) (m : List ℕ) : Type 0 where
   -- A packet is accepted exactly when it passes the checks of form, place and coefficients and some filling of the whole stream satisfies it and
   -- every packet accepted before; else its call answers the number of the first check that fails, or 11.
-  pub calls : Calls s ts
+  pub calls : Answered s ts
   -- At least one filling satisfies every accepted packet.
   pub consistent : Consistent (s .size) (history s ts .accepted)
   -- A position in the window has its symbol shown exactly when all such fillings hold the same bytes there, and those are shown.
@@ -78,5 +78,5 @@ Alike (t ∷ ts) (u ∷ us) = (t .call ≡ u .call) × (length (t .working) ≡ 
 -- Demand 3 leaves a receiver no choice: two that meet it answer the same calls alike.
 abbrev pub No-choice : Type 0
 No-choice =
-    (s : Setting) (ts us : List Step) → Alike ts us → Calls s ts → Calls s us
+    (s : Setting) (ts us : List Step) → Alike ts us → Answered s ts → Answered s us
     → map (λ t. said (t .answer)) ts ≡ map (λ u. said (u .answer)) us

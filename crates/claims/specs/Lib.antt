@@ -7,4 +7,6 @@ pub mod Demand
 pub mod Sent
 pub mod Reading
 pub mod NotEmpty
+pub mod ReceiverUnopened
+pub mod Receiver
 pub mod ReceiverBench

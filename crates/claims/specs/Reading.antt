@@ -5,6 +5,7 @@ use mathlib.Core.List.{List}
 use Prim.Native.Nat.{ℕ, _+_, _%_, _^_, _≤_, _<_}
 use lib.ListN.{length}
 use Rattle.wire.specs.declared.Setting.{Setting}
+use Rattle.wire.specs.Settings.{Valid}
 use Rattle.wire.specs.Packets.{Sized, symbolCount, sourceSymbols, sourcePacket, repairPacket}
 use Rattle.coefficients.specs.Coefficients.{keys, listsOf, allOk}
 use Rattle.receiver.specs.History.{Located, source, repair, source-call, repair-call, Reading, fails, located, workingSize, reading}
@@ -28,4 +29,4 @@ pub record Read-as-written (s : Setting) (base room d : ℕ) : Type 0 where
 
 abbrev pub Reads : Type 0
 Reads =
-    (s : Setting) → 0 < s .size → s .width ≤ 255 → (base room d : ℕ) → workingSize s ≤ room → d < 2 ^ 32 → Read-as-written s base room d
+    (s : Setting) → Valid s → (base room d : ℕ) → workingSize s ≤ room → d < 2 ^ 32 → Read-as-written s base room d

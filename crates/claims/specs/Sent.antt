@@ -5,6 +5,7 @@ use denote.Ref.{RefT, now}
 use Prim.Native.Nat.{ℕ, _+_, _^_, _≤_, _<_}
 use lib.ListN.{length, getD}
 use Rattle.wire.specs.declared.Setting.{Setting}
+use Rattle.wire.specs.Settings.{Valid}
 use Rattle.wire.specs.Packets.{symbolCount, sourceAdu, protectedCount}
 use Rattle.receiver.specs.declared.Answer.{Answer}
 use Rattle.receiver.specs.History.{Filling, All, Call, source-call, repair-call, workingSize, reading, Log, fresh, baseOf, Said, value, IsValue, logged, Judged}
@@ -40,7 +41,7 @@ module _ (s : Setting) (all : List (List ℕ)) where
 -- Then the sender's symbols, with any bytes after them, are a filling that satisfies them.
 abbrev pub Sender-fills : Type 0
 Sender-fills =
-    (s : Setting) → 0 < s .size → (all : List (List ℕ)) (ts : List Step) → AsWritten s all fresh ts
+    (s : Setting) → Valid s → (all : List (List ℕ)) (ts : List Step) → AsWritten s all fresh ts
     → (f : Filling (s .size)) → Carries (s .size) 0 all f → All (s .size) (history s ts .accepted) f
 
 -- A list of a sender's calls, and a receiver of the same scheme and E.
@@ -52,7 +53,7 @@ pub record Peers (t s : Setting) (l : List SenderCall) : Type 0 where
 -- Every packet of the sender's that lies ahead of the base, not too far, and names no more symbols than the window has, is accepted.
 abbrev pub Sent-accepted : Type 0
 Sent-accepted =
-    (t s : Setting) (l : List SenderCall) → Peers t s l → s .width ≤ 255 → (ts : List Step) → AsWritten s (symbolsOf (s .size) l) fresh ts
+    (t s : Setting) (l : List SenderCall) → Peers t s l → Valid s → (ts : List Step) → AsWritten s (symbolsOf (s .size) l) fresh ts
     → (x : Packet) (p : ℕ) → Wrote (s .scheme) (s .size) (symbolsOf (s .size) l) x p
     → baseOf (history s ts) ≤ p → p + named (s .size) x ≤ baseOf (history s ts) + 65536 → named (s .size) x ≤ s .width
     → (room : ℕ) → workingSize s ≤ room → (a : Said) → Judged s (history s ts) (reading s (baseOf (history s ts)) room (callOf x)) a → IsValue a

@@ -6,7 +6,7 @@ use Prim.Native.Nat.{ℕ, zero, suc, _+_, _-_, _*_, _≤_, _<_}
 use native.Mathlib.Nat.{le-of-eq, le-of-suc-le-suc, not-suc-le-zero, suc-mul, zero-mul}
 use native.Mathlib.Numerals.{add-one}
 use native.Mathlib.Omega.{arith}
-use lib.ListN.{length, take, drop, getD, set, length-append, length-take, take-append-drop}
+use lib.ListN.{length, take, drop, getD, set, replicate, length-append, length-replicate, length-take, take-append-drop}
 use lib.Seq.{take-suc-set, take-all, take-at, drop-at, drop-drop}
 use Rattle.tinymt.specs.Generator.{startOf}
 use Rattle.memory.specs.Part.{part, splice}
@@ -15,12 +15,13 @@ use Rattle.wire.specs.Numbers.{keyAfter}
 use Rattle.wire.specs.Packets.{joined, chunks}
 use Rattle.wire.proofs.Settings.{both}
 use Rattle.wire.specs.declared.Scheme.{Scheme}
+use Rattle.wire.specs.declared.Scheme.the-variants.{Gf2}
 use Rattle.coefficients.specs.declared.Coefficient.{Coefficient}
 use Rattle.coefficients.specs.declared.Filled.{Filled}
 use Rattle.coefficients.specs.declared.Filled.the-variants.{Done, Refused}
 use Rattle.coefficients.specs.Coefficients.{coefficientOf, Coefficients, coefficientsOf, keys, listsOf, allOk}
 use Rattle.coefficients.specs.Promises.{filledOf, Fills, FillsLists}
-use Rattle.coefficients.proofs.Lists.{extend-ok, list-more, list-length, refused-stays, length-keys}
+use Rattle.coefficients.proofs.Lists.{extend-ok, list-more, list-length, refused-stays, ones, length-keys}
 
 -- the first i bytes of out are the first i coefficients, none was refused, and state are the words after them
 pub record Partly (scheme : Scheme) (key dt : ℕ) (out state : List ℕ) (i : ℕ) : Type 0 where
@@ -66,6 +67,15 @@ done-true false h = cc
 refused-false : (b : Bool) → Refused ≡ filledOf b → b ≡ false
 refused-false true h = cc
 refused-false false h = refl
+
+-- all ones, where GF(2) has the density threshold 15
+pub fills-ones : (scheme : Scheme) (key dt : ℕ) (out out′ : List ℕ) → scheme ≡ Gf2 → dt ≡ 15 → out′ ≡ replicate (length out) 1
+    → Fills (coefficientsOf scheme key dt (length out)) out Done out′
+fills-ones scheme key dt out out′ q d e = rw (q, d, e, ones key (length out)) (record {
+  answer = refl;
+  size = length-replicate (length out) 1;
+  bytes = λ _. refl;
+})
 
 module _ {l : Coefficients} {out : List ℕ} {r : Filled} {out′ : List ℕ} (f : Fills l out r out′) where
   pub fills-was-done : r ≡ Done → l .ok ≡ true

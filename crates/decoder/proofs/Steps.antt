@@ -25,7 +25,6 @@ module _ {O : Ops} (L : Laws O) where
   symbol-read e zero q = refl
   symbol-read e (suc n) q = symbol-read e n (suc q)
 
-  -- A line divided by its leading coefficient leads as before.
   pub leads-scaled : (e : Line O) (q p : ℕ) → Leads e q p → Leads (scale-line (inv (e .cells p)) e) q p
   unfolding scale-line
   leads-scaled e q p d = record {

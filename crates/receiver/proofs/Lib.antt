@@ -8,3 +8,7 @@ pub mod Building
 pub mod Congruent
 pub mod Naming
 pub mod Headers
+pub mod Finding
+pub mod Opening
+pub mod Locating
+pub mod Finishing

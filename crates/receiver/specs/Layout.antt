@@ -22,9 +22,9 @@ pub record Holds (m : List ℕ) (s : Setting) (t : State s) : Type 0 where
   pub reduced : Rref (t .window)
   pub rows : window.Window (s .width) (s .size) m (t .base) (t .window)
 
--- Where the symbol at a position stands: after the coefficients of its row.
-abbrev pub place : Setting → ℕ → ℕ
-place s p = window.place (s .width) (s .size) (p % s .width) + s .width
+-- Where the symbol at a position starts: after the coefficients of its row.
+abbrev pub symbolStart : Setting → ℕ → ℕ
+symbolStart s p = window.place (s .width) (s .size) (p % s .width) + s .width
 
 abbrev pub receiverLayout : Layout
-receiverLayout = record { Holds = Holds; place = place }
+receiverLayout = record { Holds = Holds; symbolStart = symbolStart }

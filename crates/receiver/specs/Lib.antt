@@ -4,3 +4,5 @@ pub mod Model
 pub mod Header
 pub mod Promises
 pub mod Layout
+pub mod Inner
+pub mod Steps

@@ -30,8 +30,8 @@ said (Refused r) = refusal (numberOf r)
 pub record Layout : Type 1 where
   -- The memory holds the state of a receiver that was opened with the setting.
   pub Holds : List ℕ → (s : Setting) → State s → Type 0
-  -- Where in the memory the symbol at a position stands.
-  pub place : Setting → (position : ℕ) → ℕ
+  -- Where in the memory the symbol at a position starts.
+  pub symbolStart : Setting → (position : ℕ) → ℕ
 
 -- A memory keeps its length, and its bytes past a size.
 pub record Contained (size : ℕ) (m m′ : List ℕ) : Type 0 where
@@ -44,7 +44,7 @@ opening none room = refusal 1
 opening (some s) room = cond (ltb room (memorySize s)) (refusal 2) (value 0)
 
 module _ (L : Layout) where
-  open Layout L using (Holds, place)
+  open Layout L using (Holds, symbolStart)
 
   -- Opening with a scheme, E and width.
   pub record Opened (scheme E w : ℕ) (m m′ : List ℕ) (a : Answer) : Type 0 where
@@ -79,7 +79,7 @@ module _ (L : Layout) where
 
   -- A known symbol is shown as the part of the memory that holds it; else the part is empty.
   abbrev pub Shows : (s : Setting) → Finding (s .size) → (m part : RefT (List ℕ)) → Type 0
-  Shows s (shows p v) m part = (now part ≡ bytesOf (s .size) v) × LiesAt part m (place s p) (s .size)
+  Shows s (shows p v) m part = (now part ≡ bytesOf (s .size) v) × LiesAt part m (symbolStart s p) (s .size)
   Shows s (hides n) m part = now part ≡ []
 
   -- The call for the part, for the ESI e: on any memory the part is empty, or lies in it; it is empty where the symbol call says 3.

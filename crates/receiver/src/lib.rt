@@ -1,4 +1,14 @@
-// The receiver: its calls, and what they answer.
+// The receiver: opening, and the two calls that show a symbol (RFC 8681, section 3.4; document 01).
+ghost use mathlib.Core.Path.{_≡_};
+ghost use Rattle.receiver.specs.Promises.{Opened, SymbolAnswered, PartShown};
+ghost use Rattle.receiver.specs.Layout.{receiverLayout};
+
+mod find;
+mod front;
+mod packet;
+
+use elimination::Shape;
+use wire::Checked;
 use wire::Esi;
 use wire::Refusal;
 use wire::Setting;
@@ -14,4 +24,58 @@ pub struct Header {
     pub setting: Setting,
     pub row: usize,
     pub base: Esi,
+}
+
+// The header that a memory has, if it has one.
+pub enum Found {
+    HeaderIs(Header),
+    NoHeader,
+}
+
+// Where a known symbol stands and how many bytes it has, or why none is shown.
+pub enum Spot {
+    At(usize, usize),
+    Nowhere(Refusal),
+}
+
+// Opens a receiver in the memory.
+pub fn open(mem: &mut [u8], scheme: usize, size: usize, width: usize) -> Answer
+    ensures { λ r. ⌜ Opened receiverLayout scheme size width (now (mem .entry)) (now (mem .exit)) r ⌝ }
+{
+    let Checked::Good(setting) = wire::setting_of(scheme, size, width) else {
+        return Answer::Refused(Refusal::Values);
+    };
+    if mem.len() < front::memory_size(setting) {
+        return Answer::Refused(Refusal::Short);
+    }
+    front::write_header(mem, setting);
+    elimination::place::clear(
+        mem,
+        Shape {
+            width: setting.width,
+            size: setting.size,
+            base: 0,
+        },
+    );
+    Answer::Done(0)
+}
+
+// Whether the symbol with an ESI is known.
+pub fn symbol(mem: &[u8], esi: Esi) -> Answer
+    ensures { λ r. ⌜ SymbolAnswered receiverLayout (now (mem .entry)) (esi .0) r ⌝ }
+{
+    match find::find(mem, esi) {
+        Spot::At(_, _) => Answer::Done(0),
+        Spot::Nowhere(n) => Answer::Refused(n),
+    }
+}
+
+// The part of the memory that holds the symbol with an ESI; empty where the symbol call refuses.
+pub fn symbol_part(mem: &[u8], esi: Esi) -> &[u8]
+    ensures { λ r. ⌜ PartShown receiverLayout (mem .entry) r (esi .0) ⌝ }
+{
+    match find::find(mem, esi) {
+        Spot::At(at, n) => memory::part(mem, at, n),
+        Spot::Nowhere(_) => memory::part(mem, 0, 0),
+    }
 }

@@ -1,65 +1,50 @@
--- `coefficients::fill` meets its contract. The loop's invariant: the bytes before i are the first i coefficients (`Partly`).
-use mathlib.Core.Path.{_≡_, refl, sym}
-use Prim.Native.Nat.{_≤_, _-_}
-use native.Mathlib.Omega.{arith}
-use lib.ListN.{length, length-set}
-use borrow.Author.Tests.{not-true, not-false}
+-- `coefficients::fill` meets its contract: all ones, or what `draw_list` promises.
 use borrow.Author.Needs.{needs}
-use Rattle.coefficients.proofs.Fills.{Partly, partly-none, partly-more, partly-refused, partly-all, fills-done, fills-refused}
-use denote.Ref.{now}
+use Rattle.coefficients.proofs.Fills.{fills-ones}
 use Rattle.coefficients.proofs.fill.Statement.{statement}
 use Rattle.coefficients.proofs.fill.Tie as tie
 
-abbrev Inv-loop : tie.InvT-loop
-Inv-loop out₀ scheme dt seed state₀ n i₀ out state i = (i ≤ n) × (length out ≡ n) × Partly scheme seed dt out state i
+-- src/lib.rt:139:12
+enum-told : tie.Need-enum-told
+enum-told c = search needs
 
-abbrev μ-loop : tie.MeasureT-loop
-μ-loop out₀ scheme dt seed state₀ n i₀ out state i = n - i
+-- src/lib.rt:140:13
+fill-requires : tie.Need-fill-requires
+fill-requires c κs = search needs
 
-loop-holds : tie.Need-loop-holds Inv-loop μ-loop
-loop-holds c = (omega arith, refl, partly-none _ _ _ _ (c .start .ensures))
+-- src/lib.rt:141:13
+same-length : tie.Need-same-length
+same-length c = search needs
 
-same-length : tie.Need-same-length Inv-loop μ-loop
-same-length c = c .before .before .before .before .loop .inv .1
-
-returns : tie.Need-returns Inv-loop μ-loop
+-- src/lib.rt:141:13
+returns : tie.Need-returns
 returns c =
-    let p = c .before .before .before .before .loop .inv in
-    let q = c .before .before .before .loop-test .taken in
-    fills-refused (partly-refused (p .2) (c .before .before .next-coefficient .ensures) _ q (not-true _ (c .if1 .taken))) (p .1)
+    fills-ones _ _ _ _ _ (c .before .before .before .before .before .enum-told .given .1) (c .before .before .before .before .if1 .taken) (c .before .before .fill .ensures)
 
-loop-again : tie.Need-loop-again Inv-loop μ-loop
-loop-again c =
-    let p = c .before .before .before .before .before .loop .inv in (
-      omega arith,
-      simp length-set (p .1),
-      partly-more (p .2) (c .before .before .before .next-coefficient .ensures) (omega arith) (not-false _ (c .before .if1 .left)),
-    )
+enum-told-2 : tie.Need-enum-told-2
+enum-told-2 c = search needs
 
-same-length-2 : tie.Need-same-length-2 Inv-loop μ-loop
-same-length-2 c = c .before .loop .inv .1
+-- src/lib.rt:144:5
+draw-list-requires : tie.Need-draw-list-requires
+draw-list-requires c κs = search needs
 
-returns-2 : tie.Need-returns-2 Inv-loop μ-loop
-returns-2 c =
-    let e : c .before .loop .i ≡ length (now (c .before .before .before .before .before .args .out)) = omega arith in
-    let f = rw e at (c .before .loop .inv .2) in
-    fills-done (f .ok) (c .before .loop .inv .1) (partly-all f (sym (c .before .loop .inv .1)))
+-- src/lib.rt:135:1
+same-length-2 : tie.Need-same-length-2
+same-length-2 c = search needs
+
+-- src/lib.rt:135:1
+returns-2 : tie.Need-returns-2
+returns-2 c = search needs
 
 pub fill-spec : {M : Type 1} → statement M
 fill-spec =
     tie.close
     (tie.spec
-    Inv-loop
-    μ-loop
-    (λ c. search needs)
-    (λ c κs. search needs)
-    loop-holds
-    (λ c κs. search needs)
+    enum-told
+    fill-requires
     same-length
     returns
-    (λ c. omega arith)
-    (λ c. omega arith)
-    (λ c. omega arith)
-    loop-again
+    enum-told-2
+    draw-list-requires
     same-length-2
     returns-2)

@@ -1,0 +1,20 @@
+-- All claims of the receiver hold.
+use Rattle.receiver.specs.Layout.{receiverLayout}
+use Rattle.claims.specs.Receiver.{Receiver-claims}
+use Rattle.claims.proofs.Demand.{demand-3, no-choice}
+use Rattle.claims.proofs.Reading.{reads}
+use Rattle.claims.proofs.Sent.{sender-fills, sent-accepted, sent-shown}
+use Rattle.claims.proofs.NotEmpty.{runs-exist}
+use Rattle.claims.proofs.ReceiverUnopened.{receiver-unopened}
+
+pub receiver-claims : Receiver-claims
+receiver-claims = record {
+  demand-3 = demand-3 receiverLayout;
+  no-choice = no-choice;
+  runs-exist = runs-exist;
+  reads = reads;
+  sender-fills = sender-fills;
+  sent-accepted = sent-accepted;
+  sent-shown = sent-shown receiverLayout;
+  unopened = receiver-unopened;
+}

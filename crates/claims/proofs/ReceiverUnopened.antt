@@ -1,0 +1,30 @@
+-- What refusal 3 stands for at a receiver.
+use mathlib.Core.Path.{_≡_, sym, _∙_}
+use mathlib.Core.Option.{some}
+use mathlib.Core.List.{List}
+use Prim.Native.Nat.{ℕ, _<_}
+use native.Mathlib.Omega.{arith}
+use lib.ListN.{length}
+use Rattle.wire.specs.declared.Setting.{Setting}
+use Rattle.wire.specs.Settings.{settingOf}
+use Rattle.wire.proofs.Settings.{setting-names}
+use Rattle.sender.specs.State as sender
+use Rattle.sender.proofs.Heads as heads
+use Rattle.receiver.specs.History.{fresh}
+use Rattle.receiver.specs.Layout.{headerOf, Holds, receiverLayout}
+use Rattle.receiver.proofs.Headers.{headed, zeros-unopened, other-unopened, short-unopened}
+use Rattle.claims.specs.ReceiverUnopened.{Receiver-unopened}
+use Rattle.claims.proofs.Demand.{had-setting, Stands, stands, opened-stands}
+
+pub receiver-unopened : Receiver-unopened
+receiver-unopened = record {
+  zero = zeros-unopened;
+  of-sender = λ m x h. other-unopened 1 m (x .setting) (λ e. omega arith) (heads.opened m (sender.headerOf x) (h .header) .setting);
+  to-sender = λ m s t h. heads.other-unopened 2 m s (λ e. omega arith) (headed m (headerOf s t) (h .header) .setting);
+  short = λ m s t n h l. short-unopened m (headerOf s t) n (h .header) l;
+  never = λ scheme E w m₀ m a p e ts r.
+      let (s, h) = had-setting (settingOf scheme E w) (length m₀) (sym (p .answer) ∙ e) in
+      let v = setting-names scheme E w s h .valid in
+      let g = stands receiverLayout s v ts m fresh (opened-stands receiverLayout s v scheme E w m₀ m a p e h) r in
+      (headerOf s (g .state), g .held .header);
+}

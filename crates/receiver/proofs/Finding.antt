@@ -1,0 +1,227 @@
+-- From what the code reads in the memory to what the symbol calls promise.
+use mathlib.Core.Path.{_≡_, refl, sym, ap, _∙_, subst}
+use mathlib.Core.Logic.{_≢_, _⊎_, inl, inr}
+use mathlib.Core.Bool.{Bool, true, false}
+use mathlib.Core.Option.{Option, none, some, Option·none-ne-some, Option·some-injective}
+use mathlib.Core.List.{List, []}
+use denote.Ref.{RefT, now}
+use Prim.Native.Nat.{ℕ, _+_, _-_, _*_, _%_, _^_, _≤_, _<_}
+use native.Mathlib.Nat.{mod-eq-of-lt, mod-eq-sub-mod, mod-add-mod, mul-le-mul, mul-le-mul-right, suc-mul}
+use native.Mathlib.Omega.{arith}
+use lib.Dec.{ltb}
+use lib.ListN.{length}
+use borrow.Author.Tests.{lt-ltb, le-ltb}
+use Rattle.memory.specs.Part.{part, LiesAt}
+use Rattle.memory.specs.Number.{Bytes}
+use Rattle.wire.specs.declared.Setting.{Setting}
+use Rattle.wire.specs.declared.Refusal.{Refusal}
+use Rattle.wire.specs.declared.Refusal.the-variants.{Unopened, Behind, Unknown}
+use Rattle.wire.specs.Numbers.{distanceOf, numberOf}
+use Rattle.decoder.specs.Model.{known}
+use Rattle.elimination.specs.Window as window
+use Rattle.elimination.specs.Place.{Known}
+use Rattle.elimination.proofs.Showing.{symbol-bytes}
+use Rattle.receiver.specs.declared.Answer.the-variants.{Done, Refused}
+use Rattle.receiver.specs.declared.Header.{Header}
+use Rattle.receiver.specs.declared.Spot.{Spot}
+use Rattle.receiver.specs.declared.Spot.the-variants.{At, Nowhere}
+use Rattle.receiver.specs.Symbol.{Symbol, bytesOf}
+use Rattle.receiver.specs.History.{behind, ahead, placeOf, Said, value, refusal}
+use Rattle.receiver.specs.Model.{State, Finding, shows, hides, shown, symbolIn, finding}
+use Rattle.receiver.specs.Header.{headerIn}
+use Rattle.receiver.specs.Promises.{said, Finds, SymbolAnswered, Shows, PartShown}
+use Rattle.receiver.specs.Layout.{headerOf, Holds, receiverLayout}
+use Rattle.receiver.specs.Inner.{RowOf, SpottedFor, Spotted}
+use Rattle.receiver.proofs.Headers.{Headed, headed, header-fits}
+
+-- ---- The row of a position
+
+pub row-near : (row d width : ℕ) → row + d < width → RowOf row d width (row + d)
+row-near row d width h = record { is = sym (mod-eq-of-lt h); small = h }
+
+pub row-wrapped : (row d width : ℕ) → row < width → d < width → width ≤ row + d → RowOf row d width (row + d - width)
+row-wrapped row d width a b h = record { is = sym (mod-eq-sub-mod h ∙ mod-eq-of-lt (omega arith)); small = omega arith }
+
+-- A row lies below the window's area.
+pub row-area : (w E r : ℕ) → r < w → w ≤ 255 → E ≤ 1500 → r * (w + E + 4) ≤ 448545
+row-area w E r h a b =
+    let x : r ≤ 255 = omega arith in
+    let y : w + E + 4 ≤ 1759 = omega arith in
+    mul-le-mul x y
+
+-- ---- What is found
+
+pub finds-unopened : (m : List ℕ) (e : ℕ) → headerIn m ≡ none → Spotted m e (Nowhere Unopened)
+finds-unopened m e h = record {
+  unopened = λ _. refl;
+  lies = λ x k. absurd (Option·none-ne-some x (sym h ∙ k));
+  told = λ s t k. absurd (Option·none-ne-some _ (sym h ∙ k .header));
+}
+
+module _ (m : List ℕ) (e : ℕ) (h : Header) (k : headerIn m ≡ some h) where
+  abbrev d : ℕ
+  d = distanceOf e (h .base .0)
+
+  open Setting (h .setting) using (width, size)
+
+  -- A state that the memory holds has the header's setting and numbers.
+  of-header : (P : (s : Setting) → State s → Type 0)
+      → ((t : State (h .setting)) → Holds m (h .setting) t → h .row ≡ t .base % width → h .base .0 ≡ t .base % 2 ^ 32 → P (h .setting) t)
+      → (s : Setting) (t : State s) → Holds m s t → P s t
+  of-header P f s t g =
+      let i : h ≡ headerOf s t = Option·some-injective _ _ (sym k ∙ g .header) in
+      subst
+      (λ (x : Header).
+      (t : State (x .setting)) → Holds m (x .setting) t → h .row ≡ t .base % x .setting .width → h .base .0 ≡ t .base % 2 ^ 32 → P (x .setting) t)
+      i f t g (ap (λ (x : Header). x .row) i) (ap (λ (x : Header). x .base .0) i)
+
+  -- Nowhere, where the place alone says so.
+  hidden : (x : Refusal) → numberOf x ≢ 3
+      → ((t : State (h .setting)) → h .base .0 ≡ t .base % 2 ^ 32 → finding (h .setting) t e ≡ hides (numberOf x)) → Spotted m e (Nowhere x)
+  hidden x n f = record {
+    unopened = λ z. absurd (Option·none-ne-some h (sym z ∙ k));
+    lies = λ y z. n;
+    told = of-header (λ s t. SpottedFor m e s t (Nowhere x)) (λ t g r b. f t b);
+  }
+
+  pub finds-behind : 2 ^ 31 ≤ d → Spotted m e (Nowhere Behind)
+  unfolding finding placeOf
+  finds-behind l =
+      hidden Behind (λ z. absurd (omega (arith, z)))
+      (λ t b. rw (le-ltb (distanceOf e (t .base % 2 ^ 32)) (2 ^ 31) (subst (λ x. 2 ^ 31 ≤ distanceOf e x) b l)))
+
+  pub finds-past : d < 2 ^ 31 → width ≤ d → Spotted m e (Nowhere Unknown)
+  unfolding finding placeOf
+  finds-past n l =
+      hidden Unknown (λ z. absurd (omega (arith, z)))
+      (λ t b.
+      rw (
+        lt-ltb (distanceOf e (t .base % 2 ^ 32)) (2 ^ 31) (subst (λ x. distanceOf e x < 2 ^ 31) b n),
+        le-ltb (distanceOf e (t .base % 2 ^ 32)) width (subst (λ x. width ≤ distanceOf e x) b l),
+      ))
+
+  module _ (near : d < 2 ^ 31) (inside : d < width) (r : ℕ) (w : RowOf (h .row) d width r) where
+    -- In the window the symbol call goes by what is known there.
+    looked : (t : State (h .setting)) → h .base .0 ≡ t .base % 2 ^ 32 → finding (h .setting) t e ≡ shown (h .setting) (t .base + d) (known (t .window) d)
+    unfolding finding placeOf
+    looked t b = rw (← b, lt-ltb d (2 ^ 31) near, lt-ltb d width inside)
+
+    here : (t : State (h .setting)) → h .row ≡ t .base % width → (t .base + d) % width ≡ r
+    here t a = sym (mod-add-mod (t .base) width d) ∙ ap (λ x. (x + d) % width) (sym a) ∙ sym (w .is)
+
+    unknown : Known width size r false m → Spotted m e (Nowhere Unknown)
+    unknown u = record {
+      unopened = λ z. absurd (Option·none-ne-some h (sym z ∙ k));
+      lies = λ y z x. absurd (omega (arith, x));
+      told = of-header (λ s t. SpottedFor m e s t (Nowhere Unknown))
+          (λ t g a b. looked t b ∙ ap (shown (h .setting) (t .base + d)) (u (t .base) d (t .window) inside (here t a) (g .rows)));
+    }
+
+    row-ends : window.place width size r + window.stride width size ≤ length m
+    row-ends =
+        let f = header-fits m h k in
+        omega (arith, f .room, mul-le-mul-right (window.stride width size) (w .small), suc-mul r (window.stride width size))
+
+    symbol-is : Bytes m → bytesOf size (window.line width size (window.row width size r m) .sym) ≡ part (window.place width size r + width) size m
+    symbol-is b = symbol-bytes width size r m (header-fits m h k) (w .small) b
+
+    known-at : Bytes m → Known width size r true m → Spotted m e (At (window.place width size r + width) size)
+    known-at b u = record {
+      unopened = λ z. absurd (Option·none-ne-some h (sym z ∙ k));
+      lies = λ y z. let i : h ≡ y = Option·some-injective _ _ (sym k ∙ z) in (ap (λ (x : Header). x .setting .size) i, omega (arith, row-ends));
+      told = of-header (λ s t. SpottedFor m e s t (At (window.place width size r + width) size))
+          (λ t g a c. (
+            t .base + d,
+            window.line width size (window.row width size r m) .sym,
+            looked t c ∙ ap (shown (h .setting) (t .base + d)) (u (t .base) d (t .window) inside (here t a) (g .rows)),
+            symbol-is b,
+            ap (λ x. window.place width size x + width) (sym (here t a)),
+            refl,
+          ));
+    }
+
+  -- The same with the distance, the row and the test as the code has them.
+  module _ (x : ℕ) (q : x ≡ d) (near : x < 2 ^ 31) (inside : x < width) (r : ℕ) (w : RowOf (h .row) x width r) (t : Bool) (u : Known width size r t m) where
+    row-is : RowOf (h .row) d width r
+    row-is = subst (λ y. RowOf (h .row) y width r) q w
+
+    pub finds-unknown : t ≡ false → Spotted m e (Nowhere Unknown)
+    finds-unknown f = unknown (rw q at near) (rw q at inside) r row-is (subst (λ y. Known width size r y m) f u)
+
+    pub finds-at : t ≡ true → Bytes m → (a : ℕ) → a ≡ window.place width size r + width → Spotted m e (At a size)
+    finds-at f b a i =
+        subst (λ y. Spotted m e (At y size)) (sym i) (known-at (rw q at near) (rw q at inside) r row-is b (subst (λ y. Known width size r y m) f u))
+
+-- ---- The promises
+
+abbrev IsNowhere : Spot → Type 0
+IsNowhere (At a n) = ⊥
+IsNowhere (Nowhere x) = Unit {0}
+
+abbrev IsValue : Said → Type 0
+IsValue (value n) = Unit {0}
+IsValue (refusal n) = ⊥
+
+abbrev reason : Spot → ℕ
+reason (At a n) = 0
+reason (Nowhere x) = numberOf x
+
+-- The memory has a header, or none.
+by-header : (m : List ℕ) (A : Type 0) → ((h : Header) → headerIn m ≡ some h → A) → (headerIn m ≡ none → A) → A
+by-header m A x y = go (headerIn m) refl
+  where
+    go : (o : Option Header) → headerIn m ≡ o → A
+    go none k = y k
+    go (some h) k = x h k
+
+module _ (m : List ℕ) (e : ℕ) where
+  found-answers : (a n : ℕ) → Spotted m e (At a n) → SymbolAnswered receiverLayout m e (Done 0)
+  found-answers a n f = record {
+    unopened = ((λ z. absurd (subst IsValue z tt)), (λ z. absurd (subst IsNowhere (sym (f .unopened z)) tt)));
+    finds = λ s t k. let (p, v, x, c, y, z) = f .told s t k in subst (λ o. Finds receiverLayout o (Done 0)) (sym x) refl;
+  }
+
+  missing-answers : (x : Refusal) → Spotted m e (Nowhere x) → SymbolAnswered receiverLayout m e (Refused x)
+  missing-answers x f = record {
+    unopened = (
+      (λ z. by-header m (headerIn m ≡ none) (λ h k. absurd (f .lies h k (ap number z))) (λ k. k)),
+      (λ z. ap (λ (y : Spot). refusal (reason y)) (f .unopened z)),
+    );
+    finds = λ s t k. subst (λ o. Finds receiverLayout o (Refused x)) (sym (f .told s t k)) refl;
+  }
+    where
+      number : Said → ℕ
+      number (value n) = n
+      number (refusal n) = n
+
+  pub symbol-found : (f : Spot) (a n : ℕ) → f ≡ At a n → Spotted m e f → SymbolAnswered receiverLayout m e (Done 0)
+  symbol-found f a n q g = found-answers a n (subst (Spotted m e) q g)
+
+  pub symbol-missing : (f : Spot) (x : Refusal) → f ≡ Nowhere x → Spotted m e f → SymbolAnswered receiverLayout m e (Refused x)
+  symbol-missing f x q g = missing-answers x (subst (Spotted m e) q g)
+
+pub at-bounded : (m : List ℕ) (e : ℕ) (f : Spot) (a n : ℕ) → f ≡ At a n → Spotted m e f → a + n ≤ length m
+at-bounded m e f a n q g =
+    let h = subst (Spotted m e) q g in
+    by-header m (a + n ≤ length m) (λ x k. h .lies x k .1) (λ k. absurd (subst IsNowhere (sym (h .unopened k)) tt))
+
+module _ (mem r : RefT (List ℕ)) (e : ℕ) where
+  pub part-found : (f : Spot) (a n : ℕ) → f ≡ At a n → Spotted (now mem) e f → LiesAt r mem a n → PartShown receiverLayout mem r e
+  part-found f a n q g l =
+      let h : Spotted (now mem) e (At a n) = subst (Spotted (now mem) e) q g in
+      record {
+        unopened = λ z. absurd (subst IsNowhere (sym (h .unopened z)) tt);
+        within = λ x k. inr (a, subst (LiesAt r mem a) (h .lies x k .0) l);
+        shows = λ s t k.
+            let (p, v, x, c, y, z) = h .told s t k in
+            subst (λ o. Shows receiverLayout s o mem r) (sym x) (l .bytes ∙ sym c, subst (λ j. LiesAt r mem j (s .size)) y (subst (LiesAt r mem a) z l));
+      }
+
+  pub part-missing : (f : Spot) (x : Refusal) → f ≡ Nowhere x → Spotted (now mem) e f → now r ≡ [] → PartShown receiverLayout mem r e
+  part-missing f x q g l =
+      let h : Spotted (now mem) e (Nowhere x) = subst (Spotted (now mem) e) q g in
+      record {
+        unopened = λ _. l;
+        within = λ y k. inl l;
+        shows = λ s t k. subst (λ o. Shows receiverLayout s o mem r) (sym (h .told s t k)) l;
+      }

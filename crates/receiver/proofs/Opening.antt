@@ -1,0 +1,119 @@
+-- Opening: what it answers, and that the memory it leaves holds a fresh receiver.
+use mathlib.Core.Path.{_≡_, refl, sym, ap, ap₂, _∙_, subst}
+use mathlib.Core.Option.{Option, none, some, Option·none-ne-some, Option·some-injective}
+use mathlib.Core.List.{List, _++_}
+use Prim.Native.Nat.{ℕ, _+_, _*_, _%_, _^_, _≤_, _<_}
+use native.Mathlib.Nat.{mod-eq-of-lt, zero-add}
+use native.Mathlib.Omega.{arith}
+use lib.ListN.{length, take, drop}
+use lib.Seq.{take-take}
+use borrow.Author.Tests.{lt-ltb, le-ltb}
+use Rattle.memory.specs.Part.{part, splice}
+use Rattle.memory.specs.Number.{number}
+use Rattle.memory.proofs.Parts.{length-splice, past-splice, part-part}
+use Rattle.wire.specs.declared.Setting.{Setting}
+use Rattle.wire.specs.declared.Refusal.the-variants.{Values, Short}
+use Rattle.wire.specs.Packets.{zeros}
+use Rattle.wire.specs.Settings.{settingOf, settingIn, settingBytes, Valid}
+use Rattle.wire.proofs.Settings.{setting-names, setting-written, setting-kept}
+use Rattle.decoder.specs.Bytes.{Coded}
+use Rattle.decoder.specs.Receiver as decoder
+use Rattle.decoder.proofs.Bytes.{laws}
+use Rattle.decoder.proofs.History as history
+use Rattle.elimination.specs.Window as window
+use Rattle.elimination.specs.Place.{Emptied}
+use Rattle.receiver.specs.declared.Answer.the-variants.{Done, Refused}
+use Rattle.receiver.specs.History.{memorySize, Said, value, refusal}
+use Rattle.receiver.specs.Model.{opened}
+use Rattle.receiver.specs.Header.{headerIn}
+use Rattle.receiver.specs.Promises.{Contained, opening, Opened}
+use Rattle.receiver.specs.Layout.{headerOf, Holds, receiverLayout}
+use Rattle.receiver.specs.Inner.{freshHeader}
+use Rattle.receiver.proofs.Cases.{IsRefusal}
+use Rattle.receiver.proofs.Headers.{found}
+
+module _ (n E w : ℕ) (m : List ℕ) where
+  pub opening-values : settingOf n E w ≡ none → Opened receiverLayout n E w m m (Refused Values)
+  opening-values e = record {
+    answer = rw e;
+    refused = λ k q. refl;
+    contained = λ s q. record { same = refl; past = refl };
+    holds = λ s q r. absurd (subst IsRefusal r tt);
+  }
+
+  pub opening-short : (s : Setting) → settingOf n E w ≡ some s → length m < memorySize s → Opened receiverLayout n E w m m (Refused Short)
+  opening-short s e l = record {
+    answer = rw (e, lt-ltb (length m) (memorySize s) l);
+    refused = λ k q. refl;
+    contained = λ t q. record { same = refl; past = refl };
+    holds = λ t q r. absurd (subst IsRefusal r tt);
+  }
+
+-- The memory that opening leaves.
+module _ (s : Setting) (v : Valid s) (m m′ : List ℕ) (room : memorySize s ≤ length m) (k : Emptied (s .width) (s .size) (freshHeader s m) m′) where
+  length-fresh : length (freshHeader s m) ≡ length m
+  unfolding freshHeader settingBytes
+  length-fresh =
+      let x = splice 0 (settingBytes 2 s) m in
+      let l : length x ≡ length m = length-splice 0 (settingBytes 2 s) m (omega arith) in
+      length-splice 8 (zeros 56) x (omega (arith, l)) ∙ l
+
+  front : (i : ℕ) → i ≤ 64 → take i m′ ≡ take i (freshHeader s m)
+  front i h = sym (take-take i 64 m′ h) ∙ ap (take i) (k .kept .header) ∙ take-take i 64 (freshHeader s m) h
+
+  part-front : (a i : ℕ) → a + i ≤ 64 → part a i m′ ≡ part a i (freshHeader s m)
+  unfolding part
+  part-front a i h =
+      let e : (l : List ℕ) → part a i (part 0 64 l) ≡ part a i l = λ l. part-part 0 64 a i l h ∙ ap (λ x. part x i l) (zero-add a) in
+      sym (e m′) ∙ ap (part a i) (k .kept .header) ∙ e (freshHeader s m)
+
+  setting-is : settingIn 2 m′ ≡ some s
+  unfolding freshHeader splice settingBytes
+  setting-is = setting-kept 2 m′ (splice 0 (settingBytes 2 s) m) (front 8 (omega arith)) ∙ setting-written 2 s m (omega arith) v
+
+  row-zero : number (part 8 2 m′) ≡ 0
+  unfolding freshHeader splice settingBytes part
+  row-zero = ap number (part-front 8 2 (omega arith))
+
+  base-zero : number (part 12 4 m′) ≡ 0
+  unfolding freshHeader splice settingBytes part
+  base-zero = ap number (part-front 12 4 (omega arith))
+
+  length-is : length m′ ≡ length m
+  length-is = k .kept .size ∙ length-fresh
+
+  header-is : headerIn m′ ≡ some (headerOf s (opened s))
+  unfolding decoder.fresh
+  header-is =
+      let none-yet : 0 % s .width ≡ 0 = mod-eq-of-lt (omega (arith, v .width-least)) in
+      found m′ s setting-is (omega (arith, length-is)) (omega (arith, row-zero, v .width-least))
+      ∙ ap₂ (λ r b. some (record { setting = s; row = r; base = record { 0 = b } })) (row-zero ∙ sym none-yet) base-zero
+
+  held : Holds m′ s (opened s)
+  unfolding decoder.fresh
+  held = record {
+    header = header-is;
+    reduced = history.empty-rref (laws (s .size) (omega (arith, v .size-least))) (s .width);
+    rows = k .free 0;
+  }
+
+  past-is : drop (memorySize s) m′ ≡ drop (memorySize s) m
+  unfolding freshHeader settingBytes
+  past-is =
+      let x = splice 0 (settingBytes 2 s) m in
+      k .kept .past ∙ past-splice (memorySize s) 8 (zeros 56) x (omega arith) (omega (arith, length-splice 0 (settingBytes 2 s) m (omega arith)))
+      ∙ past-splice (memorySize s) 0 (settingBytes 2 s) m (omega arith) (omega arith)
+
+  left : (n E w : ℕ) → settingOf n E w ≡ some s → Opened receiverLayout n E w m m′ (Done 0)
+  left n E w e = record {
+    answer = rw (e, le-ltb (length m) (memorySize s) room);
+    refused = λ i q. absurd (subst IsRefusal (sym q) tt);
+    contained = λ t q.
+        subst (λ x. Contained (memorySize x) m m′) (Option·some-injective s t (sym e ∙ q)) (record { same = length-is; past = past-is });
+    holds = λ t q r. subst (λ x. Holds m′ x (opened x)) (Option·some-injective s t (sym e ∙ q)) held;
+  }
+
+pub opening-done : (n E w : ℕ) (s : Setting) → settingOf n E w ≡ some s → (m m₁ m′ : List ℕ) → memorySize s ≤ length m → m₁ ≡ freshHeader s m
+    → Emptied (s .width) (s .size) m₁ m′ → Opened receiverLayout n E w m m′ (Done 0)
+opening-done n E w s e m m₁ m′ room f k =
+    left s (setting-names n E w s e .valid) m m′ room (subst (λ x. Emptied (s .width) (s .size) x m′) f k) n E w e

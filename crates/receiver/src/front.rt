@@ -1,0 +1,48 @@
+// The header at the front of a receiver's memory.
+ghost use mathlib.Core.Path.{_≡_};
+ghost use Prim.Native.Nat.{_≤_};
+ghost use lib.ListN.{length};
+ghost use Rattle.wire.specs.Settings.{Valid};
+ghost use Rattle.receiver.specs.History.{memorySize};
+ghost use Rattle.receiver.specs.Header.{headerIn};
+ghost use Rattle.receiver.specs.Inner.{foundOf, freshHeader};
+use super::Found;
+use super::Header;
+use wire::Checked;
+use wire::Esi;
+use wire::Setting;
+
+// How many bytes a receiver needs.
+pub fn memory_size(setting: Setting) -> usize
+    requires { ⌜ Valid setting ⌝ }
+    ensures { λ r. ⌜ r ≡ memorySize setting ⌝ }
+{
+    64 + setting.width * (setting.width + setting.size + 4)
+}
+
+// Reads the header, if the memory has a receiver's and is long enough for its setting.
+pub fn read_header(mem: &[u8]) -> Found
+    ensures { λ r. ⌜ r ≡ foundOf (headerIn (now (mem .entry))) ⌝ }
+{
+    let Checked::Good(setting) = wire::setting_in(mem, 2) else {
+        return Found::NoHeader;
+    };
+    if mem.len() < memory_size(setting) {
+        return Found::NoHeader;
+    }
+    let row = memory::load_u16(mem, 8) as usize;
+    if setting.width <= row {
+        return Found::NoHeader;
+    }
+    let base = Esi(memory::load_u32(mem, 12));
+    Found::HeaderIs(Header { setting, row, base })
+}
+
+// Writes the header of a receiver whose base is 0.
+pub fn write_header(mem: &mut [u8], setting: Setting)
+    requires { ⌜ (64 ≤ length (now mem)) × Valid setting ⌝ }
+    ensures { λ _. ⌜ now (mem .exit) ≡ freshHeader setting (now (mem .entry)) ⌝ }
+{
+    wire::write_setting(mem, 2, setting);
+    memory::fill_part(mem, 8, 56, 0);
+}
