@@ -12,3 +12,4 @@ pub mod Finding
 pub mod Opening
 pub mod Locating
 pub mod Finishing
+pub mod Repairing

@@ -6,3 +6,4 @@ pub mod Promises
 pub mod Layout
 pub mod Inner
 pub mod Steps
+pub mod RepairSteps

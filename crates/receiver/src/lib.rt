@@ -6,6 +6,7 @@ ghost use Rattle.receiver.specs.Layout.{receiverLayout};
 mod find;
 mod front;
 mod packet;
+mod repair;
 
 use elimination::Shape;
 use wire::Checked;
