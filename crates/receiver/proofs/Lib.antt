@@ -13,3 +13,4 @@ pub mod Opening
 pub mod Locating
 pub mod Finishing
 pub mod Repairing
+pub mod Receiving
