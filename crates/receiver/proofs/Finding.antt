@@ -43,7 +43,7 @@ pub row-wrapped : (row d width : ℕ) → row < width → d < width → width �
 row-wrapped row d width a b h = record { is = sym (mod-eq-sub-mod h ∙ mod-eq-of-lt (omega arith)); small = omega arith }
 
 -- A row lies below the window's area.
-pub row-area : (w E r : ℕ) → r < w → w ≤ 255 → E ≤ 1500 → r * (w + E + 4) ≤ 448545
+pub row-area : (w E r : ℕ) → r ≤ w → w ≤ 255 → E ≤ 1500 → r * (w + E + 4) ≤ 448545
 row-area w E r h a b =
     let x : r ≤ 255 = omega arith in
     let y : w + E + 4 ≤ 1759 = omega arith in

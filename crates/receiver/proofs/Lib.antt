@@ -14,3 +14,5 @@ pub mod Locating
 pub mod Finishing
 pub mod Repairing
 pub mod Receiving
+pub mod Gathering
+pub mod Sourcing

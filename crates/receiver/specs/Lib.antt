@@ -7,3 +7,4 @@ pub mod Layout
 pub mod Inner
 pub mod Steps
 pub mod RepairSteps
+pub mod SourceSteps

@@ -7,6 +7,7 @@ mod find;
 mod front;
 mod packet;
 mod repair;
+mod source;
 
 use elimination::Shape;
 use wire::Checked;

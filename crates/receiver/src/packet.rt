@@ -2,12 +2,15 @@
 ghost use mathlib.Core.Path.{_≡_};
 ghost use mathlib.Core.Option.{some};
 ghost use Prim.Native.Nat.{_-_, _≤_, _<_};
+ghost use lib.ListN.{length};
 ghost use Rattle.wire.specs.Settings.{Valid};
+ghost use Rattle.elimination.specs.Window.{Fits};
 ghost use Rattle.elimination.specs.Packet.{Works};
 ghost use Rattle.receiver.specs.Header.{headerIn};
-ghost use Rattle.receiver.specs.Steps.{placeFound, gatheredBy, Finished};
+ghost use Rattle.receiver.specs.Steps.{placeFound, gatheredBy, EquationAdmitted, Finished};
 use super::Header;
 use elimination::Shape;
+use elimination::gather;
 use elimination::gather::Verdict;
 use wire::Esi;
 use wire::Refusal;
@@ -77,6 +80,27 @@ pub fn gathered_by(kept: usize, verdict: Verdict) -> Gathered
         Verdict::Implied => Gathered::All(kept),
         Verdict::Contradiction => Gathered::Contradiction,
     }
+}
+
+// An equation with the coefficients in the columns from `first` on, and the symbol that the row `kept` of working memory has, after others of
+// which `kept` rows were kept.
+pub fn admit_equation(
+    mem: &[u8],
+    work: &mut [u8],
+    coefficients: &[u8],
+    place: PacketPlace,
+    kept: usize,
+    first: usize,
+) -> Gathered
+    requires { ⌜ Fits (place .shape .width) (place .shape .size) (now mem) × Works (place .shape .width) (place .shape .size) kept (now work)
+        × (place .shape .base < place .shape .width) × (first < place .shape .width) × (length (now coefficients) ≤ place .shape .width) ⌝ }
+    ensures { λ r. ⌜ EquationAdmitted place kept first (now (coefficients .entry)) r (now (mem .entry)) (now (work .entry)) (now (work .exit)) ⌝ }
+{
+    let shape = place.shape;
+    let n = coefficients.len();
+    gather::lay(work, coefficients, shape, kept, first);
+    let verdict = gather::admit(mem, work, shape, place.stay, kept, first, n);
+    gathered_by(kept, verdict)
 }
 
 // The packet is accepted: its rows, `kept` in working memory, join the state's, and the base rises. Gives how many positions have become known.
