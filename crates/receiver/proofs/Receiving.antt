@@ -1,19 +1,16 @@
 -- What a packet call promises, by how it ends: no header, a refusal, or a packet accepted.
 use mathlib.Core.Path.{_≡_, refl, sym, ap, _∙_, subst}
 use mathlib.Core.Logic.{_≢_}
-use mathlib.Core.Option.{Option, none, some, Option·none-ne-some, Option·some-injective}
+use mathlib.Core.Option.{none, some, Option·none-ne-some, Option·some-injective}
 use mathlib.Core.List.{List}
 use Prim.Native.Nat.{ℕ, _+_, _-_, _%_, _^_}
-use native.Mathlib.Omega.{arith}
 use lib.ListN.{length}
-use Rattle.wire.specs.declared.Setting.{Setting}
 use Rattle.wire.specs.declared.Refusal.{Refusal}
 use Rattle.wire.specs.declared.Refusal.the-variants.{Unopened}
 use Rattle.wire.specs.Numbers.{numberOf}
 use Rattle.decoder.specs.Bytes.{Coded}
 use Rattle.decoder.specs.Receiver as decoder
 use Rattle.receiver.specs.declared.Header.{Header}
-use Rattle.receiver.specs.declared.Answer.{Answer}
 use Rattle.receiver.specs.declared.Answer.the-variants.{Done, Refused}
 use Rattle.receiver.specs.History.{Call, memorySize, workingSize}
 use Rattle.receiver.specs.Model.{State, refused, done, receiving}

@@ -4,11 +4,12 @@ ghost use Prim.Native.Nat.{_+_, _*_, _≤_, _<_};
 ghost use lib.ListN.{length};
 ghost use Rattle.elimination.specs.Window.{Fits};
 ghost use Rattle.elimination.specs.Packet.{Works};
-ghost use Rattle.receiver.specs.RepairSteps.{Admits, RepairGathered};
+ghost use Rattle.receiver.specs.Steps.{Admits, Gathers};
+ghost use Rattle.receiver.specs.RepairSteps.{repairEquation, equationAt};
+use super::find;
 use super::packet;
 use super::packet::Gathered;
 use super::packet::PacketPlace;
-use elimination::gather;
 
 // One more equation, in the row after those that are kept: a repair symbol, and its coefficients of the positions from the packet's first on.
 fn admit_symbol(
@@ -22,16 +23,14 @@ fn admit_symbol(
     requires { ⌜ Fits (place .shape .width) (place .shape .size) (now mem) × Works (place .shape .width) (place .shape .size) kept (now work)
         × (place .shape .base < place .shape .width) × (place .first < place .shape .width)
         × (length (now list) ≤ place .shape .width) × (length (now symbol) ≡ place .shape .size) ⌝ }
-    ensures { λ r. ⌜ Admits place kept (now (list .entry)) (now (symbol .entry)) (now (mem .entry)) (now (work .entry)) r (now (work .exit)) ⌝ }
+    ensures { λ r. ⌜ Admits place (length (now (list .entry)))
+        (repairEquation (place .shape .width) (place .shape .size) (length (now (list .entry))) (now (list .entry)) (now (symbol .entry)))
+        kept r (now (mem .entry)) (now (work .entry)) (now (work .exit)) ⌝ }
 {
-    let shape = place.shape;
-    let w = shape.width;
-    let size = shape.size;
-    let first = place.first;
-    memory::copy_part(work, 64 + kept * (w + size + 4) + w, symbol, 0, size);
-    gather::lay(work, list, shape, kept, first);
-    let verdict = gather::admit(mem, work, shape, place.stay, kept, first, list.len());
-    packet::gathered_by(kept, verdict)
+    let size = place.shape.size;
+    let at = find::symbol_start(place.shape.width, size, kept);
+    memory::copy_part(work, at, symbol, 0, size);
+    packet::admit_equation(mem, work, list, place, kept, place.first)
 }
 
 // The equations of a repair packet's `count` symbols: the `n` coefficients of each stand one after the other in `lists`.
@@ -47,7 +46,8 @@ fn gather_repair(
     requires { ⌜ Fits (place .shape .width) (place .shape .size) (now mem) × Works (place .shape .width) (place .shape .size) 0 (now work)
         × (place .shape .base < place .shape .width) × (place .first < place .shape .width) × (n ≤ place .shape .width)
         × (count * n ≤ length (now lists)) × (8 + count * place .shape .size ≤ length (now bytes)) × (count ≤ 16) ⌝ }
-    ensures { λ r. ⌜ RepairGathered place n count (now (lists .entry)) (now (bytes .entry)) (now (mem .entry)) (now (work .entry)) r (now (work .exit)) ⌝ }
+    ensures { λ r. ⌜ Gathers place n (equationAt (place .shape .width) (place .shape .size) n (now (lists .entry)) (now (bytes .entry)))
+        count r (now (mem .entry)) (now (work .entry)) (now (work .exit)) ⌝ }
 {
     let size = place.shape.size;
     let mut kept: usize = 0;

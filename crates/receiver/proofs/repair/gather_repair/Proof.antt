@@ -1,21 +1,21 @@
 -- `receiver::repair::gather_repair` meets its contract. The loop: working memory keeps `kept` rows of the first i equations.
-use mathlib.Core.Path.{_≡_, _∙_}
+use mathlib.Core.Path.{_∙_}
 use Prim.Native.Nat.{_+_, _-_, _*_, _≤_}
 use native.Mathlib.Omega.{arith}
 use lib.ListN.{length}
-use Rattle.memory.specs.Part.{part}
 use Rattle.memory.proofs.Parts.{cut, length-part, row-fits}
-use Rattle.receiver.specs.RepairSteps.{Admits}
-use Rattle.receiver.proofs.Repairing.{Gathering, gathering-none, gathering-more, gathering-contradicts, gathering-all}
+use Rattle.receiver.specs.declared.packet.Gathered.the-variants.{All}
+use Rattle.receiver.specs.Steps.{Admits, Gathers}
+use Rattle.receiver.specs.RepairSteps.{equationAt}
+use Rattle.receiver.proofs.Gathering.{gathers-none, gathers-on, gathers-stop, gathers-all}
+use Rattle.receiver.proofs.Repairing.{symbol-of}
 use borrow.Author.Needs.{needs}
 use Rattle.receiver.proofs.repair.gather_repair.Statement.{statement}
 use Rattle.receiver.proofs.repair.gather_repair.Tie as tie
-use Rattle.receiver.proofs.repair.gather_repair.Reads as reads
-use Rattle.receiver.proofs.repair.gather_repair.Lts as lts
-use Rattle.receiver.proofs.repair.admit_symbol.Reads as admit-symbol-reads
 
 abbrev Inv-loop : tie.InvT-loop
-Inv-loop mem work₀ lists bytes place n count size kept₀ i₀ work kept i = (i ≤ count) × Gathering place n count lists bytes mem work₀ i kept work
+Inv-loop mem work₀ lists bytes place n count size kept₀ i₀ work kept i =
+    (i ≤ count) × Gathers place n (equationAt (place .shape .width) (place .shape .size) n lists bytes) i (All kept) mem work₀ work
 
 abbrev μ-loop : tie.MeasureT-loop
 μ-loop mem work₀ lists bytes place n count size kept₀ i₀ work kept i = count - i
@@ -30,18 +30,22 @@ inside p =
     omega (arith, row-fits (s .args .count) (s .args .place .shape .size) (p .before .loop .i) (p .loop-test .taken), s .pre .6)
 
 -- what the loop's body did, of list i and symbol i
-one : (p : tie.After-admit-symbol Inv-loop μ-loop) → Admits (p .before .before .before .before .before .before .before .before .before .before .args .place) (p .before .before .before .before .before .loop .kept) (part (p .before .before .before .before .before .loop .i * p .before .before .before .before .before .before .before .before .before .before .args .n) (p .before .before .before .before .before .before .before .before .before .before .args .n) (p .before .before .before .before .before .before .before .before .before .before .args .lists .now)) (part (8 + p .before .before .before .before .before .loop .i * p .before .before .before .before .before .before .before .before .before .before .args .place .shape .size) (p .before .before .before .before .before .before .before .before .before .before .args .place .shape .size) (p .before .before .before .before .before .before .before .before .before .before .args .bytes .now)) (p .before .before .before .before .before .before .before .before .before .before .args .mem .now) (p .before .before .before .before .before .loop .work) (p .admit-symbol .result) (p .admit-symbol .last .1 .0)
+one : (p : tie.After-admit-symbol Inv-loop μ-loop)
+    → Admits (p .before .before .before .before .before .before .before .before .before .before .args .place) (p .before .before .before .before .before .before .before .before .before .before .args .n) (λ d. equationAt (p .before .before .before .before .before .before .before .before .before .before .args .place .shape .width) (p .before .before .before .before .before .before .before .before .before .before .args .place .shape .size) (p .before .before .before .before .before .before .before .before .before .before .args .n) (p .before .before .before .before .before .before .before .before .before .before .args .lists .now) (p .before .before .before .before .before .before .before .before .before .before .args .bytes .now) d (p .before .before .before .before .before .loop .i)) (p .before .before .before .before .before .loop .kept) (p .admit-symbol .result) (p .before .before .before .before .before .before .before .before .before .before .args .mem .now) (p .before .before .before .before .before .loop .work) (p .admit-symbol .last .1 .0)
 one p =
     let a = p .before .before .before .before .before .before .before .before .before .before .args in
-    let l = p .before .before .before .before .before .loop in
-    rw (cut (l .i * a .n) (a .n) (a .lists .now), cut (8 + l .i * a .place .shape .size) (a .place .shape .size) (a .bytes .now)) at (p .admit-symbol .ensures)
+    let i = p .before .before .before .before .before .loop .i in
+    let size = a .place .shape .size in
+    let q = p .before .before .before .before in
+    symbol-of (a .place) (p .before .before .before .before .before .loop .kept) (a .n) i _ (a .lists .now) (a .bytes .now) (a .mem .now) (p .before .before .before .before .before .loop .work) _ _ (cut (i * a .n) (a .n) (a .lists .now))
+    (rw (cut (i * a .n) (a .n) (a .lists .now)) (length-part (i * a .n) (a .n) (a .lists .now) (within q))) (rw (cut (8 + i * size) size (a .bytes .now)) at (p .admit-symbol .ensures))
 
 -- src/repair.rt:54:5
 loop-holds : tie.Need-loop-holds Inv-loop μ-loop
 loop-holds c =
     let s = c .before .before .before .before in
     let a = s .args in
-    (omega arith, gathering-none (a .place) (a .n) (a .count) (a .lists .now) (a .bytes .now) (a .mem .now) (a .work .now) (s .pre .1))
+    (omega arith, gathers-none (a .place) (a .n) (equationAt (a .place .shape .width) (a .place .shape .size) (a .n) (a .lists .now) (a .bytes .now)) (a .mem .now) (a .work .now) (s .pre .1))
 
 -- src/repair.rt:55:20
 mul-from : tie.Need-mul-from Inv-loop μ-loop
@@ -118,11 +122,10 @@ same-length c = one (c .before .before .before .before) .contained .same ∙ c .
 -- src/repair.rt:66:13
 returns : tie.Need-returns Inv-loop μ-loop
 returns c =
-    let s = c .before .before .before .before .before .before .before .before .before .before .before .before .before .before in
-    let a = s .args in
+    let a = c .before .before .before .before .before .before .before .before .before .before .before .before .before .before .args in
     let l = c .before .before .before .before .before .before .before .before .before .loop in
-    gathering-contradicts (a .place) (a .n) (a .count) (a .lists .now) (a .bytes .now) (a .mem .now) (a .work .now) (l .i) (l .kept) (l .work)
-    (c .before .before .before .before .before .before .before .before .loop-test .taken) (s .pre .5) (l .inv .1) _ _ (one (c .before .before .before .before)) (c .enum-told .given .1)
+    let admitted = c .before .before .before .before in
+    gathers-stop _ _ _ _ _ (l .i) (a .count) (l .kept) (admitted .admit-symbol .result) (l .work) (admitted .admit-symbol .last .1 .0) (omega arith) (l .inv .1) (one admitted) (c .enum-told .given .1)
 
 -- src/repair.rt:54:9
 add-i : tie.Need-add-i Inv-loop μ-loop
@@ -135,13 +138,9 @@ loop-less c = omega arith
 -- src/repair.rt:54:5
 loop-again : tie.Need-loop-again Inv-loop μ-loop
 loop-again c =
-    let s = c .before .before .before .before .before .before .before .before .before .before .before .before .before .before .before in
-    let a = s .args in
     let l = c .before .before .before .before .before .before .before .before .before .before .loop in
-    let more =
-    gathering-more (a .place) (a .n) (a .count) (a .lists .now) (a .bytes .now) (a .mem .now) (a .work .now) (l .i) (l .kept) (l .work)
-    (c .before .before .before .before .before .before .before .before .before .loop-test .taken) (s .pre .5) (l .inv .1) _ _ (one (c .before .before .before .before .before)) _ (c .before .now .given .1) in
-    (omega arith, more)
+    let admitted = c .before .before .before .before .before in
+    (omega arith, gathers-on _ _ _ _ _ (l .i) (l .kept) _ (admitted .admit-symbol .result) (l .work) (admitted .admit-symbol .last .1 .0) (l .inv .1) (one admitted) (c .before .now .given .1))
 
 -- src/repair.rt:38:1
 same-length-2 : tie.Need-same-length-2 Inv-loop μ-loop
@@ -149,11 +148,7 @@ same-length-2 c = c .before .loop .inv .1 .contained .same
 
 -- src/repair.rt:38:1
 returns-2 : tie.Need-returns-2 Inv-loop μ-loop
-returns-2 c =
-    let s = c .before .before .before .before .before .before in
-    let a = s .args in
-    let l = c .before .loop in
-    gathering-all (a .place) (a .n) (a .count) (a .lists .now) (a .bytes .now) (a .mem .now) (a .work .now) (l .i) (l .kept) (l .work) (omega arith) (l .inv .1)
+returns-2 c = let l = c .before .loop in gathers-all _ _ _ _ _ (l .i) _ (l .kept) (l .work) (omega arith) (l .inv .1)
 
 pub gather-repair-spec : {M : Type 1} → statement M
 gather-repair-spec =
