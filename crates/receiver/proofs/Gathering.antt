@@ -1,12 +1,13 @@
 -- A packet's equations, admitted one after the other: what one more makes of them, and what all come to.
-use mathlib.Core.Path.{_≡_, refl, sym, ap, _∙_, subst}
+use mathlib.Core.Path.{_≡_, refl, sym, ap, ap₂, _∙_, subst}
 use mathlib.Core.Option.{Option, none, some}
 use mathlib.Core.List.{List, [], _∷_, _++_}
 use Prim.Native.Nat.{ℕ, zero, suc, _+_, _-_, _*_, _%_, _≤_, _<_}
 use native.Mathlib.Decide.{ℕ-discrete}
 use native.Mathlib.Omega.{arith}
 use lib.ListN.{length, drop, getD}
-use Rattle.memory.proofs.Parts.{row-fits}
+use Rattle.memory.specs.Part.{splice}
+use Rattle.memory.proofs.Parts.{getD-part, getD-within, row-fits}
 use Rattle.decoder.specs.Bytes.{Coded}
 use Rattle.decoder.specs.Model as model
 use Rattle.decoder.specs.Receiver as decoder
@@ -17,13 +18,14 @@ use Rattle.elimination.specs.declared.gather.Verdict.the-variants as verdict
 use Rattle.elimination.specs.Window.{stride, place, row, equation, Window, Fits}
 use Rattle.elimination.specs.Packet as packet
 use Rattle.elimination.specs.Gather.{Only, LaidIn, Admitted, Agrees, count-kept}
-use Rattle.elimination.proofs.Framing.{only-trans, only-wider}
+use Rattle.elimination.proofs.Framing.{only-trans, only-wider, only-splice, works-only, row-room}
 use Rattle.elimination.proofs.Admitting.{gathered-only, gathered-none}
 use Rattle.elimination.proofs.Laying.{laid-symbol}
 use Rattle.elimination.proofs.Spelling.{symbol-moved}
 use Rattle.receiver.specs.declared.packet.PacketPlace.{PacketPlace}
 use Rattle.receiver.specs.declared.packet.Gathered.{Gathered}
 use Rattle.receiver.specs.declared.packet.Gathered.the-variants.{All, Contradiction}
+use Rattle.receiver.specs.Symbol.{symbolOf}
 use Rattle.receiver.specs.Promises.{Contained}
 use Rattle.receiver.specs.Steps.{gatheredBy, Comes, WorksOn, firsts, Lies, EquationAdmitted, Admits, Gathers}
 
@@ -41,6 +43,37 @@ pub contained-row : (w E k z : ℕ) (m m′ : List ℕ) → k ≤ w → z ≤ pl
 contained-row w E k z m m′ h l f =
     let o = only-wider z (place w E (w + 1)) (omega (arith, row-fits (w + 1) (stride w E) k (omega arith))) f in
     record { same = o .size; past = o .past }
+
+-- ---- A symbol stored in a row of working memory
+
+-- Bytes that were stored as a row's symbol are its symbol.
+stored-symbol : (w E k : ℕ) (x work : List ℕ) → length x ≡ E → place w E k + w ≤ length work
+    → symbol-at E w (row w E k (splice (place w E k + w) x work)) ≡ symbolOf E x
+stored-symbol w E k x work size h =
+    symbol-moved E w 0 (row w E k (splice (place w E k + w) x work)) x
+    (λ i l.
+    let e : place w E k + (w + i) ≡ place w E k + w + i = omega arith in
+    getD-part (place w E k) (stride w E) (w + i) _ (omega arith) ∙ ap (λ a. getD (splice (place w E k + w) x work) a 0) e
+    ∙ getD-within (place w E k + w) i x work (omega arith) h ∙ ap (λ a. getD x a 0) (sym (zero-plus i)))
+  where
+    zero-plus : (i : ℕ) → 0 + i ≡ i
+    zero-plus i = omega arith
+
+module _ (w E kept : ℕ) (x work work₁ : List ℕ) (g : packet.Works w E kept work) (size : length x ≡ E)
+    (stored : work₁ ≡ splice (place w E kept + w) x work) where
+  inside : place w E kept + stride w E ≤ length work
+  inside = row-room w E kept work g
+
+  pub stored-only : Only (place w E kept) (place w E kept + stride w E) work work₁
+  stored-only =
+      subst (λ m₁. Only (place w E kept) (place w E kept + stride w E) work m₁) (sym stored)
+      (only-splice (place w E kept) (place w E kept + stride w E) (place w E kept + w) x work (omega arith) (omega (arith, size)) inside)
+
+  pub works-stored : packet.Works w E kept work₁
+  works-stored = works-only (omega arith) stored-only g
+
+  pub stored-is : symbol-at E w (row w E kept work₁) ≡ symbolOf E x
+  stored-is = ap (λ m₁. symbol-at E w (row w E kept m₁)) stored ∙ stored-symbol w E kept x work size (omega (arith, inside))
 
 -- ---- One equation
 
@@ -82,6 +115,16 @@ module _ (at : PacketPlace) (kept first : ℕ) (cs : List ℕ) (v : Verdict) (m 
   }
 
 -- ---- All equations
+
+pub firsts-same : {A : Type 0} (g h : ℕ → A) (n : ℕ) → ((k : ℕ) → k < n → g k ≡ h k) → firsts g n ≡ firsts h n
+unfolding firsts
+firsts-same g h zero e = refl
+firsts-same g h (suc n) e = ap₂ (λ l x. l ++ (x ∷ [])) (firsts-same g h n (λ k l. e k (omega arith))) (e n (omega arith))
+
+pub firsts-cons : {A : Type 0} (g : ℕ → A) (n : ℕ) → firsts g (suc n) ≡ g 0 ∷ firsts (λ k. g (suc k)) n
+unfolding firsts
+firsts-cons g zero = refl
+firsts-cons g (suc n) = ap (λ l. l ++ (g (suc n) ∷ [])) (firsts-cons g n)
 
 -- A contradiction stays one.
 pub contradiction-stays : (w E : ℕ) (S : model.State (Coded E) w) (g : ℕ → model.Row (Coded E) w) (i n : ℕ) → i ≤ n

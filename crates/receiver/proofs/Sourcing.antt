@@ -1,12 +1,11 @@
 -- A source packet's equations: a row with the coefficient one at the symbol's position spells the model's equation, and all are the model's packet.
-use mathlib.Core.Path.{_≡_, refl, sym, ap, ap₂, _∙_, subst}
-use mathlib.Core.List.{List, [], _∷_, _++_, map}
+use mathlib.Core.Path.{_≡_, refl, sym, ap, ap₂, _∙_}
+use mathlib.Core.List.{List, [], _∷_, map}
 use Prim.Native.Nat.{ℕ, zero, suc, _+_, _-_, _*_, _%_, _≤_, _<_}
 use native.Mathlib.Nat.{mod-add-mod}
 use native.Mathlib.Omega.{arith}
 use lib.ListN.{length, getD}
 use Rattle.memory.specs.Part.{part, splice}
-use Rattle.memory.proofs.Parts.{getD-part, getD-within}
 use Rattle.wire.specs.Packets.{symbolCount, adui, symbolAt, sourceSymbols}
 use Rattle.wire.proofs.Adui as adui
 use Rattle.decoder.specs.Bytes.{Coded}
@@ -16,10 +15,8 @@ use Rattle.decoder.specs.Packets as packets
 use Rattle.decoder.specs.Stretch.{symbol-at}
 use Rattle.elimination.specs.Window.{stride, place, row, Window, Fits}
 use Rattle.elimination.specs.Packet as packet
-use Rattle.elimination.specs.Gather.{Only}
-use Rattle.elimination.proofs.Framing.{only-splice, works-only, row-room}
 use Rattle.elimination.proofs.Admitting.{gathered-only}
-use Rattle.elimination.proofs.Spelling.{symbol-moved, spells-one}
+use Rattle.elimination.proofs.Spelling.{spells-one}
 use Rattle.receiver.specs.declared.packet.PacketPlace.{PacketPlace}
 use Rattle.receiver.specs.declared.packet.Gathered.{Gathered}
 use Rattle.receiver.specs.Symbol.{Symbol, symbolOf}
@@ -28,47 +25,12 @@ use Rattle.receiver.specs.Model.{packetOf}
 use Rattle.receiver.specs.Inner.{RowOf}
 use Rattle.receiver.specs.Steps.{Spells, firsts, Lies, EquationAdmitted, Admits}
 use Rattle.receiver.specs.SourceSteps.{equationOf}
-use Rattle.receiver.proofs.Gathering.{contained-row, contained-more}
+use Rattle.receiver.proofs.Gathering.{contained-row, contained-more, stored-only, stored-is, firsts-same, firsts-cons}
 
 -- ---- One symbol
 
 pub length-symbol : (flow : ℕ) (adu : List ℕ) (E i : ℕ) → 0 < E → i < symbolCount E (length adu) → length (symbolAt flow adu E i) ≡ E
 length-symbol flow adu E i pos h = ap length (sym (adui.symbol-at flow adu E i h)) ∙ adui.symbol-length flow adu E pos i h
-
--- Bytes that were stored as a row's symbol are its symbol.
-pub stored-symbol : (w E k : ℕ) (x work : List ℕ) → length x ≡ E → place w E k + w ≤ length work
-    → symbol-at E w (row w E k (splice (place w E k + w) x work)) ≡ symbolOf E x
-stored-symbol w E k x work size h =
-    symbol-moved E w 0 (row w E k (splice (place w E k + w) x work)) x
-    (λ i l.
-    let e : place w E k + (w + i) ≡ place w E k + w + i = omega arith in
-    getD-part (place w E k) (stride w E) (w + i) _ (omega arith) ∙ ap (λ a. getD (splice (place w E k + w) x work) a 0) e
-    ∙ getD-within (place w E k + w) i x work (omega arith) h ∙ ap (λ a. getD x a 0) (sym (zero-plus i)))
-  where
-    zero-plus : (i : ℕ) → 0 + i ≡ i
-    zero-plus i = omega arith
-
--- A symbol of an ADU stored in a row of working memory.
-module _ (w E kept flow i : ℕ) (adu work work₁ : List ℕ) (g : packet.Works w E kept work) (h : i < symbolCount E (length adu))
-    (stored : work₁ ≡ splice (place w E kept + w) (symbolAt flow adu E i) work) where
-  symbol-size : length (symbolAt flow adu E i) ≡ E
-  symbol-size = length-symbol flow adu E i (omega (arith, g .some-symbol)) h
-
-  inside : place w E kept + stride w E ≤ length work
-  inside = row-room w E kept work g
-
-  stored-only : Only (place w E kept) (place w E kept + stride w E) work work₁
-  stored-only =
-      subst (λ m₁. Only (place w E kept) (place w E kept + stride w E) work m₁) (sym stored)
-      (only-splice (place w E kept) (place w E kept + stride w E) (place w E kept + w) _ work (omega arith) (omega (arith, symbol-size)) inside)
-
-  pub works-stored : packet.Works w E kept work₁
-  works-stored = works-only (omega arith) stored-only g
-
-  stored-is : symbol-at E w (row w E kept work₁) ≡ symbolOf E (symbolAt flow adu E i)
-  stored-is =
-      ap (λ m₁. symbol-at E w (row w E kept m₁)) stored
-      ∙ stored-symbol w E kept (symbolAt flow adu E i) work symbol-size (omega (arith, inside))
 
 module _ (at : PacketPlace) (kept flow i r : ℕ) (adu m work work₁ work′ : List ℕ) (answer : Gathered) where
   abbrev w : ℕ
@@ -92,7 +54,8 @@ module _ (at : PacketPlace) (kept flow i r : ℕ) (adu m work work₁ work′ : 
       → Admits at n (λ d. equationOf w E flow adu d i) kept answer m work work′
   symbol-admitted g h f stored a =
       let pos : 0 < E = omega (arith, g .some-symbol) in
-      let only = stored-only w E kept flow i adu work work₁ g h stored in
+      let size = length-symbol flow adu E i pos h in
+      let only = stored-only w E kept (symbolAt flow adu E i) work work₁ g size stored in
       record {
         contained = contained-more (contained-row w E kept (place w E kept + stride w E) work work₁ (g .within) (omega arith) only) (a .contained);
         works = a .works;
@@ -104,21 +67,11 @@ module _ (at : PacketPlace) (kept flow i r : ℕ) (adu m work work₁ work′ : 
             (λ t laid e.
             spells-one w E r t (omega (arith, g .some-width)) pos laid q d n i here h (l .room)
             ∙ ap (λ (y : Symbol E). decoder.embed (Coded E) w d n (packets.row (Coded E) n (packets.only (Coded E) i) y))
-            (e ∙ stored-is w E kept flow i adu work work₁ g h stored))
+            (e ∙ stored-is w E kept (symbolAt flow adu E i) work work₁ g size stored))
             (gathered-only w E q kept (place w E kept + stride w E) _ work work₁ es pos only (omega arith) gathered);
       }
 
 -- ---- All symbols
-
-firsts-same : {A : Type 0} (g h : ℕ → A) (n : ℕ) → ((k : ℕ) → k < n → g k ≡ h k) → firsts g n ≡ firsts h n
-unfolding firsts
-firsts-same g h zero e = refl
-firsts-same g h (suc n) e = ap₂ (λ l x. l ++ (x ∷ [])) (firsts-same g h n (λ k l. e k (omega arith))) (e n (omega arith))
-
-pub firsts-cons : {A : Type 0} (g : ℕ → A) (n : ℕ) → firsts g (suc n) ≡ g 0 ∷ firsts (λ k. g (suc k)) n
-unfolding firsts
-firsts-cons g zero = refl
-firsts-cons g (suc n) = ap (λ l. l ++ (g (suc n) ∷ [])) (firsts-cons g n)
 
 module _ (E w d n : ℕ) (s : ℕ → Symbol E) where
   abbrev one : ℕ → model.Row (Coded E) w

@@ -7,6 +7,7 @@ ghost use Rattle.receiver.specs.Layout.{receiverLayout};
 mod find;
 mod front;
 mod packet;
+mod repair;
 mod source;
 
 use elimination::Shape;
@@ -92,7 +93,7 @@ pub fn receive_source(mem: &mut [u8], work: &mut [u8], flow: u8, packet: &[u8]) 
         return Answer::Refused(Refusal::Unopened);
     };
     let setting = header.setting;
-    if work.len() < packet::working_size(setting) {
+    if work.len() < front::working_size(setting) {
         return Answer::Refused(Refusal::Short);
     }
     let SourceHeader::Source(fields) = wire::read_source(packet) else {

@@ -6,7 +6,6 @@ ghost use lib.ListN.{length};
 ghost use Rattle.wire.specs.Settings.{Valid};
 ghost use Rattle.elimination.specs.Window.{Fits};
 ghost use Rattle.elimination.specs.Packet.{Works};
-ghost use Rattle.receiver.specs.History.{workingSize};
 ghost use Rattle.receiver.specs.Header.{headerIn};
 ghost use Rattle.receiver.specs.Steps.{placeFound, gatheredBy, EquationAdmitted, Finished};
 use super::Header;
@@ -15,7 +14,6 @@ use elimination::gather;
 use elimination::gather::Verdict;
 use wire::Esi;
 use wire::Refusal;
-use wire::Setting;
 
 // Where a packet lies: the window that it brings about, by how much the base rises for it, how many positions stay, and the row of its first
 // position.
@@ -36,14 +34,6 @@ pub enum PlaceFound {
 pub enum Gathered {
     All(usize),
     Contradiction,
-}
-
-// How many bytes of working memory a packet call borrows.
-pub fn working_size(setting: Setting) -> usize
-    requires { ⌜ Valid setting ⌝ }
-    ensures { λ r. ⌜ r ≡ workingSize setting ⌝ }
-{
-    64 + (setting.width + 1) * (setting.width + setting.size + 4)
 }
 
 // By how much `a` is more than `b`.

@@ -1,6 +1,7 @@
 -- `receiver::source::admit_symbol` meets its contract.
 use native.Mathlib.Omega.{arith}
-use Rattle.receiver.proofs.Sourcing.{works-stored, symbol-admitted}
+use Rattle.receiver.proofs.Gathering.{works-stored}
+use Rattle.receiver.proofs.Sourcing.{length-symbol, symbol-admitted}
 use borrow.Author.Needs.{needs}
 use Rattle.receiver.proofs.source.admit_symbol.Statement.{statement}
 use Rattle.receiver.proofs.source.admit_symbol.Tie as tie
@@ -10,7 +11,7 @@ admit-equation-requires c κs =
     let start = c .before .before .before .before .before .before .before .before .before .before .before in
     let a = start .args in
     let p = start .pre in
-    (p .0, works-stored _ _ (a .kept) (a .flow) (a .i) _ _ _ (p .1) (p .5) (c .before .before .before .before .write-row .ensures), p .2, c .before .before .before .before .before .before .row-after .ensures .small, omega (arith, p .1 .some-width))
+    (p .0, works-stored _ _ (a .kept) _ _ _ (p .1) (length-symbol (a .flow) _ _ (a .i) (omega (arith, p .1 .some-symbol)) (p .5)) (c .before .before .before .before .write-row .ensures), p .2, c .before .before .before .before .before .before .row-after .ensures .small, omega (arith, p .1 .some-width))
 
 returns : tie.Need-returns
 returns c =
