@@ -12,7 +12,7 @@ use Rattle.tinymt.specs.Generator.{startOf}
 use Rattle.memory.specs.Part.{part, splice}
 use Rattle.memory.proofs.Parts.{cut, put, length-part, length-splice, past-splice, row-fits}
 use Rattle.wire.specs.Numbers.{keyAfter}
-use Rattle.wire.specs.Packets.{joined}
+use Rattle.wire.specs.Packets.{joined, chunks}
 use Rattle.wire.proofs.Settings.{both}
 use Rattle.wire.specs.declared.Scheme.{Scheme}
 use Rattle.wire.specs.declared.Scheme.the-variants.{Gf2}
@@ -188,3 +188,15 @@ list-at scheme dt n (key ∷ ks) rest (suc i) e h =
     let d = drop-at (coefficientsOf scheme key dt n .list) (joined (listsOf scheme dt n ks) ++ rest) n (list-length scheme key dt n (k .0)) in
     rw (m, ← drop-drop (i * n) n, append-assoc (coefficientsOf scheme key dt n .list), d)
     (list-at scheme dt n ks rest i (k .1) (le-of-suc-le-suc h))
+
+-- the lists, cut out of the bytes where they stand one after the other
+pub lists-cut : (scheme : Scheme) (dt n key count : ℕ) (rest : List ℕ) → allOk scheme dt n (keys key count) ≡ true
+    → chunks count n (joined (listsOf scheme dt n (keys key count)) ++ rest) ≡ listsOf scheme dt n (keys key count)
+lists-cut scheme dt n key zero rest e = refl
+lists-cut scheme dt n key (suc count) rest e =
+    let k = both (coefficientsOf scheme key dt n .ok) _ e in
+    let x = coefficientsOf scheme key dt n .list in
+    let y = joined (listsOf scheme dt n (keys (keyAfter key) count)) ++ rest in
+    let l = list-length scheme key dt n (k .0) in
+    rw (append-assoc x, take-at x y n l, drop-at x y n l)
+    (ap (λ (ls : List (List ℕ)). x ∷ ls) (lists-cut scheme dt n (keyAfter key) count rest (k .1)))

@@ -28,10 +28,10 @@ use Rattle.receiver.specs.Symbol.{bytesOf}
 use Rattle.receiver.specs.History.{placeOf, Said, value, refusal, IsValue}
 use Rattle.receiver.specs.Model.{State, shows, hides, shown, finding}
 use Rattle.receiver.specs.Header.{headerIn}
-use Rattle.receiver.specs.Promises.{Finds, SymbolAnswered, Shows, PartShown}
+use Rattle.receiver.specs.Promises.{said, Finds, SymbolAnswered, Shows, PartShown}
 use Rattle.receiver.specs.Layout.{headerOf, Holds, receiverLayout}
 use Rattle.receiver.specs.Inner.{RowOf, SpottedFor, Spotted}
-use Rattle.receiver.proofs.Headers.{header-fits}
+use Rattle.receiver.proofs.Headers.{Headed, headed, header-fits, of-header}
 
 -- ---- The row of a position
 
@@ -42,7 +42,7 @@ pub row-wrapped : (row d width : ℕ) → row < width → d < width → width �
 row-wrapped row d width a b h = record { is = sym (mod-eq-sub-mod h ∙ mod-eq-of-lt (omega arith)); small = omega arith }
 
 -- A row lies below the window's area.
-pub row-area : (w E r : ℕ) → r < w → w ≤ 255 → E ≤ 1500 → r * (w + E + 4) ≤ 448545
+pub row-area : (w E r : ℕ) → r ≤ w → w ≤ 255 → E ≤ 1500 → r * (w + E + 4) ≤ 448545
 row-area w E r h a b =
     let x : r ≤ 255 = omega arith in
     let y : w + E + 4 ≤ 1759 = omega arith in
@@ -63,24 +63,13 @@ module _ (m : List ℕ) (e : ℕ) (h : Header) (k : headerIn m ≡ some h) where
 
   open Setting (h .setting) using (width, size)
 
-  -- A state that the memory holds has the header's setting and numbers.
-  of-header : (P : (s : Setting) → State s → Type 0)
-      → ((t : State (h .setting)) → Holds m (h .setting) t → h .row ≡ t .base % width → h .base .0 ≡ t .base % 2 ^ 32 → P (h .setting) t)
-      → (s : Setting) (t : State s) → Holds m s t → P s t
-  of-header P f s t g =
-      let i : h ≡ headerOf s t = Option·some-injective _ _ (sym k ∙ g .header) in
-      subst
-      (λ (x : Header).
-      (t : State (x .setting)) → Holds m (x .setting) t → h .row ≡ t .base % x .setting .width → h .base .0 ≡ t .base % 2 ^ 32 → P (x .setting) t)
-      i f t g (ap (λ (x : Header). x .row) i) (ap (λ (x : Header). x .base .0) i)
-
   -- Nowhere, where the place alone says so.
   hidden : (x : Refusal) → numberOf x ≢ 3
       → ((t : State (h .setting)) → h .base .0 ≡ t .base % 2 ^ 32 → finding (h .setting) t e ≡ hides (numberOf x)) → Spotted m e (Nowhere x)
   hidden x n f = record {
     unopened = λ z. absurd (Option·none-ne-some h (sym z ∙ k));
     lies = λ y z. n;
-    told = of-header (λ s t. SpottedFor m e s t (Nowhere x)) (λ t g r b. f t b);
+    told = of-header m h k (λ s t. SpottedFor m e s t (Nowhere x)) (λ t g r b. f t b);
   }
 
   pub finds-behind : 2 ^ 31 ≤ d → Spotted m e (Nowhere Behind)
@@ -112,7 +101,7 @@ module _ (m : List ℕ) (e : ℕ) (h : Header) (k : headerIn m ≡ some h) where
     unknown u = record {
       unopened = λ z. absurd (Option·none-ne-some h (sym z ∙ k));
       lies = λ y z x. absurd (omega (arith, x));
-      told = of-header (λ s t. SpottedFor m e s t (Nowhere Unknown))
+      told = of-header m h k (λ s t. SpottedFor m e s t (Nowhere Unknown))
           (λ t g a b. looked t b ∙ ap (shown (h .setting) (t .base + d)) (u (t .base) d (t .window) inside (here t a) (g .rows)));
     }
 
@@ -128,7 +117,7 @@ module _ (m : List ℕ) (e : ℕ) (h : Header) (k : headerIn m ≡ some h) where
     known-at b u = record {
       unopened = λ z. absurd (Option·none-ne-some h (sym z ∙ k));
       lies = λ y z. let i : h ≡ y = Option·some-injective _ _ (sym k ∙ z) in (ap (λ (x : Header). x .setting .size) i, omega (arith, row-ends));
-      told = of-header (λ s t. SpottedFor m e s t (At (window.place width size r + width) size))
+      told = of-header m h k (λ s t. SpottedFor m e s t (At (window.place width size r + width) size))
           (λ t g a c. (
             t .base + d,
             window.line width size (window.row width size r m) .sym,

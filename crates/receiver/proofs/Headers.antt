@@ -1,9 +1,9 @@
 -- The header of a receiver: what reading it finds, what refusal 3 stands for, and what opening leaves.
-use mathlib.Core.Path.{_≡_, refl, sym, _∙_, subst}
+use mathlib.Core.Path.{_≡_, refl, sym, ap, _∙_, subst}
 use mathlib.Core.Bool.{Bool, true, false, cond, _&&_}
 use mathlib.Core.Option.{Option, none, some, Option·none-ne-some, Option·some-injective}
 use mathlib.Core.List.{List}
-use Prim.Native.Nat.{ℕ, _+_, _*_, _≤_, _<_}
+use Prim.Native.Nat.{ℕ, _+_, _*_, _%_, _^_, _≤_, _<_}
 use native.Mathlib.Nat.{mul-le-mul}
 use native.Mathlib.Omega.{arith}
 use lib.Dec.{leb, ltb}
@@ -23,7 +23,9 @@ use Rattle.receiver.specs.declared.Header.{Header}
 use Rattle.receiver.specs.declared.Found.{Found}
 use Rattle.receiver.specs.declared.Found.the-variants.{HeaderIs, NoHeader}
 use Rattle.receiver.specs.History.{memorySize}
+use Rattle.receiver.specs.Model.{State}
 use Rattle.receiver.specs.Header.{headerWith, headerIn}
+use Rattle.receiver.specs.Layout.{headerOf, Holds}
 use Rattle.receiver.specs.Inner.{foundOf}
 
 -- ---- What an answer that was told apart says
@@ -49,6 +51,12 @@ header-none (some x) e f = cc
 -- The rows fit a usize.
 pub area : (s : Setting) → Valid s → s .width * (s .width + s .size + 4) ≤ 448545
 area s v = let j : s .width + s .size + 4 ≤ 1759 = omega (arith, v .width-most, v .size-most) in mul-le-mul (v .width-most) j
+
+pub working-area : (s : Setting) → Valid s → (s .width + 1) * (s .width + s .size + 4) ≤ 450304
+working-area s v =
+    let i : s .width + 1 ≤ 256 = omega (arith, v .width-most) in
+    let j : s .width + s .size + 4 ≤ 1759 = omega (arith, v .width-most, v .size-most) in
+    mul-le-mul i j
 
 -- The header's numbers, of a memory with a setting.
 abbrev pub numbers : Setting → List ℕ → Header
@@ -110,6 +118,17 @@ setting-fits s m v h = record {
 
 pub header-fits : (m : List ℕ) (h : Header) → headerIn m ≡ some h → Fits (h .setting .width) (h .setting .size) m
 header-fits m h e = let k = headed m h e in setting-fits (h .setting) m (k .valid) (k .room)
+
+-- A state that the memory holds has the header's setting and numbers.
+pub of-header : (m : List ℕ) (h : Header) → headerIn m ≡ some h → (P : (s : Setting) → State s → Type 0)
+    → ((t : State (h .setting)) → Holds m (h .setting) t → h .row ≡ t .base % h .setting .width → h .base .0 ≡ t .base % 2 ^ 32 → P (h .setting) t)
+    → (s : Setting) (t : State s) → Holds m s t → P s t
+of-header m h k P f s t g =
+    let i : h ≡ headerOf s t = Option·some-injective _ _ (sym k ∙ g .header) in
+    subst
+    (λ (x : Header).
+    (t : State (x .setting)) → Holds m (x .setting) t → h .row ≡ t .base % x .setting .width → h .base .0 ≡ t .base % 2 ^ 32 → P (x .setting) t)
+    i f t g (ap (λ (x : Header). x .row) i) (ap (λ (x : Header). x .base .0) i)
 
 -- ---- What refusal 3 stands for
 

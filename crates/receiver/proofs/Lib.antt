@@ -10,3 +10,10 @@ pub mod Naming
 pub mod Headers
 pub mod Finding
 pub mod Opening
+pub mod Locating
+pub mod Finishing
+pub mod Gathering
+pub mod Receiving
+pub mod Sourcing
+pub mod SourceCall
+pub mod Repairing

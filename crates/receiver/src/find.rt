@@ -12,7 +12,7 @@ use wire::Esi;
 use wire::Refusal;
 
 // The row of the position `d` after that of the row `row`.
-fn row_after(row: usize, d: usize, width: usize) -> usize
+pub fn row_after(row: usize, d: usize, width: usize) -> usize
     requires { ⌜ (row < width) × (d < width) × (width ≤ 255) ⌝ }
     ensures { λ r. ⌜ RowOf row d width r ⌝ }
 {
@@ -21,8 +21,8 @@ fn row_after(row: usize, d: usize, width: usize) -> usize
 }
 
 // Where the symbol of a row begins: after the coefficients.
-fn symbol_start(width: usize, size: usize, row: usize) -> usize
-    requires { ⌜ (row < width) × (width ≤ 255) × (size ≤ 1500) ⌝ }
+pub fn symbol_start(width: usize, size: usize, row: usize) -> usize
+    requires { ⌜ (row ≤ width) × (width ≤ 255) × (size ≤ 1500) ⌝ }
     ensures { λ at. ⌜ at ≡ place width size row + width ⌝ }
 {
     64 + row * (width + size + 4) + width

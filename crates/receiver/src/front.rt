@@ -3,7 +3,7 @@ ghost use mathlib.Core.Path.{_≡_};
 ghost use Prim.Native.Nat.{_≤_};
 ghost use lib.ListN.{length};
 ghost use Rattle.wire.specs.Settings.{Valid};
-ghost use Rattle.receiver.specs.History.{memorySize};
+ghost use Rattle.receiver.specs.History.{memorySize, workingSize};
 ghost use Rattle.receiver.specs.Header.{headerIn};
 ghost use Rattle.receiver.specs.Inner.{foundOf, freshHeader};
 use super::Found;
@@ -18,6 +18,14 @@ pub fn memory_size(setting: Setting) -> usize
     ensures { λ r. ⌜ r ≡ memorySize setting ⌝ }
 {
     64 + setting.width * (setting.width + setting.size + 4)
+}
+
+// How many bytes of working memory a packet call borrows.
+pub fn working_size(setting: Setting) -> usize
+    requires { ⌜ Valid setting ⌝ }
+    ensures { λ r. ⌜ r ≡ workingSize setting ⌝ }
+{
+    64 + (setting.width + 1) * (setting.width + setting.size + 4)
 }
 
 // Reads the header, if the memory has a receiver's and is long enough for its setting.

@@ -1,16 +1,22 @@
 // The receiver: opening, and the two calls that show a symbol (RFC 8681, section 3.4; document 01).
 ghost use mathlib.Core.Path.{_≡_};
-ghost use Rattle.receiver.specs.Promises.{Opened, SymbolAnswered, PartShown};
+ghost use Rattle.receiver.specs.Promises.{Opened, Received, SymbolAnswered, PartShown};
+ghost use Rattle.receiver.specs.History.{source-call};
 ghost use Rattle.receiver.specs.Layout.{receiverLayout};
 
 mod find;
 mod front;
+mod packet;
+mod repair;
+mod source;
 
 use elimination::Shape;
+use packet::PlaceFound;
 use wire::Checked;
 use wire::Esi;
 use wire::Refusal;
 use wire::Setting;
+use wire::SourceHeader;
 
 // What a call answers: a number (opening and the symbol call: 0; a packet call: how many positions of the window became known), or a refusal.
 pub enum Answer {
@@ -76,5 +82,35 @@ pub fn symbol_part(mem: &[u8], esi: Esi) -> &[u8]
     match find::find(mem, esi) {
         Spot::At(at, n) => memory::part(mem, at, n),
         Spot::Nowhere(_) => memory::part(mem, 0, 0),
+    }
+}
+
+// Receives a source packet that came with a flow. Gives how many positions of the window became known.
+pub fn receive_source(mem: &mut [u8], work: &mut [u8], flow: u8, packet: &[u8]) -> Answer
+    ensures { λ r. ⌜ Received receiverLayout (source-call flow (now (packet .entry))) (now (mem .entry)) (now (mem .exit)) (now (work .entry)) (now (work .exit)) r ⌝ }
+{
+    let Found::HeaderIs(header) = front::read_header(mem) else {
+        return Answer::Refused(Refusal::Unopened);
+    };
+    let setting = header.setting;
+    if work.len() < front::working_size(setting) {
+        return Answer::Refused(Refusal::Short);
+    }
+    let SourceHeader::Source(fields) = wire::read_source(packet) else {
+        return Answer::Refused(Refusal::Form);
+    };
+    if 65535 < fields.len {
+        return Answer::Refused(Refusal::Long);
+    }
+    let count = wire::symbol_count(setting.size, fields.len);
+    if setting.width < count {
+        return Answer::Refused(Refusal::Long);
+    }
+    match packet::locate(header, fields.first, count) {
+        PlaceFound::PlaceIs(place) => {
+            let adu = memory::part(packet, 0, fields.len);
+            source::take_source(mem, work, header, place, flow, adu, count)
+        }
+        PlaceFound::Out(refusal) => Answer::Refused(refusal),
     }
 }

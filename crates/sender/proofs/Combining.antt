@@ -8,7 +8,7 @@ use native.Mathlib.Numerals.{add-one}
 use native.Mathlib.Omega.{arith}
 use mathlib.Core.List.{List, [], _∷_, _++_, map, append-nil, append-assoc}
 use lib.ListN.{length, take, getD, replicate, length-append, length-map, take-append-drop}
-use lib.Seq.{take-suc, take-all, take-at, drop-at}
+use lib.Seq.{take-suc, take-all}
 use Rattle.memory.specs.Part.{part, splice}
 use Rattle.memory.proofs.Parts.{splice-next, cons-eq}
 use lib.Dec.{ltb}
@@ -18,12 +18,12 @@ use Rattle.wire.specs.Numbers.{within, esiBefore}
 use Rattle.wire.specs.Packets.{Sized, joined, chunks, repairHeader, repairPacket}
 use Rattle.wire.proofs.Adui.{front-next, length-chunks, getD-chunks}
 use Rattle.wire.proofs.Reading.{repair-length}
-use Rattle.wire.proofs.Settings.{both}
 use Rattle.rows.specs.Combination.{coefficient, combination, combined, rowAt}
 use Rattle.rows.proofs.Dot.{dot-same}
 use Rattle.rows.proofs.Combinations.{long-rows, length-combination, combined-sums}
-use Rattle.coefficients.specs.Coefficients.{coefficientsOf, keys, listsOf, allOk}
-use Rattle.coefficients.proofs.Lists.{list-length, length-keys}
+use Rattle.coefficients.specs.Coefficients.{keys, listsOf, allOk}
+use Rattle.coefficients.proofs.Lists.{length-keys}
+use Rattle.coefficients.proofs.Fills.{lists-cut}
 use Rattle.sender.specs.declared.Header.{Header}
 use Rattle.sender.specs.declared.Answer.{Answer}
 use Rattle.sender.specs.declared.Answer.the-variants.{Done, Refused}
@@ -102,17 +102,6 @@ module _ (h : Header) (m : List ℕ) (count : ℕ) (lists : List ℕ) where
 
 -- ---- the packet
 
-cut-lists : (n : ℕ) (ls : List (List ℕ)) (rest : List ℕ) → Sized n ls → chunks (length ls) n (joined ls ++ rest) ≡ ls
-cut-lists n [] rest s = refl
-cut-lists n (l ∷ ls) rest s =
-    rw (append-assoc l (joined ls) rest, take-at l (joined ls ++ rest) n (s .0), drop-at l (joined ls ++ rest) n (s .0)) (cons-eq refl (cut-lists n ls rest (s .1)))
-
-sized-lists : (scheme : Scheme) (dt n : ℕ) (ks : List ℕ) → allOk scheme dt n ks ≡ true → Sized n (listsOf scheme dt n ks)
-sized-lists scheme dt n [] e = tt
-sized-lists scheme dt n (k ∷ ks) e =
-    let b = both (coefficientsOf scheme k dt n .ok) (allOk scheme dt n ks) e in
-    (list-length scheme k dt n (b .0), sized-lists scheme dt n ks (b .1))
-
 symbols-of : (scheme : Scheme) (dt size : ℕ) (window : List (List ℕ)) (n : ℕ) → length window ≡ n → (ks : List ℕ)
     → map (λ (cs : List ℕ). combination size cs window) (listsOf scheme dt n ks) ≡ map (repairSymbol scheme dt size window) ks
 unfolding repairSymbol
@@ -137,9 +126,7 @@ module _ (h : Header) (key dt count : ℕ) (m out : List ℕ) (written : ℕ) (e
   packed-done ok first rest lists out₁ out₂ ef el e₁ e₂ =
       let scheme = h .setting .scheme in
       let ls = listsOf scheme dt (h .held) (keys written count) in
-      let n : length ls ≡ count = length-map (keys written count) _ ∙ length-keys written count in
-      let c : chunks count (h .held) lists ≡ ls =
-      ap (λ (k : ℕ). chunks k (h .held) lists) (sym n) ∙ rw el (cut-lists (h .held) ls rest (sized-lists scheme dt (h .held) (keys written count) ok)) in
+      let c : chunks count (h .held) lists ≡ ls = rw el (lists-cut scheme dt (h .held) written count rest ok) in
       let s = symbols-of scheme dt (h .setting .size) (windowIn h m) (h .held) (length-stored _ _ m _ (h .held)) (keys written count) in
       rw (← ew, ok) (refl, rw (e₂, e₁, c, s, ef) (front-next 8 (repairHeader written dt (h .held) (esiBefore (h .esi .0) (h .held))) _ out refl))
 

@@ -1,4 +1,5 @@
 -- `receiver::find::find` meets its contract.
+use native.Mathlib.Omega.{arith}
 use mathlib.Core.Path.{_≡_}
 use mathlib.Core.Option.{some}
 use Rattle.receiver.specs.declared.Header.{Header}
@@ -52,7 +53,7 @@ symbol-start-requires : tie.Need-symbol-start-requires
 symbol-start-requires c κs =
     let p = c .before .before .before .before .before .before .before in
     let k = headed _ (header p) (has p) in
-    (c .before .before .row-after .ensures .small, k .valid .width-most, k .valid .size-most)
+    (omega (arith, c .before .before .row-after .ensures .small), k .valid .width-most, k .valid .size-most)
 
 returns-5 : tie.Need-returns-5
 returns-5 c =

@@ -1,0 +1,122 @@
+// The steps that both packet calls share: where the packet lies, what one more equation makes of it, and the state after it.
+ghost use mathlib.Core.Path.{_≡_};
+ghost use mathlib.Core.Option.{some};
+ghost use Prim.Native.Nat.{_-_, _≤_, _<_};
+ghost use lib.ListN.{length};
+ghost use Rattle.wire.specs.Settings.{Valid};
+ghost use Rattle.elimination.specs.Window.{Fits};
+ghost use Rattle.elimination.specs.Packet.{Works};
+ghost use Rattle.receiver.specs.Header.{headerIn};
+ghost use Rattle.receiver.specs.Steps.{placeFound, gatheredBy, EquationAdmitted, Finished};
+use super::Header;
+use elimination::Shape;
+use elimination::gather;
+use elimination::gather::Verdict;
+use wire::Esi;
+use wire::Refusal;
+
+// Where a packet lies: the window that it brings about, by how much the base rises for it, how many positions stay, and the row of its first
+// position.
+pub struct PacketPlace {
+    pub shape: Shape,
+    pub rise: usize,
+    pub stay: usize,
+    pub first: usize,
+}
+
+// Where a packet lies, or why it is refused.
+pub enum PlaceFound {
+    PlaceIs(PacketPlace),
+    Out(Refusal),
+}
+
+// A packet's equations agree with the state, and so many rows of working memory are kept of them; or they contradict it.
+pub enum Gathered {
+    All(usize),
+    Contradiction,
+}
+
+// By how much `a` is more than `b`.
+fn excess(a: usize, b: usize) -> usize
+    ensures { λ r. ⌜ r ≡ a - b ⌝ }
+{
+    if a < b { 0 } else { a - b }
+}
+
+// Where `n` symbols from the ESI `first` on lie.
+pub fn locate(header: Header, first: Esi, n: usize) -> PlaceFound
+    requires { ⌜ Valid (header .setting) × (header .row < header .setting .width) × (n ≤ header .setting .width) ⌝ }
+    ensures { λ r. ⌜ r ≡ placeFound header (first .0) n ⌝ }
+{
+    let d = first.distance(header.base) as usize;
+    if d >= 2147483648 {
+        return PlaceFound::Out(Refusal::Behind);
+    }
+    if d + n > 65536 {
+        return PlaceFound::Out(Refusal::Ahead);
+    }
+    let width = header.setting.width;
+    let rise = excess(d + n, width);
+    let shape = Shape {
+        width,
+        size: header.setting.size,
+        base: (header.row + rise) % width,
+    };
+    PlaceFound::PlaceIs(PacketPlace {
+        shape,
+        rise,
+        stay: excess(width, rise),
+        first: (header.row + d) % width,
+    })
+}
+
+// What the equations come to, of which `kept` rows were kept, with one more that was found to be so.
+pub fn gathered_by(kept: usize, verdict: Verdict) -> Gathered
+    requires { ⌜ kept ≤ 255 ⌝ }
+    ensures { λ r. ⌜ r ≡ gatheredBy kept verdict ⌝ }
+{
+    match verdict {
+        Verdict::Kept => Gathered::All(kept + 1),
+        Verdict::Implied => Gathered::All(kept),
+        Verdict::Contradiction => Gathered::Contradiction,
+    }
+}
+
+// An equation with the coefficients in the columns from `first` on, and the symbol that the row `kept` of working memory has, after others of
+// which `kept` rows were kept.
+pub fn admit_equation(
+    mem: &[u8],
+    work: &mut [u8],
+    coefficients: &[u8],
+    place: PacketPlace,
+    kept: usize,
+    first: usize,
+) -> Gathered
+    requires { ⌜ Fits (place .shape .width) (place .shape .size) (now mem) × Works (place .shape .width) (place .shape .size) kept (now work)
+        × (place .shape .base < place .shape .width) × (first < place .shape .width) × (length (now coefficients) ≤ place .shape .width) ⌝ }
+    ensures { λ r. ⌜ EquationAdmitted place kept first (now (coefficients .entry)) r (now (mem .entry)) (now (work .entry)) (now (work .exit)) ⌝ }
+{
+    let shape = place.shape;
+    let n = coefficients.len();
+    gather::lay(work, coefficients, shape, kept, first);
+    let verdict = gather::admit(mem, work, shape, place.stay, kept, first, n);
+    gathered_by(kept, verdict)
+}
+
+// The packet is accepted: its rows, `kept` in working memory, join the state's, and the base rises. Gives how many positions have become known.
+pub fn finish(mem: &mut [u8], work: &[u8], header: Header, place: PacketPlace, kept: usize) -> usize
+    requires { ⌜ (headerIn (now mem) ≡ some header) × Works (header .setting .width) (header .setting .size) kept (now work) × (place .shape .base < 65536) × (place .rise ≤ 65536) ⌝ }
+    ensures { λ n. ⌜ Finished header place kept n (now (work .entry)) (now (mem .entry)) (now (mem .exit)) ⌝ }
+{
+    let shape = Shape {
+        width: header.setting.width,
+        size: header.setting.size,
+        base: header.row,
+    };
+    let count = elimination::place::commit(mem, work, shape, place.rise, kept);
+    let base = header.base;
+    let next = base.plus(place.rise as u32);
+    memory::store_u16(mem, 8, place.shape.base as u16);
+    memory::store_u32(mem, 12, next.0);
+    count
+}
