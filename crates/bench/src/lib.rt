@@ -1,10 +1,11 @@
-// The row operations and the sender's calls under C names, for the drivers of bench/. A row operation whose lengths do not fit does nothing.
+// The row operations and the calls of sender and receiver under C names, for the drivers of bench/. A row operation whose lengths do not fit does nothing.
 ghost use mathlib.Core.Path.{_≡_};
 ghost use lib.ListN.{length};
 ghost use Rattle.rows.specs.Rows.{addScaled};
 use field::Gf256;
 use field::tables;
 use sender::Answer;
+use wire::Esi;
 use wire::RepairKey;
 
 // dst becomes src.
@@ -121,4 +122,42 @@ pub extern "C" fn bench_make_repair(
     out: &mut [u8],
 ) -> usize {
     answered(sender::make_repair(mem, RepairKey(key), dt, count, out))
+}
+
+// The same of the receiver.
+fn received(answer: receiver::Answer) -> usize {
+    match answer {
+        receiver::Answer::Done(n) => n,
+        receiver::Answer::Refused(_r) => 1000000,
+    }
+}
+
+#[no_mangle]
+pub extern "C" fn bench_receiver_open(
+    mem: &mut [u8],
+    scheme: usize,
+    size: usize,
+    width: usize,
+) -> usize {
+    received(receiver::open(mem, scheme, size, width))
+}
+
+#[no_mangle]
+pub extern "C" fn bench_receive_source(
+    mem: &mut [u8],
+    work: &mut [u8],
+    flow: u8,
+    packet: &[u8],
+) -> usize {
+    received(receiver::receive_source(mem, work, flow, packet))
+}
+
+#[no_mangle]
+pub extern "C" fn bench_receive_repair(mem: &mut [u8], work: &mut [u8], packet: &[u8]) -> usize {
+    received(receiver::receive_repair(mem, work, packet))
+}
+
+#[no_mangle]
+pub extern "C" fn bench_symbol(mem: &[u8], esi: u32) -> usize {
+    received(receiver::symbol(mem, Esi(esi)))
 }

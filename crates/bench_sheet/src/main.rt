@@ -1,8 +1,12 @@
-// Prints cases C1 to C7 and C9 of document 01 and a sender's refusals, as the code computes them: a line for each case, packets in hexadecimal.
+// Prints the bench sheet of document 01, C1 to C12, and its small examples of refusals, as the code computes them: a line for each case, packets and
+// symbols in hexadecimal.
 ghost use mathlib.Core.Path.{_≡_};
 ghost use Prim.Native.Nat.{_<_};
 ghost use lib.ListN.{length};
 ghost use Rattle.wire.specs.Numbers.{numberOf};
+
+mod receiving;
+
 use coefficients::Filled;
 use field::Gf256;
 use libc::STDOUT_FILENO;
@@ -217,6 +221,11 @@ fn main() {
     coefficients_case(b"C5", &mut six, Scheme::Gf2, 4);
     coefficients_case(b"C6", &mut five, Scheme::Gf256, 4);
     packets_case();
+    receiving::solved_case();
     width_case();
+    receiving::places_case();
+    receiving::contradiction_case();
+    receiving::departed_case();
     refusals_case();
+    receiving::refusals_case();
 }
