@@ -1,9 +1,10 @@
 // What changes the window's equations: no rows at all, the window moves on, and a packet's rows join those of the window.
 // And whether a position is known, which its row's first flag says.
 ghost use mathlib.Core.Path.{_≡_};
+ghost use mathlib.Core.Logic.{_≢_};
 ghost use Prim.Native.Nat.{_+_, _<_};
-ghost use lib.ListN.{length};
-ghost use Rattle.elimination.specs.Window.{Fits};
+ghost use lib.ListN.{length, getD};
+ghost use Rattle.elimination.specs.Window.{place, Fits};
 ghost use Rattle.elimination.specs.Place.{Emptied, Moved, Known, Committed};
 ghost use Rattle.elimination.specs.Packet.{Works};
 ghost use Rattle.elimination.specs.RowSteps.{flagged, Tested, Marked, ClearedRow, Stored, Settled, KeptRow, PlacedKept, Joined};
@@ -78,22 +79,32 @@ fn mark(mem: &mut [u8], shape: Shape, r: usize) -> usize
     n as usize
 }
 
-// The column `r` of the row `q`, if that is in use, is cleared by the working row. Gives one if its position has become known, else zero.
+// The column `r` of the row `q`, which has a coefficient there, is cleared by the working row, if the row `q` is in use. Gives one if its position
+// has become known, else zero.
+fn clear_coefficient(mem: &mut [u8], row: &[u8], shape: Shape, r: usize, q: usize) -> usize
+    requires { ⌜ Fits (shape .width) (shape .size) (now mem) × (length (now row) ≡ shape .width + shape .size) × (r < shape .width) × (q < shape .width) × (getD (now mem) (place (shape .width) (shape .size) q + r) 0 ≢ 0) ⌝ }
+    ensures { λ n. ⌜ ClearedRow (shape .width) (shape .size) r q n (now (row .entry)) (now (mem .entry)) (now (mem .exit)) ⌝ }
+{
+    let at = super::start_of(shape, q);
+    let n = shape.width + shape.size;
+    if mem[at + n] == 0 {
+        return 0;
+    }
+    let c = mem[at + r];
+    rows::add_part(mem, at, row, 0, n, Gf256(c));
+    mark(mem, shape, q)
+}
+
+// The same of any row. The test stands alone, so that the compiler puts it into the loop over the rows.
 fn clear_row(mem: &mut [u8], row: &[u8], shape: Shape, r: usize, q: usize) -> usize
     requires { ⌜ Fits (shape .width) (shape .size) (now mem) × (length (now row) ≡ shape .width + shape .size) × (r < shape .width) × (q < shape .width) ⌝ }
     ensures { λ n. ⌜ ClearedRow (shape .width) (shape .size) r q n (now (row .entry)) (now (mem .entry)) (now (mem .exit)) ⌝ }
 {
     let at = super::start_of(shape, q);
-    let c = mem[at + r];
-    if c == 0 {
+    if mem[at + r] == 0 {
         return 0;
     }
-    let n = shape.width + shape.size;
-    if mem[at + n] == 0 {
-        return 0;
-    }
-    rows::add_part(mem, at, row, 0, n, Gf256(c));
-    mark(mem, shape, q)
+    clear_coefficient(mem, row, shape, r, q)
 }
 
 // The working row becomes the row `r`. Gives one if its position is known, else zero.
