@@ -3,7 +3,7 @@ use mathlib.Core.Path.{_≡_, refl, sym, ap, ap₂, _∙_, subst}
 use mathlib.Core.Logic.{_≢_}
 use mathlib.Core.Bool.{true, false, true≢false}
 use mathlib.Core.List.{List}
-use Prim.Native.Nat.{ℕ, zero, suc, _+_, _%_, _≤_, _<_}
+use Prim.Native.Nat.{ℕ, zero, suc, _+_, _-_, _%_, _≤_, _<_}
 use native.Mathlib.Nat.{mod-lt, add-zero, zero-add}
 use native.Mathlib.Decide.{ℕ-discrete}
 use native.Mathlib.Omega.{arith}
@@ -22,7 +22,7 @@ use Rattle.decoder.proofs.Bytes.{laws, byte-zero}
 use Rattle.decoder.proofs.Stretch.{line-add, line-same}
 use Rattle.decoder.proofs.Refine.{add-line-zero}
 use Rattle.elimination.specs.Window.{stride, place, row, flag, inUse, line, table, Flagged, Flags, Fits, Kept}
-use Rattle.elimination.specs.RowSteps.{one-if-known, known-flag, known-flags, Marked, Changed, ClearedRow, Stored, Settled, flagged}
+use Rattle.elimination.specs.RowSteps.{one-if-known, known-flag, known-flags, Marked, Changed, ClearedRow, FirstWith, Stored, Settled, flagged}
 use Rattle.elimination.proofs.Rows.{row-store, row-other, kept-store, kept-refl, kept-trans, fits-kept}
 use Rattle.elimination.proofs.Flags.{flag-at, unused, used, unused-flag, not-known, flags-changed, count-changed}
 use Rattle.elimination.proofs.Flags.{flagged-flag, flagged-cell, flagged-line, flagged-rest, flagged-kept}
@@ -112,6 +112,31 @@ pub stored-copy : (w E r n at : ℕ) (l m m₁ m′ : List ℕ) → Fits w E m �
     → m₁ ≡ splice at (part 0 (w + E) l) m → Marked w E r n m₁ m′ → Stored w E r n l m m′
 stored-copy w E r n at l m m₁ m′ fits h size here e t =
     stored w E r n l m m₁ m′ fits h size (e ∙ ap (λ x. splice at x m) (whole (w + E) l size) ∙ ap (λ k. splice k l m) here) t
+
+-- The rows from `from` on and before `q` have no coefficient in the column.
+pub record Passed (w E r from q : ℕ) (m : List ℕ) : Type 0 where
+  pub least : from ≤ q
+  pub most : q ≤ w
+  pub zeros : (j : ℕ) → from ≤ j → j < q → getD m (place w E j + r) 0 ≡ 0
+
+module _ {w E r from : ℕ} {m : List ℕ} where
+  pub passed-none : from ≤ w → Passed w E r from from m
+  passed-none h = record { least = omega arith; most = h; zeros = λ j a b. absurd (omega arith) }
+
+  module _ (q at : ℕ) (f : Passed w E r from q m) (h : q < w) (here : at ≡ place w E q) where
+    pub passed-more : getD m (at + r) 0 ≡ 0 → Passed w E r from (q + 1) m
+    passed-more z = record { least = omega (arith, f .least); most = omega arith; zeros = λ j a b. next j a b (ℕ-discrete j q) }
+      where
+        next : (j : ℕ) → from ≤ j → j < q + 1 → Dec (j ≡ q) → getD m (place w E j + r) 0 ≡ 0
+        next j a b (yes e) = ap (λ x. getD m (place w E x + r) 0) e ∙ ap (λ x. getD m (x + r) 0) (sym here) ∙ z
+        next j a b (no e) = f .zeros j a (omega arith)
+
+    pub passed-here : getD m (at + r) 0 ≢ 0 → FirstWith w E r from q m
+    passed-here z = record { least = f .least; most = f .most; zeros = f .zeros; here = λ _ e. z (ap (λ x. getD m (x + r) 0) here ∙ e) }
+
+  pub passed-all : (q : ℕ) → Passed w E r from q m → q ≡ w → FirstWith w E r from w m
+  passed-all q f e = subst (λ x. FirstWith w E r from x m) e
+      (record { least = f .least; most = f .most; zeros = f .zeros; here = λ h. absurd (omega arith) })
 
 -- The row `q` is passed over: it is not in use, or has no coefficient in the column.
 module _ (w E r q : ℕ) (l m : List ℕ) where
@@ -242,6 +267,22 @@ module _ (w E r : ℕ) (l m : List ℕ) where
           ∙ g .sum (f .used i h ∙ ap (λ x. inUse w E (row w E x m)) (sym e) ∙ u)
           ∙ ap (λ x. add-line (byte (getD x r 0)) (line w E l) (line w E x)) (f .rest i (omega arith) h ∙ ap (λ x. row w E x m) (sym e))
       one q b u (no e) = ap (line w E) (g .changed .rest q (omega arith) e) ∙ f .sum q (omega arith) u
+
+  -- Rows without a coefficient there are passed over.
+  skip : (d i n : ℕ) (m₁ : List ℕ) → 0 < E → r < w → i + d ≤ w → ((j : ℕ) → i ≤ j → j < i + d → getD m₁ (place w E j + r) 0 ≡ 0)
+      → Cleared w E r i n l m m₁ → Cleared w E r (i + d) n l m m₁
+  skip zero i n m₁ pos h k z f = subst (λ x. Cleared w E r x n l m m₁) (sym (add-zero i)) f
+  skip (suc d) i n m₁ pos h k z f =
+      let turn = cleared-zero w E r i l m₁ (place w E i) refl pos h (z i (omega arith) (omega arith)) in
+      let more = subst (λ x. Cleared w E r (i + 1) x l m m₁) (add-zero n) (cleared-more i n 0 m₁ m₁ (omega arith) f turn) in
+      let e : i + 1 + d ≡ i + suc d = omega arith in
+      subst (λ x. Cleared w E r x n l m m₁) e (skip d (i + 1) n m₁ pos h (omega arith) (λ j a b. z j (omega arith) (omega arith)) more)
+
+  pub cleared-skip : (i q n : ℕ) (m₁ : List ℕ) → 0 < E → r < w → FirstWith w E r i q m₁ → Cleared w E r i n l m m₁ → Cleared w E r q n l m m₁
+  cleared-skip i q n m₁ pos h g f =
+      let e : i + (q - i) ≡ q = omega (arith, g .least) in
+      subst (λ x. Cleared w E r x n l m m₁) e
+      (skip (q - i) i n m₁ pos h (omega (arith, g .least, g .most)) (λ j a b. g .zeros j a (omega (arith, g .least))) f)
 
   -- Cleared, and then stored.
   pub settled : (i n k : ℕ) (m₁ m₂ : List ℕ) → r < w → i ≡ w → Cleared w E r i n l m m₁ → Stored w E r k l m₁ m₂ → Settled w E r (n + k) l m m₂

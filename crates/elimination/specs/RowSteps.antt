@@ -66,6 +66,13 @@ pub record ClearedRow (w E r q n : ℕ) (l m m′ : List ℕ) : Type 0 where
   pub flags : (q ≡ r → inUse w E (row w E q m) ≡ false) → Flagged w E q (row w E q m)
       → Flagged w E q (row w E q m′) × (n + known-flag w E m q ≡ known-flag w E m′ q)
 
+-- The row `q` is the first from `from` on that has a coefficient in the column `r`, or `w` if none has.
+pub record FirstWith (w E r from q : ℕ) (m : List ℕ) : Type 0 where
+  pub least : from ≤ q
+  pub most : q ≤ w
+  pub zeros : (j : ℕ) → from ≤ j → j < q → getD m (place w E j + r) 0 ≡ 0
+  pub here : q < w → getD m (place w E q + r) 0 ≢ 0
+
 -- The working row `l` has become the row `r`, in use.
 pub record Stored (w E r n : ℕ) (l m m′ : List ℕ) : Type 0 where
   pub changed : Changed w E r n m m′

@@ -2,12 +2,12 @@
 // And whether a position is known, which its row's first flag says.
 ghost use mathlib.Core.Path.{_≡_};
 ghost use mathlib.Core.Logic.{_≢_};
-ghost use Prim.Native.Nat.{_+_, _<_};
+ghost use Prim.Native.Nat.{_+_, _≤_, _<_};
 ghost use lib.ListN.{length, getD};
 ghost use Rattle.elimination.specs.Window.{place, Fits};
 ghost use Rattle.elimination.specs.Place.{Emptied, Moved, Known, Committed};
 ghost use Rattle.elimination.specs.Packet.{Works};
-ghost use Rattle.elimination.specs.RowSteps.{flagged, Tested, Marked, ClearedRow, Stored, Settled, KeptRow, PlacedKept, Joined};
+ghost use Rattle.elimination.specs.RowSteps.{flagged, Tested, Marked, ClearedRow, FirstWith, Stored, Settled, KeptRow, PlacedKept, Joined};
 use super::Shape;
 use field::Gf256;
 
@@ -95,16 +95,19 @@ fn clear_coefficient(mem: &mut [u8], row: &[u8], shape: Shape, r: usize, q: usiz
     mark(mem, shape, q)
 }
 
-// The same of any row. The test stands alone, so that the compiler puts it into the loop over the rows.
-fn clear_row(mem: &mut [u8], row: &[u8], shape: Shape, r: usize, q: usize) -> usize
-    requires { ⌜ Fits (shape .width) (shape .size) (now mem) × (length (now row) ≡ shape .width + shape .size) × (r < shape .width) × (q < shape .width) ⌝ }
-    ensures { λ n. ⌜ ClearedRow (shape .width) (shape .size) r q n (now (row .entry)) (now (mem .entry)) (now (mem .exit)) ⌝ }
+// The first row from `from` on that has a coefficient in the column `r`, or the width.
+fn next_with(mem: &[u8], shape: Shape, r: usize, from: usize) -> usize
+    requires { ⌜ Fits (shape .width) (shape .size) (now mem) × (r < shape .width) × (from ≤ shape .width) ⌝ }
+    ensures { λ q. ⌜ FirstWith (shape .width) (shape .size) r from q (now (mem .entry)) ⌝ }
 {
-    let at = super::start_of(shape, q);
-    if mem[at + r] == 0 {
-        return 0;
+    let w = shape.width;
+    for q in from..w {
+        let at = super::start_of(shape, q);
+        if mem[at + r] != 0 {
+            return q;
+        }
     }
-    clear_coefficient(mem, row, shape, r, q)
+    w
 }
 
 // The working row becomes the row `r`. Gives one if its position is known, else zero.
@@ -125,8 +128,10 @@ fn place(mem: &mut [u8], row: &[u8], shape: Shape, r: usize) -> usize
 {
     let w = shape.width;
     let mut count: usize = 0;
-    for q in 0..w {
-        count += clear_row(mem, row, shape, r, q);
+    let mut q = next_with(mem, shape, r, 0);
+    while q < w {
+        count += clear_coefficient(mem, row, shape, r, q);
+        q = next_with(mem, shape, r, q + 1);
     }
     count + store_row(mem, row, shape, r)
 }
