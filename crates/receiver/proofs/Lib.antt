@@ -17,3 +17,4 @@ pub mod Receiving
 pub mod Sourcing
 pub mod SourceCall
 pub mod Repairing
+pub mod RepairCall

@@ -1,7 +1,7 @@
-// The receiver: opening, and the two calls that show a symbol (RFC 8681, section 3.4; document 01).
+// The receiver: opening, the two packet calls, and the two calls that show a symbol (RFC 8681, section 3.4; document 01).
 ghost use mathlib.Core.Path.{_≡_};
 ghost use Rattle.receiver.specs.Promises.{Opened, Received, SymbolAnswered, PartShown};
-ghost use Rattle.receiver.specs.History.{source-call};
+ghost use Rattle.receiver.specs.History.{source-call, repair-call};
 ghost use Rattle.receiver.specs.Layout.{receiverLayout};
 
 mod find;
@@ -10,11 +10,14 @@ mod packet;
 mod repair;
 mod source;
 
+use coefficients::Filled;
 use elimination::Shape;
+use packet::Gathered;
 use packet::PlaceFound;
 use wire::Checked;
 use wire::Esi;
 use wire::Refusal;
+use wire::RepairHeader;
 use wire::Setting;
 use wire::SourceHeader;
 
@@ -113,4 +116,40 @@ pub fn receive_source(mem: &mut [u8], work: &mut [u8], flow: u8, packet: &[u8]) 
         }
         PlaceFound::Out(refusal) => Answer::Refused(refusal),
     }
+}
+
+// Receives a repair packet. Gives how many positions of the window became known.
+pub fn receive_repair(mem: &mut [u8], work: &mut [u8], packet: &[u8]) -> Answer
+    ensures { λ r. ⌜ Received receiverLayout (repair-call (now (packet .entry))) (now (mem .entry)) (now (mem .exit)) (now (work .entry)) (now (work .exit)) r ⌝ }
+{
+    let Found::HeaderIs(header) = front::read_header(mem) else {
+        return Answer::Refused(Refusal::Unopened);
+    };
+    let setting = header.setting;
+    if work.len() < front::working_size(setting) {
+        return Answer::Refused(Refusal::Short);
+    }
+    let RepairHeader::Repair(fields) = wire::read_repair(packet, setting.size) else {
+        return Answer::Refused(Refusal::Form);
+    };
+    let n = fields.nss;
+    let count = fields.count;
+    if !wire::between(1, setting.width, n) {
+        return Answer::Refused(Refusal::Range);
+    }
+    let place = match packet::locate(header, fields.first, n) {
+        PlaceFound::PlaceIs(at) => at,
+        PlaceFound::Out(refusal) => return Answer::Refused(refusal),
+    };
+    let mut lists = repair::room_for_lists();
+    let scheme = setting.scheme;
+    let Filled::Done = coefficients::fill_lists(&mut lists, n, scheme, fields.key, fields.dt, count)
+    else {
+        return Answer::Refused(Refusal::Draws);
+    };
+    let Gathered::All(kept) = repair::gather_repair(mem, work, &lists, packet, place, n, count)
+    else {
+        return Answer::Refused(Refusal::Contradiction);
+    };
+    Answer::Done(packet::finish(mem, work, header, place, kept))
 }

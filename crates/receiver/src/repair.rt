@@ -1,4 +1,4 @@
-// A repair packet: its equations, and the call that receives it.
+// A repair packet's equations: one for each repair symbol, which says that it is its combination of the positions' symbols.
 ghost use mathlib.Core.Path.{_≡_};
 ghost use Prim.Native.Nat.{_+_, _*_, _≤_, _<_};
 ghost use lib.ListN.{length};
@@ -34,19 +34,19 @@ fn admit_symbol(
 }
 
 // The equations of a repair packet's `count` symbols: the `n` coefficients of each stand one after the other in `lists`.
-fn gather_repair(
+pub fn gather_repair(
     mem: &[u8],
     work: &mut [u8],
     lists: &[u8],
-    bytes: &[u8],
+    packet: &[u8],
     place: PacketPlace,
     n: usize,
     count: usize,
 ) -> Gathered
     requires { ⌜ Fits (place .shape .width) (place .shape .size) (now mem) × Works (place .shape .width) (place .shape .size) 0 (now work)
         × (place .shape .base < place .shape .width) × (place .first < place .shape .width) × (n ≤ place .shape .width)
-        × (count * n ≤ length (now lists)) × (8 + count * place .shape .size ≤ length (now bytes)) × (count ≤ 16) ⌝ }
-    ensures { λ r. ⌜ Gathers place n (equationAt (place .shape .width) (place .shape .size) n (now (lists .entry)) (now (bytes .entry)))
+        × (count * n ≤ length (now lists)) × (8 + count * place .shape .size ≤ length (now packet)) × (count ≤ 16) ⌝ }
+    ensures { λ r. ⌜ Gathers place n (equationAt (place .shape .width) (place .shape .size) n (now (lists .entry)) (now (packet .entry)))
         count r (now (mem .entry)) (now (work .entry)) (now (work .exit)) ⌝ }
 {
     let size = place.shape.size;
@@ -58,7 +58,7 @@ fn gather_repair(
             mem,
             work,
             &lists[from..from + n],
-            &bytes[at..at + size],
+            &packet[at..at + size],
             place,
             kept,
         ) else {
@@ -67,4 +67,11 @@ fn gather_repair(
         kept = now;
     }
     Gathered::All(kept)
+}
+
+// Room for the coefficients of 16 repair symbols over the widest window.
+pub fn room_for_lists() -> [u8; 4080]
+    ensures { λ r. ⌜ length r ≡ 4080 ⌝ }
+{
+    [0; 4080]
 }

@@ -14,38 +14,38 @@ use Rattle.receiver.proofs.repair.gather_repair.Statement.{statement}
 use Rattle.receiver.proofs.repair.gather_repair.Tie as tie
 
 abbrev Inv-loop : tie.InvT-loop
-Inv-loop mem work₀ lists bytes place n count size kept₀ i₀ work kept i =
-    (i ≤ count) × Gathers place n (equationAt (place .shape .width) (place .shape .size) n lists bytes) i (All kept) mem work₀ work
+Inv-loop mem work₀ lists packet place n count size kept₀ i₀ work kept i =
+    (i ≤ count) × Gathers place n (equationAt (place .shape .width) (place .shape .size) n lists packet) i (All kept) mem work₀ work
 
 abbrev μ-loop : tie.MeasureT-loop
-μ-loop mem work₀ lists bytes place n count size kept₀ i₀ work kept i = count - i
+μ-loop mem work₀ lists packet place n count size kept₀ i₀ work kept i = count - i
 
 -- list i lies in the lists, and symbol i in the packet
 within : (p : tie.In-loop Inv-loop μ-loop) → p .before .loop .i * p .before .before .before .before .before .before .args .n + p .before .before .before .before .before .before .args .n ≤ length (p .before .before .before .before .before .before .args .lists .now)
 within p = let s = p .before .before .before .before .before .before in omega (arith, row-fits (s .args .count) (s .args .n) (p .before .loop .i) (p .loop-test .taken), s .pre .5)
 
-inside : (p : tie.In-loop Inv-loop μ-loop) → 8 + p .before .loop .i * p .before .before .before .before .before .before .args .place .shape .size + p .before .before .before .before .before .before .args .place .shape .size ≤ length (p .before .before .before .before .before .before .args .bytes .now)
+inside : (p : tie.In-loop Inv-loop μ-loop) → 8 + p .before .loop .i * p .before .before .before .before .before .before .args .place .shape .size + p .before .before .before .before .before .before .args .place .shape .size ≤ length (p .before .before .before .before .before .before .args .packet .now)
 inside p =
     let s = p .before .before .before .before .before .before in
     omega (arith, row-fits (s .args .count) (s .args .place .shape .size) (p .before .loop .i) (p .loop-test .taken), s .pre .6)
 
 -- what the loop's body did, of list i and symbol i
 one : (p : tie.After-admit-symbol Inv-loop μ-loop)
-    → Admits (p .before .before .before .before .before .before .before .before .before .before .args .place) (p .before .before .before .before .before .before .before .before .before .before .args .n) (λ d. equationAt (p .before .before .before .before .before .before .before .before .before .before .args .place .shape .width) (p .before .before .before .before .before .before .before .before .before .before .args .place .shape .size) (p .before .before .before .before .before .before .before .before .before .before .args .n) (p .before .before .before .before .before .before .before .before .before .before .args .lists .now) (p .before .before .before .before .before .before .before .before .before .before .args .bytes .now) d (p .before .before .before .before .before .loop .i)) (p .before .before .before .before .before .loop .kept) (p .admit-symbol .result) (p .before .before .before .before .before .before .before .before .before .before .args .mem .now) (p .before .before .before .before .before .loop .work) (p .admit-symbol .last .1 .0)
+    → Admits (p .before .before .before .before .before .before .before .before .before .before .args .place) (p .before .before .before .before .before .before .before .before .before .before .args .n) (λ d. equationAt (p .before .before .before .before .before .before .before .before .before .before .args .place .shape .width) (p .before .before .before .before .before .before .before .before .before .before .args .place .shape .size) (p .before .before .before .before .before .before .before .before .before .before .args .n) (p .before .before .before .before .before .before .before .before .before .before .args .lists .now) (p .before .before .before .before .before .before .before .before .before .before .args .packet .now) d (p .before .before .before .before .before .loop .i)) (p .before .before .before .before .before .loop .kept) (p .admit-symbol .result) (p .before .before .before .before .before .before .before .before .before .before .args .mem .now) (p .before .before .before .before .before .loop .work) (p .admit-symbol .last .1 .0)
 one p =
     let a = p .before .before .before .before .before .before .before .before .before .before .args in
     let i = p .before .before .before .before .before .loop .i in
     let size = a .place .shape .size in
     let q = p .before .before .before .before in
-    symbol-of (a .place) (p .before .before .before .before .before .loop .kept) (a .n) i _ (a .lists .now) (a .bytes .now) (a .mem .now) (p .before .before .before .before .before .loop .work) _ _ (cut (i * a .n) (a .n) (a .lists .now))
-    (rw (cut (i * a .n) (a .n) (a .lists .now)) (length-part (i * a .n) (a .n) (a .lists .now) (within q))) (rw (cut (8 + i * size) size (a .bytes .now)) at (p .admit-symbol .ensures))
+    symbol-of (a .place) (p .before .before .before .before .before .loop .kept) (a .n) i _ (a .lists .now) (a .packet .now) (a .mem .now) (p .before .before .before .before .before .loop .work) _ _ (cut (i * a .n) (a .n) (a .lists .now))
+    (rw (cut (i * a .n) (a .n) (a .lists .now)) (length-part (i * a .n) (a .n) (a .lists .now) (within q))) (rw (cut (8 + i * size) size (a .packet .now)) at (p .admit-symbol .ensures))
 
 -- src/repair.rt:54:5
 loop-holds : tie.Need-loop-holds Inv-loop μ-loop
 loop-holds c =
     let s = c .before .before .before .before in
     let a = s .args in
-    (omega arith, gathers-none (a .place) (a .n) (equationAt (a .place .shape .width) (a .place .shape .size) (a .n) (a .lists .now) (a .bytes .now)) (a .mem .now) (a .work .now) (s .pre .1))
+    (omega arith, gathers-none (a .place) (a .n) (equationAt (a .place .shape .width) (a .place .shape .size) (a .n) (a .lists .now) (a .packet .now)) (a .mem .now) (a .work .now) (s .pre .1))
 
 -- src/repair.rt:55:20
 mul-from : tie.Need-mul-from Inv-loop μ-loop
@@ -104,7 +104,7 @@ admit-symbol-requires c κs =
       s .pre .2,
       s .pre .3,
       rw (cut (l .i * a .n) (a .n) (a .lists .now), length-part (l .i * a .n) (a .n) (a .lists .now) (within p)) (s .pre .4),
-      rw (cut (8 + l .i * size) size (a .bytes .now)) (length-part (8 + l .i * size) size (a .bytes .now) (inside p)),
+      rw (cut (8 + l .i * size) size (a .packet .now)) (length-part (8 + l .i * size) size (a .packet .now) (inside p)),
     )
 
 -- src/repair.rt:57:27
