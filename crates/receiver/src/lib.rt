@@ -109,13 +109,15 @@ pub fn receive_source(mem: &mut [u8], work: &mut [u8], flow: u8, packet: &[u8]) 
     if setting.width < count {
         return Answer::Refused(Refusal::Long);
     }
-    match packet::locate(header, fields.first, count) {
-        PlaceFound::PlaceIs(place) => {
-            let adu = memory::part(packet, 0, fields.len);
-            source::take_source(mem, work, header, place, flow, adu, count)
-        }
-        PlaceFound::Out(refusal) => Answer::Refused(refusal),
-    }
+    let place = match packet::locate(header, fields.first, count) {
+        PlaceFound::PlaceIs(at) => at,
+        PlaceFound::Out(refusal) => return Answer::Refused(refusal),
+    };
+    let adu = memory::part(packet, 0, fields.len);
+    let Gathered::All(kept) = source::gather_source(mem, work, place, flow, adu, count) else {
+        return Answer::Refused(Refusal::Contradiction);
+    };
+    Answer::Done(packet::finish(mem, work, header, place, kept))
 }
 
 // Receives a repair packet. Gives how many positions of the window became known.

@@ -1,5 +1,5 @@
 -- `receiver::receive_repair` meets its contract.
-use mathlib.Core.Path.{_≡_, sym, _∙_, subst}
+use mathlib.Core.Path.{_≡_, sym, _∙_}
 use mathlib.Core.Bool.{true}
 use mathlib.Core.Option.{some}
 use Prim.Native.Nat.{ℕ, _*_, _≤_}
@@ -16,10 +16,9 @@ use Rattle.coefficients.proofs.Fills.{lists-were-done, lists-were-refused}
 use Rattle.receiver.specs.declared.Header.{Header}
 use Rattle.receiver.specs.History.{workingSize}
 use Rattle.receiver.specs.Header.{headerIn}
-use Rattle.receiver.specs.Steps.{WorksOn}
 use Rattle.receiver.proofs.Headers.{header-is, header-none, headed}
-use Rattle.receiver.proofs.Receiving.{received-unopened}
-use Rattle.receiver.proofs.RepairCall.{sized, repair-short, repair-form, repair-range, repair-out, repair-draws, gather-asks, finish-asks, repair-contradicts, repair-done}
+use Rattle.receiver.proofs.Receiving.{received-unopened, finish-asks}
+use Rattle.receiver.proofs.RepairCall.{sized, repair-short, repair-form, repair-range, repair-out, repair-draws, gather-asks, repair-contradicts, repair-done}
 use borrow.Author.Needs.{needs}
 use Rattle.receiver.proofs.receive_repair.Statement.{statement}
 use Rattle.receiver.proofs.receive_repair.Tie as tie
@@ -126,9 +125,7 @@ finish-requires : tie.Need-finish-requires
 finish-requires c κs =
     let a = c .before .before .before .before .before .before .before .before .before .before .before .before .before .before .before .before .before .before .before .before .before .before .before .before .before .before .before .before .before .before .before .before .before .before .before .before .before .before .args in
     let p = c .before .before .before .before .before .before .before .before .before .before .before .before .before .before .before .before .before .before .before .before .before .before .before .before .before .before .before .before .before .before .before in
-    let q = c .before .before .before .before .before .before .before .before .before .before .before .before .before .before .before .before .before .before .before .before .before .before .before .before in
-    finish-asks _ _ (a .work .now) (header p) (has p) (lent (c .before .before .before .before .before .before .before .before .before .before .before .before .before .before .before .before .before .before .before .before .before .before .before .before .before .before .before)) (fields q) (read q) (fits (c .before .before .before .before .before .before .before .before .before .before .before .before .before .before .before .before .before .before .before .before .before)) _ (sym (c .before .before .before .before .before .before .before .before .before .before .before .before .before .before .before .before .before .before .at .given .1) ∙ c .before .before .before .before .before .before .before .before .before .before .before .before .before .before .before .before .before .before .before .before .locate .ensures) _ _
-    (subst (WorksOn _ _ _) (c .before .before .before .kept .given .1) (c .before .before .before .before .before .before .before .gather-repair .ensures .works))
+    finish-asks (header p) _ _ _ (sym (c .before .before .before .before .before .before .before .before .before .before .before .before .before .before .before .before .before .before .at .given .1) ∙ c .before .before .before .before .before .before .before .before .before .before .before .before .before .before .before .before .before .before .before .before .locate .ensures) _ (a .work .now) (has p) (lent (c .before .before .before .before .before .before .before .before .before .before .before .before .before .before .before .before .before .before .before .before .before .before .before .before .before .before .before)) _ (c .before .before .before .before .before .before .before .gather-repair .result) _ (c .before .before .before .kept .given .1) (c .before .before .before .before .before .before .before .gather-repair .ensures .works)
 
 returns-8 : tie.Need-returns-8
 returns-8 c =
