@@ -61,6 +61,19 @@ received-refused c m v h r e other says = record {
       subst (λ x. Does receiverLayout s (responds s t x) m m (Refused r)) (sym (says s t (header-held m h s t e k))) (refl, refl);
 }
 
+-- Working memory is too short.
+pub received-short : (c : Call) (m v : List ℕ) (h : Header) → headerIn m ≡ some h → length v < workingSize (h .setting)
+    → Received receiverLayout c m m v v (Refused refusals.Short)
+unfolding reading check
+received-short c m v h e l =
+    received-refused c m v h refusals.Short e (λ z. omega (arith, z))
+    (λ s t q. rw (lt-leb (workingSize s) (length v) (subst (λ (x : Header). length v < workingSize (x .setting)) q l)))
+
+-- What holds of the header's setting and of every base with its ESI, holds of every state that has the header.
+pub of-base : (h : Header) (P : Setting → ℕ → Type 0) → ((b : ℕ) → b % 2 ^ 32 ≡ h .base .0 → P (h .setting) b) → (s : Setting) (t : State s)
+    → h ≡ headerOf s t → P s (t .base)
+of-base h P f s t e = subst (λ (x : Header). P (x .setting) (t .base)) e (f (t .base) (sym (ap (λ (x : Header). x .base .0) e)))
+
 -- The packet is taken, or contradicts.
 pub received-taken : (c : Call) (q : ℕ → Located) (m m′ v v′ : List ℕ) (h : Header) (a : Answer) → headerIn m ≡ some h
     → ((s : Setting) (t : State s) → h ≡ headerOf s t → reading s (t .base) (length v) c ≡ located (q (t .base)))

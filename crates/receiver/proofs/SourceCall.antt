@@ -117,10 +117,6 @@ module _ (flow count : ℕ) (adu m v v′ : List ℕ) (h : Header) (at : PacketP
 -- ---- The checks
 
 module _ (s : Setting) (base room : ℕ) where
-  pub reading-short : (c : Call) → room < workingSize s → reading s base room c ≡ fails 2
-  unfolding reading check
-  reading-short c h = rw (lt-leb (workingSize s) room h)
-
   module _ (enough : workingSize s ≤ room) (flow : ℕ) (p : List ℕ) where
     pub reading-form : sourceForm p ≡ false → reading s base room (source-call flow p) ≡ fails 5
     unfolding reading check readSource
@@ -184,11 +180,6 @@ source-none p x r e q = go (sourceForm p) refl (sym q ∙ e)
 module _ (flow : ℕ) (p m v : List ℕ) (h : Header) (has : headerIn m ≡ some h) where
   abbrev c : Call
   c = source-call flow p
-
-  pub call-short : length v < workingSize (h .setting) → Received receiverLayout c m m v v (Refused refusals.Short)
-  call-short l =
-      received-refused c m v h refusals.Short has (λ z. omega arith)
-      (λ s t e. reading-short s (t .base) (length v) c (subst (λ (x : Header). length v < workingSize (x .setting)) e l))
 
   module _ (room : workingSize (h .setting) ≤ length v) where
     enough : (s : Setting) (t : State s) → h ≡ headerOf s t → workingSize s ≤ length v

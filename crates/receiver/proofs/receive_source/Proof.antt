@@ -11,8 +11,8 @@ use Rattle.receiver.specs.History.{workingSize}
 use Rattle.receiver.specs.Header.{headerIn}
 use Rattle.receiver.proofs.Headers.{header-is, header-none, Headed, headed}
 use Rattle.receiver.proofs.Locating.{place-of}
-use Rattle.receiver.proofs.Receiving.{received-unopened}
-use Rattle.receiver.proofs.SourceCall.{Fields, source-fields, adu-length, source-none, call-short, call-form, call-long, call-many, call-out, call-taken}
+use Rattle.receiver.proofs.Receiving.{received-unopened, received-short}
+use Rattle.receiver.proofs.SourceCall.{Fields, source-fields, adu-length, source-none, call-form, call-long, call-many, call-out, call-taken}
 use borrow.Author.Needs.{needs}
 use Rattle.receiver.proofs.receive_source.Statement.{statement}
 use Rattle.receiver.proofs.receive_source.Tie as tie
@@ -45,7 +45,7 @@ working-size-requires : tie.Need-working-size-requires
 working-size-requires c κs = says (c .before .before) .valid
 
 returns-2 : tie.Need-returns-2
-returns-2 c = call-short _ _ _ _ (header (c .before .before .before .before)) (has (c .before .before .before .before)) (rw (c .before .working-size .ensures) at (c .if1 .taken))
+returns-2 c = received-short _ _ _ (header (c .before .before .before .before)) (has (c .before .before .before .before)) (rw (c .before .working-size .ensures) at (c .if1 .taken))
 
 returns-3 : tie.Need-returns-3
 returns-3 c =
