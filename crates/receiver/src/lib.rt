@@ -121,7 +121,8 @@ pub fn receive_source(mem: &mut [u8], work: &mut [u8], flow: u8, packet: &[u8]) 
 // Receives a repair packet. The state is only read until all its symbols are known to agree with it. Gives how many positions of the window
 // became known.
 pub fn receive_repair(mem: &mut [u8], work: &mut [u8], packet: &[u8]) -> Answer
-    ensures { λ r. ⌜ Received receiverLayout (repair-call (now (packet .entry))) (now (mem .entry)) (now (mem .exit)) (now (work .entry)) (now (work .exit)) r ⌝ }
+    ensures { λ r. ⌜ Received receiverLayout (repair-call (now (packet .entry)))
+        (now (mem .entry)) (now (mem .exit)) (now (work .entry)) (now (work .exit)) r ⌝ }
 {
     let Found::HeaderIs(header) = front::read_header(mem) else {
         return Answer::Refused(Refusal::Unopened);
