@@ -7,6 +7,7 @@ use Prim.Native.Nat.{ℕ, _+_, _-_, _%_, _^_, _≤_, _<_}
 use native.Mathlib.Nat.{mod-lt, mod-add-mod}
 use native.Mathlib.Omega.{arith}
 use lib.ListN.{length}
+use borrow.Author.Tests.{lt-leb}
 use Rattle.wire.specs.declared.Setting.{Setting}
 use Rattle.wire.specs.declared.Refusal.{Refusal}
 use Rattle.wire.specs.declared.Refusal.the-variants as refusals
@@ -24,7 +25,7 @@ use Rattle.receiver.specs.declared.packet.PacketPlace.{PacketPlace}
 use Rattle.receiver.specs.declared.packet.PlaceFound.the-variants.{PlaceIs, Out}
 use Rattle.receiver.specs.declared.packet.Gathered.{Gathered}
 use Rattle.receiver.specs.declared.packet.Gathered.the-variants.{All, Contradiction}
-use Rattle.receiver.specs.History.{Located, source, repair, first, named, placeOf, placed, Call, Reading, fails, located, memorySize, workingSize, reading}
+use Rattle.receiver.specs.History.{Located, source, repair, first, named, placeOf, placed, Call, Reading, fails, located, check, memorySize, workingSize, reading}
 use Rattle.receiver.specs.History.{value, refusal}
 use Rattle.receiver.specs.Model.{State, packetOf, added, responds, receiving}
 use Rattle.receiver.specs.Header.{headerIn}
@@ -161,6 +162,11 @@ module _ (c : Call) (m v : List ℕ) (h : Header) (has : headerIn m ≡ some h) 
         subst (λ x. Does receiverLayout s (responds s t x) m m (Refused r)) (sym (reads (λ b. fails (numberOf r)) says s t (header-held m h s t has k)))
         (refl, refl);
   }
+
+  -- Working memory is too short.
+  pub received-short : length v < workingSize (h .setting) → Received receiverLayout c m m v v (Refused refusals.Short)
+  unfolding reading check
+  received-short l = received-refused refusals.Short (λ z. omega arith) (λ b e. rw (lt-leb (workingSize (h .setting)) (length v) l))
 
   -- The checks before the packet's place have passed.
   module _ (e n : ℕ) (next : ℕ → ℕ → Reading) (says : (b : ℕ) → reading (h .setting) b (length v) c ≡ placed n (placeOf b e) (next b)) where

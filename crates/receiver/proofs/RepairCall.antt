@@ -6,7 +6,8 @@ use mathlib.Core.List.{List, _++_}
 use Prim.Native.Nat.{ℕ, _+_, _-_, _*_, _%_, _^_, _≤_, _<_}
 use native.Mathlib.Omega.{arith}
 use lib.ListN.{length, drop}
-use borrow.Author.Tests.{le-leb, lt-leb, eqb-true}
+use lib.Dec.{leb}
+use borrow.Author.Tests.{le-leb, eqb-true}
 use Rattle.wire.specs.declared.Setting.{Setting}
 use Rattle.wire.specs.declared.Refusal.{Refusal}
 use Rattle.wire.specs.declared.Refusal.the-variants as refusals
@@ -40,63 +41,29 @@ use Rattle.receiver.proofs.Locating.{distance}
 use Rattle.receiver.proofs.Repairing.{repair-equations}
 use Rattle.receiver.proofs.Receiving.{place-is, place-width, place-size, ready, received-refused, received-out, reading-at, received-contradiction, received-done}
 
--- ---- The checks
-
-module _ (s : Setting) (p : List ℕ) where
-  open Setting s using (scheme, size as E, width)
-
-  -- The packet with its first position, and whether its coefficients are drawn, at a distance from the base.
-  abbrev pub packetAt : ℕ → Located
-  packetAt x =
-      let ks = keys (repairKey p) (length (repairSymbols E p)) in
-      repair x (protectedCount p) (listsOf scheme (densityThreshold p) (protectedCount p) ks) (repairSymbols E p)
-
-  abbrev pub drawnAt : ℕ → ℕ → Reading
-  drawnAt b d =
-      check (allOk scheme (densityThreshold p) (protectedCount p) (keys (repairKey p) (length (repairSymbols E p)))) 10 (located (packetAt (b + d)))
-
-module _ (s : Setting) (b room : ℕ) (p : List ℕ) where
-  open Setting s using (scheme, size as E, width)
-
-  pub reading-short : room < workingSize s → reading s b room (repair-call p) ≡ fails 2
-  unfolding reading check
-  reading-short h = rw (lt-leb (workingSize s) room h)
-
-  module _ (lent : workingSize s ≤ room) where
-    pub reading-form : repairForm E p ≡ false → reading s b room (repair-call p) ≡ fails 5
-    unfolding reading check readRepair
-    reading-form e = rw (le-leb (workingSize s) room lent, e)
-
-    module _ (form : repairForm E p ≡ true) where
-      pub reading-range : within 1 width (protectedCount p) ≡ false → reading s b room (repair-call p) ≡ fails 6
-      unfolding reading check readRepair
-      reading-range e = rw (le-leb (workingSize s) room lent, form, e)
-
-      pub reading-placed : within 1 width (protectedCount p) ≡ true
-          → reading s b room (repair-call p) ≡ placed (protectedCount p) (placeOf b (firstEsi p)) (drawnAt s p b)
-      unfolding reading check readRepair
-      reading-placed e = rw (le-leb (workingSize s) room lent, form, e)
-
 -- ---- What reading the packet found
 
 has-form : (t : Bool) (E : ℕ) (p : List ℕ) → repairForm E p ≡ t → (f : RepairFields) → Repair f ≡ repairHeaderOf E p → t ≡ true
 has-form true E p e f q = refl
 has-form false E p e f q = cc
 
-fields-are : (E : ℕ) (p : List ℕ) → repairForm E p ≡ true → (f : RepairFields) → Repair f ≡ repairHeaderOf E p → f ≡ repairFields E p
-fields-are E p e f q = let z : Repair f ≡ Repair (repairFields E p) = rw e at q in cc
-
 no-form : (t : Bool) (E : ℕ) (p : List ℕ) → repairForm E p ≡ t → (x : Refusal) → NoRepair x ≡ repairHeaderOf E p → t ≡ false
 no-form true E p e x q = cc
 no-form false E p e x q = refl
 
--- A packet that has the form has at most 16 symbols, and all lie in it.
-pub sized : (E : ℕ) (p : List ℕ) (f : RepairFields) → Repair f ≡ repairHeaderOf E p → (f .count ≤ 16) × (length p ≡ 8 + f .count * E)
-unfolding repairForm
-sized E p f q =
-    let e = has-form (repairForm E p) E p refl f q in
-    let (a, b) = both (within 1 16 (repairCount E p)) _ e in
-    rw (fields-are E p e f q) (within-bounds 1 16 (repairCount E p) a .1, eqb-true (length p) (8 + repairCount E p * E) b)
+module _ (E : ℕ) (p : List ℕ) (f : RepairFields) (read : Repair f ≡ repairHeaderOf E p) where
+  formed : repairForm E p ≡ true
+  formed = has-form (repairForm E p) E p refl f read
+
+  fields-are : f ≡ repairFields E p
+  fields-are = let z : Repair f ≡ Repair (repairFields E p) = rw formed at read in cc
+
+  -- It has at most 16 symbols, and all lie in it.
+  pub sized : (f .count ≤ 16) × (length p ≡ 8 + f .count * E)
+  unfolding repairForm
+  sized =
+      let (a, b) = both (within 1 16 (repairCount E p)) _ formed in
+      rw fields-are (within-bounds 1 16 (repairCount E p) a .1, eqb-true (length p) (8 + repairCount E p * E) b)
 
 count-is : (E : ℕ) (p : List ℕ) → length (repairSymbols E p) ≡ repairCount E p
 unfolding repairSymbols
@@ -108,104 +75,113 @@ symbols-are E p = refl
 
 -- ---- The call, one law for each way it ends
 
-module _ (p m v : List ℕ) (h : Header) (has : headerIn m ≡ some h) where
+module _ (p m v : List ℕ) (h : Header) (has : headerIn m ≡ some h) (lent : workingSize (h .setting) ≤ length v) where
   open Setting (h .setting) using (scheme, size as E, width)
 
   abbrev c : Call
   c = repair-call p
 
-  pub repair-short : length v < workingSize (h .setting) → Received receiverLayout c m m v v (Refused refusals.Short)
-  repair-short l = received-refused c m v h has refusals.Short (λ z. omega arith) (λ b e. reading-short (h .setting) b (length v) p l)
+  abbrev n : ℕ
+  n = protectedCount p
 
-  module _ (lent : workingSize (h .setting) ≤ length v) where
-    pub repair-form : (x : Refusal) → NoRepair x ≡ repairHeaderOf E p → Received receiverLayout c m m v v (Refused refusals.Form)
-    repair-form x q =
-        received-refused c m v h has refusals.Form (λ z. omega arith)
-        (λ b e. reading-form (h .setting) b (length v) p lent (no-form (repairForm E p) E p refl x q))
+  abbrev ks : List ℕ
+  ks = keys (repairKey p) (length (repairSymbols E p))
 
-    module _ (f : RepairFields) (read : Repair f ≡ repairHeaderOf E p) where
-      formed : repairForm E p ≡ true
-      formed = has-form (repairForm E p) E p refl f read
+  -- The packet with its first position, and what the history makes of it at the distance d from the base b.
+  abbrev packetAt : ℕ → Located
+  packetAt x = repair x n (listsOf scheme (densityThreshold p) n ks) (repairSymbols E p)
 
-      is : f ≡ repairFields E p
-      is = fields-are E p formed f read
+  abbrev next : (b d : ℕ) → Reading
+  next b d = check (allOk scheme (densityThreshold p) n ks) 10 (located (packetAt (b + d)))
 
-      pub repair-range : within 1 width (f .nss) ≡ false → Received receiverLayout c m m v v (Refused refusals.Range)
-      repair-range e =
-          received-refused c m v h has refusals.Range (λ z. omega arith) (λ b _. reading-range (h .setting) b (length v) p lent formed (rw is at e))
+  enough : leb (workingSize (h .setting)) (length v) ≡ true
+  enough = le-leb (workingSize (h .setting)) (length v) lent
 
-      module _ (fits : within 1 width (f .nss) ≡ true) where
-        says : (b : ℕ) → reading (h .setting) b (length v) c ≡ placed (f .nss) (placeOf b (f .first .0)) (drawnAt (h .setting) p b)
-        says b = rw is (reading-placed (h .setting) b (length v) p lent formed (rw is at fits))
+  pub call-form : (x : Refusal) → NoRepair x ≡ repairHeaderOf E p → Received receiverLayout c m m v v (Refused refusals.Form)
+  unfolding reading check readRepair
+  call-form x q = received-refused c m v h has refusals.Form (λ z. omega arith) (λ b e. rw (enough, no-form (repairForm E p) E p refl x q))
 
-        pub repair-out : (r : Refusal) → Out r ≡ placeFound h (f .first .0) (f .nss) → Received receiverLayout c m m v v (Refused r)
-        repair-out r q = received-out c m v h has (f .first .0) (f .nss) (drawnAt (h .setting) p) says r q
+  module _ (f : RepairFields) (read : Repair f ≡ repairHeaderOf E p) where
+    is : f ≡ repairFields E p
+    is = fields-are E p f read
 
-        module _ (at : PacketPlace) (found : PlaceIs at ≡ placeFound h (f .first .0) (f .nss)) where
-          -- What gathering asks.
-          pub gather-asks : (lists : List ℕ) → f .count * f .nss ≤ length lists
-              → Fits (at .shape .width) (at .shape .size) m × Works (at .shape .width) (at .shape .size) 0 v × (at .shape .base < at .shape .width)
-              × (at .first < at .shape .width) × (f .nss ≤ at .shape .width) × (f .count * f .nss ≤ length lists)
-              × (8 + f .count * at .shape .size ≤ length p) × (f .count ≤ 16)
-          gather-asks lists room =
-              let g = ready h (f .first .0) (f .nss) at found m v has lent in
-              let n : f .nss ≤ at .shape .width = rw (place-width h (f .first .0) (f .nss) at found) (within-bounds 1 width (f .nss) fits .1) in
-              let l : 8 + f .count * at .shape .size ≤ length p =
-              rw (place-size h (f .first .0) (f .nss) at found, sized E p f read .1) (omega arith) in
-              (g .fits, g .works, g .base, g .first, n, room, l, sized E p f read .0)
+    pub call-range : within 1 width (f .nss) ≡ false → Received receiverLayout c m m v v (Refused refusals.Range)
+    unfolding reading check readRepair
+    call-range e = received-refused c m v h has refusals.Range (λ z. omega arith) (λ b q. rw (enough, formed E p f read, rw is at e))
 
-          abbrev d : ℕ
-          d = distance h (f .first .0) (f .nss)
+    module _ (fits : within 1 width (f .nss) ≡ true) where
+      says : (b : ℕ) → reading (h .setting) b (length v) c ≡ placed (f .nss) (placeOf b (f .first .0)) (next b)
+      unfolding reading check readRepair
+      says b = rw is (rw (enough, formed E p f read, rw is at fits))
 
-          drawn-next : (b : ℕ) → b % 2 ^ 32 ≡ h .base .0 → reading (h .setting) b (length v) c ≡ drawnAt (h .setting) p b d
-          drawn-next = reading-at c m v h has (f .first .0) (f .nss) (drawnAt (h .setting) p) says at found
+      pub call-out : (r : Refusal) → Out r ≡ placeFound h (f .first .0) (f .nss) → Received receiverLayout c m m v v (Refused r)
+      call-out r q = received-out c m v h has (f .first .0) (f .nss) next says r q
 
-          ok-of : (t : Bool) → allOk scheme (f .dt) (f .nss) (keys (f .key .0) (f .count)) ≡ t
-              → allOk scheme (densityThreshold p) (protectedCount p) (keys (repairKey p) (length (repairSymbols E p))) ≡ t
-          ok-of t e = let z = rw is at e in rw (count-is E p) z
+      module _ (at : PacketPlace) (found : PlaceIs at ≡ placeFound h (f .first .0) (f .nss)) where
+        -- What gathering asks.
+        pub gather-asks : (lists : List ℕ) → f .count * f .nss ≤ length lists
+            → Fits (at .shape .width) (at .shape .size) m × Works (at .shape .width) (at .shape .size) 0 v × (at .shape .base < at .shape .width)
+            × (at .first < at .shape .width) × (f .nss ≤ at .shape .width) × (f .count * f .nss ≤ length lists)
+            × (8 + f .count * at .shape .size ≤ length p) × (f .count ≤ 16)
+        gather-asks lists room =
+            let g = ready h (f .first .0) (f .nss) at found m v has lent in
+            let n : f .nss ≤ at .shape .width = rw (place-width h (f .first .0) (f .nss) at found) (within-bounds 1 width (f .nss) fits .1) in
+            let l : 8 + f .count * at .shape .size ≤ length p =
+            rw (place-size h (f .first .0) (f .nss) at found, sized E p f read .1) (omega arith) in
+            (g .fits, g .works, g .base, g .first, n, room, l, sized E p f read .0)
 
-          pub repair-draws : allOk scheme (f .dt) (f .nss) (keys (f .key .0) (f .count)) ≡ false
-              → Received receiverLayout c m m v v (Refused refusals.Draws)
+        abbrev d : ℕ
+        d = distance h (f .first .0) (f .nss)
+
+        drawn-next : (b : ℕ) → b % 2 ^ 32 ≡ h .base .0 → reading (h .setting) b (length v) c ≡ next b d
+        drawn-next = reading-at c m v h has (f .first .0) (f .nss) next says at found
+
+        ok-of : (t : Bool) → allOk scheme (f .dt) (f .nss) (keys (f .key .0) (f .count)) ≡ t
+            → allOk scheme (densityThreshold p) n ks ≡ t
+        ok-of t e = let z = rw is at e in rw (count-is E p) z
+
+        pub call-draws : allOk scheme (f .dt) (f .nss) (keys (f .key .0) (f .count)) ≡ false
+            → Received receiverLayout c m m v v (Refused refusals.Draws)
+        unfolding check
+        call-draws e = received-refused c m v h has refusals.Draws (λ z. omega arith) (λ b q. drawn-next b q ∙ rw (ok-of false e))
+
+        module _ (drawn : allOk scheme (f .dt) (f .nss) (keys (f .key .0) (f .count)) ≡ true) where
+          located-next : (b : ℕ) → b % 2 ^ 32 ≡ h .base .0 → reading (h .setting) b (length v) c ≡ located (packetAt (b + d))
           unfolding check
-          repair-draws e = received-refused c m v h has refusals.Draws (λ z. omega arith) (λ b q. drawn-next b q ∙ rw (ok-of false e))
+          located-next b q = drawn-next b q ∙ rw (ok-of true drawn)
 
-          module _ (drawn : allOk scheme (f .dt) (f .nss) (keys (f .key .0) (f .count)) ≡ true) where
-            located-next : (b : ℕ) → b % 2 ^ 32 ≡ h .base .0 → reading (h .setting) b (length v) c ≡ located (packetAt (h .setting) p (b + d))
-            unfolding check
-            located-next b q = drawn-next b q ∙ rw (ok-of true drawn)
+          -- The equations were gathered from the lists that were drawn.
+          module _ (lists rest : List ℕ) (bytes : lists ≡ joined (listsOf scheme (f .dt) (f .nss) (keys (f .key .0) (f .count))) ++ rest)
+              (r : Gathered) (v′ : List ℕ)
+              (gathered : Gathers at (f .nss) (equationAt (at .shape .width) (at .shape .size) (f .nss) lists p) (f .count) r m v v′) where
+            abbrev drawn-lists : List (List ℕ)
+            drawn-lists = listsOf scheme (densityThreshold p) n ks
 
-            -- The equations were gathered from the lists that were drawn.
-            module _ (lists rest : List ℕ) (bytes : lists ≡ joined (listsOf scheme (f .dt) (f .nss) (keys (f .key .0) (f .count))) ++ rest)
-                (r : Gathered) (v′ : List ℕ)
-                (gathered : Gathers at (f .nss) (equationAt (at .shape .width) (at .shape .size) (f .nss) lists p) (f .count) r m v v′) where
-              abbrev drawn-lists : List (List ℕ)
-              drawn-lists = listsOf scheme (densityThreshold p) (protectedCount p) (keys (repairKey p) (length (repairSymbols E p)))
+            cut : chunks (f .count) (f .nss) lists ≡ drawn-lists
+            cut =
+                let z : lists ≡ joined (listsOf scheme (densityThreshold p) (protectedCount p) (keys (repairKey p) (repairCount E p))) ++ rest =
+                rw is at bytes in
+                rw (is, z, count-is E p) (lists-cut scheme (densityThreshold p) (protectedCount p) (repairKey p) (repairCount E p) rest (rw is at drawn))
 
-              cut : chunks (f .count) (f .nss) lists ≡ drawn-lists
-              cut =
-                  let z : lists ≡ joined (listsOf scheme (densityThreshold p) (protectedCount p) (keys (repairKey p) (repairCount E p))) ++ rest =
-                  rw is at bytes in
-                  rw (is, z, count-is E p) (lists-cut scheme (densityThreshold p) (protectedCount p) (repairKey p) (repairCount E p) rest (rw is at drawn))
+            spelt : (b i : ℕ) → decoder.over (Coded E) width b (packetOf E (packetAt (b + i))) ≡ firsts (equationAt width E (f .nss) lists p i) (f .count)
+            spelt b i =
+                let vs : repairSymbols E p ≡ chunks (f .count) E (drop 8 p) = rw is (sym (symbols-are E p)) in
+                ap (λ (n : ℕ). decoder.over (Coded E) width b (packetOf E (repair (b + i) n drawn-lists (repairSymbols E p)))) (sym (ap (λ y. y .nss) is))
+                ∙ ap₂ (λ (x y : List (List ℕ)). decoder.over (Coded E) width b (packetOf E (repair (b + i) (f .nss) x y))) (sym cut) vs
+                ∙ repair-equations width E b i (f .nss) (f .count) lists p
 
-              spelt : (b i : ℕ) → decoder.over (Coded E) width b (packetOf E (packetAt (h .setting) p (b + i))) ≡ firsts (equationAt width E (f .nss) lists p i) (f .count)
-              spelt b i =
-                  let vs : repairSymbols E p ≡ chunks (f .count) E (drop 8 p) = rw is (sym (symbols-are E p)) in
-                  ap (λ (n : ℕ). decoder.over (Coded E) width b (packetOf E (repair (b + i) n drawn-lists (repairSymbols E p)))) (sym (ap (λ y. y .nss) is))
-                  ∙ ap₂ (λ (x y : List (List ℕ)). decoder.over (Coded E) width b (packetOf E (repair (b + i) (f .nss) x y))) (sym cut) vs
-                  ∙ repair-equations width E b i (f .nss) (f .count) lists p
+            named-nss : (x : ℕ) → named (packetAt x) ≡ f .nss
+            named-nss x = sym (ap (λ y. y .nss) is)
 
-              named-nss : (x : ℕ) → named (packetAt (h .setting) p x) ≡ f .nss
-              named-nss x = sym (ap (λ y. y .nss) is)
+            pub call-contradicts : r ≡ Contradiction → Received receiverLayout c m m v v′ (Refused refusals.Contradiction)
+            call-contradicts =
+                received-contradiction c m v h has (f .nss) d (f .count) at (place-is h (f .first .0) (f .nss) at found)
+                (within-bounds 1 width (f .nss) fits .0) (within-bounds 1 width (f .nss) fits .1) (packetAt) (λ x. refl) named-nss
+                located-next (λ w E. equationAt w E (f .nss) lists p) spelt v′ r gathered
 
-              pub repair-contradicts : r ≡ Contradiction → Received receiverLayout c m m v v′ (Refused refusals.Contradiction)
-              repair-contradicts =
-                  received-contradiction c m v h has (f .nss) d (f .count) at (place-is h (f .first .0) (f .nss) at found)
-                  (within-bounds 1 width (f .nss) fits .0) (within-bounds 1 width (f .nss) fits .1) (packetAt (h .setting) p) (λ x. refl) named-nss
-                  located-next (λ w E. equationAt w E (f .nss) lists p) spelt v′ r gathered
-
-              pub repair-done : (kept known : ℕ) (m′ : List ℕ) → r ≡ All kept → Finished h at kept known v′ m m′
-                  → Received receiverLayout c m m′ v v′ (Done known)
-              repair-done =
-                  received-done c m v h has (f .nss) d (f .count) at (place-is h (f .first .0) (f .nss) at found)
-                  (within-bounds 1 width (f .nss) fits .0) (within-bounds 1 width (f .nss) fits .1) (packetAt (h .setting) p) (λ x. refl) named-nss
-                  located-next (λ w E. equationAt w E (f .nss) lists p) spelt v′ r gathered
+            pub call-done : (kept known : ℕ) (m′ : List ℕ) → r ≡ All kept → Finished h at kept known v′ m m′
+                → Received receiverLayout c m m′ v v′ (Done known)
+            call-done =
+                received-done c m v h has (f .nss) d (f .count) at (place-is h (f .first .0) (f .nss) at found)
+                (within-bounds 1 width (f .nss) fits .0) (within-bounds 1 width (f .nss) fits .1) (packetAt) (λ x. refl) named-nss
+                located-next (λ w E. equationAt w E (f .nss) lists p) spelt v′ r gathered

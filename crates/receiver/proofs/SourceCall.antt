@@ -7,6 +7,7 @@ use Prim.Native.Nat.{ℕ, zero, suc, _+_, _-_, _*_, _%_, _^_, _≤_, _<_}
 use native.Mathlib.Nat.{zero-mul}
 use native.Mathlib.Omega.{arith}
 use lib.ListN.{length}
+use lib.Dec.{leb}
 use lib.Seq.{length-take-le}
 use borrow.Author.Tests.{le-leb, lt-leb}
 use Rattle.memory.specs.Part.{part}
@@ -84,113 +85,87 @@ source-none p x r e q = go (sourceForm p) refl (sym q ∙ e)
     go true a k = absurd (subst IsSource (sym k) tt)
     go false a k = a
 
--- ---- The checks
-
-module _ (s : Setting) (base room flow : ℕ) (p : List ℕ) where
-  open Setting s using (size as E, width)
-
-  abbrev n : ℕ
-  n = symbolCount E (length (sourceAdu p))
-
-  reading-short : room < workingSize s → reading s base room (source-call flow p) ≡ fails 2
-  unfolding reading check
-  reading-short h = rw (lt-leb (workingSize s) room h)
-
-  module _ (enough : workingSize s ≤ room) where
-    reading-form : sourceForm p ≡ false → reading s base room (source-call flow p) ≡ fails 5
-    unfolding reading check readSource
-    reading-form e = rw (le-leb (workingSize s) room enough, e)
-
-    module _ (form : sourceForm p ≡ true) where
-      reading-long : 65535 < length (sourceAdu p) → reading s base room (source-call flow p) ≡ fails 4
-      unfolding reading check readSource
-      reading-long h = rw (le-leb (workingSize s) room enough, form, lt-leb (length (sourceAdu p)) 65535 h)
-
-      module _ (short : length (sourceAdu p) ≤ 65535) where
-        reading-many : width < n → reading s base room (source-call flow p) ≡ fails 4
-        unfolding reading check readSource
-        reading-many k = rw (le-leb (workingSize s) room enough, form, le-leb (length (sourceAdu p)) 65535 short, lt-leb n width k)
-
-        reading-placed : n ≤ width → reading s base room (source-call flow p)
-            ≡ placed n (placeOf base (sourceEsi p)) (λ d. located (source (base + d) (sourceSymbols flow (sourceAdu p) E)))
-        unfolding reading check readSource
-        reading-placed k = rw (le-leb (workingSize s) room enough, form, le-leb (length (sourceAdu p)) 65535 short, le-leb n width k)
-
 -- ---- The call, one law for each way it ends
 
-module _ (flow : ℕ) (p m v : List ℕ) (h : Header) (has : headerIn m ≡ some h) where
+module _ (flow : ℕ) (p m v : List ℕ) (h : Header) (has : headerIn m ≡ some h) (lent : workingSize (h .setting) ≤ length v) where
   open Setting (h .setting) using (size as E, width)
 
   abbrev c : Call
   c = source-call flow p
 
-  pub call-short : length v < workingSize (h .setting) → Received receiverLayout c m m v v (Refused refusals.Short)
-  call-short l = received-refused c m v h has refusals.Short (λ z. omega arith) (λ b e. reading-short (h .setting) b (length v) flow p l)
+  abbrev n : ℕ
+  n = symbolCount E (length (sourceAdu p))
 
-  module _ (room : workingSize (h .setting) ≤ length v) where
-    pub call-form : sourceForm p ≡ false → Received receiverLayout c m m v v (Refused refusals.Form)
-    call-form l = received-refused c m v h has refusals.Form (λ z. omega arith) (λ b e. reading-form (h .setting) b (length v) flow p room l)
+  enough : leb (workingSize (h .setting)) (length v) ≡ true
+  enough = le-leb (workingSize (h .setting)) (length v) lent
 
-    module _ (f : SourceFields) (reads : Fields p f) where
-      pub call-long : 65535 < f .len → Received receiverLayout c m m v v (Refused refusals.Long)
-      call-long l =
+  pub call-form : sourceForm p ≡ false → Received receiverLayout c m m v v (Refused refusals.Form)
+  unfolding reading check readSource
+  call-form l = received-refused c m v h has refusals.Form (λ z. omega arith) (λ b e. rw (enough, l))
+
+  module _ (f : SourceFields) (reads : Fields p f) where
+    pub call-long : 65535 < f .len → Received receiverLayout c m m v v (Refused refusals.Long)
+    unfolding reading check readSource
+    call-long l =
+        received-refused c m v h has refusals.Long (λ z. omega arith)
+        (λ b e. rw (enough, reads .form, lt-leb (length (sourceAdu p)) 65535 (omega (arith, reads .len))))
+
+    module _ (short : f .len ≤ 65535) (count : ℕ) (counts : count ≡ symbolCount E (f .len)) where
+      short-adu : leb (length (sourceAdu p)) 65535 ≡ true
+      short-adu = le-leb (length (sourceAdu p)) 65535 (omega (arith, reads .len))
+
+      counted : n ≡ count
+      counted = ap (symbolCount E) (sym (reads .len)) ∙ sym counts
+
+      pub call-many : width < count → Received receiverLayout c m m v v (Refused refusals.Long)
+      unfolding reading check readSource
+      call-many l =
           received-refused c m v h has refusals.Long (λ z. omega arith)
-          (λ b e. reading-long (h .setting) b (length v) flow p room (reads .form) (omega (arith, reads .len)))
+          (λ b e. rw (enough, reads .form, short-adu, lt-leb n width (omega (arith, counted))))
 
-      module _ (short : f .len ≤ 65535) (count : ℕ) (counts : count ≡ symbolCount E (f .len)) where
-        short-adu : length (sourceAdu p) ≤ 65535
-        short-adu = omega (arith, reads .len)
+      module _ (fits : count ≤ width) where
+        -- The packet with its first symbol at a position.
+        abbrev q : ℕ → Located
+        q x = source x (sourceSymbols flow (sourceAdu p) E)
 
-        counted : count ≡ symbolCount E (length (sourceAdu p))
-        counted = counts ∙ ap (symbolCount E) (reads .len)
+        says : (b : ℕ) → reading (h .setting) b (length v) c ≡ placed count (placeOf b (f .first .0)) (λ d. located (q (b + d)))
+        unfolding reading check readSource
+        says b =
+            rw (enough, reads .form, short-adu, le-leb n width (omega (arith, counted)))
+            (ap (λ (k : ℕ). placed k (placeOf b (sourceEsi p)) (λ d. located (q (b + d)))) counted
+            ∙ ap (λ (x : ℕ). placed count (placeOf b x) (λ d. located (q (b + d)))) (sym (reads .esi)))
 
-        pub call-many : width < count → Received receiverLayout c m m v v (Refused refusals.Long)
-        call-many l =
-            received-refused c m v h has refusals.Long (λ z. omega arith)
-            (λ b e. reading-many (h .setting) b (length v) flow p room (reads .form) short-adu (omega (arith, counted)))
+        spelt : (b i : ℕ) → decoder.over (Coded E) width b (packetOf E (q (b + i))) ≡ firsts (equationOf width E flow (sourceAdu p) i) count
+        spelt b i = source-equations width E b i flow (sourceAdu p) ∙ ap (firsts (equationOf width E flow (sourceAdu p) i)) counted
 
-        module _ (fits : count ≤ width) where
-          -- The packet with its first symbol at a position.
-          abbrev q : ℕ → Located
-          q x = source x (sourceSymbols flow (sourceAdu p) E)
+        pub call-out : (r : Refusal) → Out r ≡ placeFound h (f .first .0) count → Received receiverLayout c m m v v (Refused r)
+        call-out r o = received-out c m v h has (f .first .0) count (λ b d. located (q (b + d))) says r o
 
-          says : (b : ℕ) → reading (h .setting) b (length v) c ≡ placed count (placeOf b (f .first .0)) (λ d. located (q (b + d)))
-          says b =
-              reading-placed (h .setting) b (length v) flow p room (reads .form) short-adu (omega (arith, counted))
-              ∙ ap (λ (k : ℕ). placed k (placeOf b (sourceEsi p)) (λ d. located (q (b + d)))) (sym counted)
-              ∙ ap (λ (x : ℕ). placed count (placeOf b x) (λ d. located (q (b + d)))) (sym (reads .esi))
+        module _ (at : PacketPlace) (found : PlaceIs at ≡ placeFound h (f .first .0) count) (adu v′ : List ℕ) (is : adu ≡ part 0 (f .len) p) (r : Gathered)
+            (gathered : Gathers at (symbolCount (at .shape .size) (length adu)) (equationOf (at .shape .width) (at .shape .size) flow adu) count r m v v′) where
+          abbrev packet-is : PacketPlace → List ℕ → ℕ → Type 0
+          packet-is y x k = Gathers y k (equationOf (y .shape .width) (y .shape .size) flow x) count r m v v′
 
-          spelt : (b i : ℕ) → decoder.over (Coded E) width b (packetOf E (q (b + i))) ≡ firsts (equationOf width E flow (sourceAdu p) i) count
-          spelt b i = source-equations width E b i flow (sourceAdu p) ∙ ap (firsts (equationOf width E flow (sourceAdu p) i)) (sym counted)
+          -- The equations are those of the packet's ADU, as many as it has symbols.
+          all-gathered : packet-is at (sourceAdu p) count
+          all-gathered =
+              subst (packet-is at (sourceAdu p)) (ap (λ (x : ℕ). symbolCount x (length (sourceAdu p))) (place-size h (f .first .0) count at found) ∙ counted)
+              (subst (λ (x : List ℕ). packet-is at x (symbolCount (at .shape .size) (length x))) (is ∙ reads .adu) gathered)
 
-          pub call-out : (r : Refusal) → Out r ≡ placeFound h (f .first .0) count → Received receiverLayout c m m v v (Refused r)
-          call-out r o = received-out c m v h has (f .first .0) count (λ b d. located (q (b + d))) says r o
+          some-symbol : 0 < count
+          some-symbol = let z = symbols-some E (length (sourceAdu p)) (omega (arith, headed m h has .valid .size-least)) in omega (arith, counted, z)
 
-          module _ (at : PacketPlace) (found : PlaceIs at ≡ placeFound h (f .first .0) count) (adu v′ : List ℕ) (is : adu ≡ part 0 (f .len) p) (r : Gathered)
-              (gathered : Gathers at (symbolCount (at .shape .size) (length adu)) (equationOf (at .shape .width) (at .shape .size) flow adu) count r m v v′) where
-            abbrev packet-is : PacketPlace → List ℕ → ℕ → Type 0
-            packet-is y x k = Gathers y k (equationOf (y .shape .width) (y .shape .size) flow x) count r m v v′
+          pub call-contradicts : r ≡ Contradiction → Received receiverLayout c m m v v′ (Refused refusals.Contradiction)
+          call-contradicts =
+              received-contradiction c m v h has count (distance h (f .first .0) count) count at (place-is h (f .first .0) count at found) some-symbol fits q
+              (λ x. refl) (λ x. adui.symbols-count flow (sourceAdu p) E ∙ counted)
+              (reading-at c m v h has (f .first .0) count (λ b d. located (q (b + d))) says at found)
+              (λ w E. equationOf w E flow (sourceAdu p)) spelt v′ r all-gathered
 
-            -- The equations are those of the packet's ADU, as many as it has symbols.
-            all-gathered : packet-is at (sourceAdu p) count
-            all-gathered =
-                subst (packet-is at (sourceAdu p)) (ap (λ (x : ℕ). symbolCount x (length (sourceAdu p))) (place-size h (f .first .0) count at found) ∙ sym counted)
-                (subst (λ (x : List ℕ). packet-is at x (symbolCount (at .shape .size) (length x))) (is ∙ reads .adu) gathered)
-
-            some-symbol : 0 < count
-            some-symbol = let z = symbols-some E (length (sourceAdu p)) (omega (arith, headed m h has .valid .size-least)) in omega (arith, counted, z)
-
-            pub call-contradicts : r ≡ Contradiction → Received receiverLayout c m m v v′ (Refused refusals.Contradiction)
-            call-contradicts =
-                received-contradiction c m v h has count (distance h (f .first .0) count) count at (place-is h (f .first .0) count at found) some-symbol fits q
-                (λ x. refl) (λ x. adui.symbols-count flow (sourceAdu p) E ∙ sym counted)
-                (reading-at c m v h has (f .first .0) count (λ b d. located (q (b + d))) says at found)
-                (λ w E. equationOf w E flow (sourceAdu p)) spelt v′ r all-gathered
-
-            pub call-done : (kept known : ℕ) (m′ : List ℕ) → r ≡ All kept → Finished h at kept known v′ m m′
-                → Received receiverLayout c m m′ v v′ (Done known)
-            call-done =
-                received-done c m v h has count (distance h (f .first .0) count) count at (place-is h (f .first .0) count at found) some-symbol fits q
-                (λ x. refl) (λ x. adui.symbols-count flow (sourceAdu p) E ∙ sym counted)
-                (reading-at c m v h has (f .first .0) count (λ b d. located (q (b + d))) says at found)
-                (λ w E. equationOf w E flow (sourceAdu p)) spelt v′ r all-gathered
+          pub call-done : (kept known : ℕ) (m′ : List ℕ) → r ≡ All kept → Finished h at kept known v′ m m′
+              → Received receiverLayout c m m′ v v′ (Done known)
+          call-done =
+              received-done c m v h has count (distance h (f .first .0) count) count at (place-is h (f .first .0) count at found) some-symbol fits q
+              (λ x. refl) (λ x. adui.symbols-count flow (sourceAdu p) E ∙ counted)
+              (reading-at c m v h has (f .first .0) count (λ b d. located (q (b + d))) says at found)
+              (λ w E. equationOf w E flow (sourceAdu p)) spelt v′ r all-gathered

@@ -120,9 +120,11 @@ pub fn receive_source(mem: &mut [u8], work: &mut [u8], flow: u8, packet: &[u8]) 
     Answer::Done(packet::finish(mem, work, header, place, kept))
 }
 
-// Receives a repair packet. Gives how many positions of the window became known.
+// Receives a repair packet. The state is only read until all its symbols are known to agree with it. Gives how many positions of the window
+// became known.
 pub fn receive_repair(mem: &mut [u8], work: &mut [u8], packet: &[u8]) -> Answer
-    ensures { λ r. ⌜ Received receiverLayout (repair-call (now (packet .entry))) (now (mem .entry)) (now (mem .exit)) (now (work .entry)) (now (work .exit)) r ⌝ }
+    ensures { λ r. ⌜ Received receiverLayout (repair-call (now (packet .entry)))
+        (now (mem .entry)) (now (mem .exit)) (now (work .entry)) (now (work .exit)) r ⌝ }
 {
     let Found::HeaderIs(header) = front::read_header(mem) else {
         return Answer::Refused(Refusal::Unopened);
@@ -143,7 +145,7 @@ pub fn receive_repair(mem: &mut [u8], work: &mut [u8], packet: &[u8]) -> Answer
         PlaceFound::PlaceIs(at) => at,
         PlaceFound::Out(refusal) => return Answer::Refused(refusal),
     };
-    let mut lists = repair::room_for_lists();
+    let mut lists = coefficients::room_for_lists();
     let scheme = setting.scheme;
     let Filled::Done = coefficients::fill_lists(&mut lists, n, scheme, fields.key, fields.dt, count)
     else {

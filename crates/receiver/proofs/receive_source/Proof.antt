@@ -13,9 +13,9 @@ use Rattle.receiver.specs.History.{workingSize}
 use Rattle.receiver.specs.Header.{headerIn}
 use Rattle.receiver.specs.Steps.{placeFound}
 use Rattle.receiver.proofs.Headers.{header-is, header-none, Headed, headed}
-use Rattle.receiver.proofs.Receiving.{received-unopened, place-width, place-size, ready, finish-asks}
+use Rattle.receiver.proofs.Receiving.{received-unopened, received-short, place-width, place-size, ready, finish-asks}
 use Rattle.receiver.proofs.SourceCall.{Fields, source-fields, adu-length, source-none}
-use Rattle.receiver.proofs.SourceCall.{call-short, call-form, call-long, call-many, call-out, call-contradicts, call-done}
+use Rattle.receiver.proofs.SourceCall.{call-form, call-long, call-many, call-out, call-contradicts, call-done}
 use borrow.Author.Needs.{needs}
 use Rattle.receiver.proofs.receive_source.Statement.{statement}
 use Rattle.receiver.proofs.receive_source.Tie as tie
@@ -55,7 +55,7 @@ working-size-requires : tie.Need-working-size-requires
 working-size-requires c κs = says (c .before .before) .valid
 
 returns-2 : tie.Need-returns-2
-returns-2 c = call-short _ _ _ _ (header (c .before .before .before .before)) (has (c .before .before .before .before)) (rw (c .before .working-size .ensures) at (c .if1 .taken))
+returns-2 c = received-short _ _ _ (header (c .before .before .before .before)) (has (c .before .before .before .before)) (rw (c .before .working-size .ensures) at (c .if1 .taken))
 
 returns-3 : tie.Need-returns-3
 returns-3 c =
