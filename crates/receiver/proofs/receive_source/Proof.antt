@@ -41,11 +41,20 @@ fields p = p .fields .given .0 .0
 reads : (p : tie.After-fields) → Fields (p .before .before .before .before .before .before .before .before .before .before .before .before .before .before .args .packet .now) (fields p)
 reads p = source-fields _ (fields p) (p .before .before .read-source .result) (p .before .before .read-source .ensures) (p .fields .given .1)
 
--- the packet's place
+-- the packet's place, and what was read before it
 abbrev place : tie.After-at → PacketPlace
 place p = p .at .given .0 .0
 
-found : (p : tie.After-at) → PlaceIs (place p) ≡ placeFound (header (p .before .before .before .before .before .before .before .before .before .before .before .before .before .before .before .before)) (fields (p .before .before .before .before .before .before .before .before .before) .first .0) (p .before .before .before .before .before .symbol-count .result)
+abbrev read-header : tie.After-at → tie.After-header
+read-header p = p .before .before .before .before .before .before .before .before .before .before .before .before .before .before .before .before
+
+abbrev read-fields : tie.After-at → tie.After-fields
+read-fields p = p .before .before .before .before .before .before .before .before .before
+
+long-enough : (p : tie.After-at) → workingSize (header (read-header p) .setting) ≤ length (p .before .before .before .before .before .before .before .before .before .before .before .before .before .before .before .before .before .before .before .before .before .before .before .args .work .now)
+long-enough p = room (p .before .before .before .before .before .before .before .before .before .before .before .before)
+
+found : (p : tie.After-at) → PlaceIs (place p) ≡ placeFound (header (read-header p)) (fields (read-fields p) .first .0) (p .before .before .before .before .before .symbol-count .result)
 found p = sym (p .at .given .1) ∙ p .before .before .locate .ensures
 
 returns : tie.Need-returns
@@ -85,34 +94,41 @@ part-requires c κs = omega (arith, reads (c .before .before .before .before .be
 gather-source-requires : tie.Need-gather-source-requires
 gather-source-requires c κs =
     let p = c .before .before .before .before in
-    let g = ready _ _ _ (place p) (found p) _ _ (has (c .before .before .before .before .before .before .before .before .before .before .before .before .before .before .before .before .before .before .before .before)) (room (c .before .before .before .before .before .before .before .before .before .before .before .before .before .before .before .before)) in
-    let l = adu-length (reads (c .before .before .before .before .before .before .before .before .before .before .before .before .before)) (c .before .before .part .ensures .bytes) in (
+    let g = ready _ _ _ (place p) (found p) _ _ (has (read-header p)) (long-enough p) in
+    let l = adu-length (reads (read-fields p)) (c .before .before .part .ensures .bytes) in
+    let size = place-size _ _ _ (place p) (found p) in (
       g .fits,
       g .works,
       g .base,
       g .first,
-      omega (arith, l, c .before .before .before .before .before .before .before .before .before .before .if2 .left),
-      c .before .before .before .before .before .before .before .before .before .symbol-count .ensures ∙ ap (symbolCount (header (c .before .before .before .before .before .before .before .before .before .before .before .before .before .before .before .before .before .before .before .before) .setting .size)) (sym l)
-          ∙ ap (λ (E : ℕ). symbolCount E (length (c .before .before .part .result .now))) (sym (place-size _ _ _ (place p) (found p))),
-      omega (arith, c .before .before .before .before .before .before .before .if3 .left, place-width _ _ _ (place p) (found p)),
+      omega (arith, l, p .before .before .before .before .before .before .if2 .left),
+      p .before .before .before .before .before .symbol-count .ensures ∙ ap (symbolCount (header (read-header p) .setting .size)) (sym l)
+          ∙ ap (λ (E : ℕ). symbolCount E (length (c .before .before .part .result .now))) (sym size),
+      omega (arith, p .before .before .before .if3 .left, place-width _ _ _ (place p) (found p)),
     )
 
 returns-7 : tie.Need-returns-7
 returns-7 c =
-    call-contradicts _ _ _ _ (header (c .before .before .before .before .before .before .before .before .before .before .before .before .before .before .before .before .before .before .before .before .before .before .before .before .before)) (has (c .before .before .before .before .before .before .before .before .before .before .before .before .before .before .before .before .before .before .before .before .before .before .before .before .before)) (room (c .before .before .before .before .before .before .before .before .before .before .before .before .before .before .before .before .before .before .before .before .before)) (fields (c .before .before .before .before .before .before .before .before .before .before .before .before .before .before .before .before .before .before)) (reads (c .before .before .before .before .before .before .before .before .before .before .before .before .before .before .before .before .before .before)) (c .before .before .before .before .before .before .before .before .before .before .before .before .before .before .before .if2 .left) _ (c .before .before .before .before .before .before .before .before .before .before .before .before .before .before .symbol-count .ensures)
-    (c .before .before .before .before .before .before .before .before .before .before .before .before .if3 .left) (place (c .before .before .before .before .before .before .before .before .before)) (found (c .before .before .before .before .before .before .before .before .before)) _ _ (c .before .before .before .before .before .before .before .part .ensures .bytes) (c .before .before .before .before .gather-source .result) (c .before .before .before .before .gather-source .ensures)
-    (c .enum-told3 .given .1)
+    let p = c .before .before .before .before .before .before .before .before .before in
+    let gathered = c .before .before .before .before .gather-source in
+    call-contradicts _ _ _ _ (header (read-header p)) (has (read-header p)) (long-enough p) (fields (read-fields p)) (reads (read-fields p))
+    (p .before .before .before .before .before .before .if2 .left) _ (p .before .before .before .before .before .symbol-count .ensures) (p .before .before .before .if3 .left) (place p) (found p) _ _ (c .before .before .before .before .before .before .before .part .ensures .bytes)
+    (gathered .result) (gathered .ensures) (c .enum-told3 .given .1)
 
 finish-requires : tie.Need-finish-requires
 finish-requires c κs =
-    finish-asks _ _ _ (place (c .before .before .before .before .before .before .before .before .before .before .before .before)) (found (c .before .before .before .before .before .before .before .before .before .before .before .before)) _ (c .before .before .before .before .before .before .before .before .before .before .before .before .before .before .before .before .before .before .before .before .before .before .before .before .before .before .before .before .before .before .before .before .before .before .before .args .work .now) (has (c .before .before .before .before .before .before .before .before .before .before .before .before .before .before .before .before .before .before .before .before .before .before .before .before .before .before .before .before)) (room (c .before .before .before .before .before .before .before .before .before .before .before .before .before .before .before .before .before .before .before .before .before .before .before .before)) _ (c .before .before .before .before .before .before .before .gather-source .result) _ (c .before .before .before .kept .given .1)
-    (c .before .before .before .before .before .before .before .gather-source .ensures .works)
+    let p = c .before .before .before .before .before .before .before .before .before .before .before .before in
+    let gathered = c .before .before .before .before .before .before .before .gather-source in
+    finish-asks _ _ _ (place p) (found p) _ (p .before .before .before .before .before .before .before .before .before .before .before .before .before .before .before .before .before .before .before .before .before .before .before .args .work .now) (has (read-header p)) (long-enough p) _ (gathered .result) _
+    (c .before .before .before .kept .given .1) (gathered .ensures .works)
 
 returns-8 : tie.Need-returns-8
 returns-8 c =
-    call-done _ _ _ _ (header (c .before .before .before .before .before .before .before .before .before .before .before .before .before .before .before .before .before .before .before .before .before .before .before .before .before .before .before .before .before .before .before)) (has (c .before .before .before .before .before .before .before .before .before .before .before .before .before .before .before .before .before .before .before .before .before .before .before .before .before .before .before .before .before .before .before)) (room (c .before .before .before .before .before .before .before .before .before .before .before .before .before .before .before .before .before .before .before .before .before .before .before .before .before .before .before)) (fields (c .before .before .before .before .before .before .before .before .before .before .before .before .before .before .before .before .before .before .before .before .before .before .before .before)) (reads (c .before .before .before .before .before .before .before .before .before .before .before .before .before .before .before .before .before .before .before .before .before .before .before .before)) (c .before .before .before .before .before .before .before .before .before .before .before .before .before .before .before .before .before .before .before .before .before .if2 .left) _ (c .before .before .before .before .before .before .before .before .before .before .before .before .before .before .before .before .before .before .before .before .symbol-count .ensures)
-    (c .before .before .before .before .before .before .before .before .before .before .before .before .before .before .before .before .before .before .if3 .left) (place (c .before .before .before .before .before .before .before .before .before .before .before .before .before .before .before)) (found (c .before .before .before .before .before .before .before .before .before .before .before .before .before .before .before)) _ _ (c .before .before .before .before .before .before .before .before .before .before .before .before .before .part .ensures .bytes) (c .before .before .before .before .before .before .before .before .before .before .gather-source .result) (c .before .before .before .before .before .before .before .before .before .before .gather-source .ensures) _ _ _
-    (c .before .before .before .before .before .before .kept .given .1) (c .before .before .finish .ensures)
+    let p = c .before .before .before .before .before .before .before .before .before .before .before .before .before .before .before in
+    let gathered = c .before .before .before .before .before .before .before .before .before .before .gather-source in
+    call-done _ _ _ _ (header (read-header p)) (has (read-header p)) (long-enough p) (fields (read-fields p)) (reads (read-fields p))
+    (p .before .before .before .before .before .before .if2 .left) _ (p .before .before .before .before .before .symbol-count .ensures) (p .before .before .before .if3 .left) (place p) (found p) _ _ (c .before .before .before .before .before .before .before .before .before .before .before .before .before .part .ensures .bytes)
+    (gathered .result) (gathered .ensures) _ _ _ (c .before .before .before .before .before .before .kept .given .1) (c .before .before .finish .ensures)
 
 pub receive-source-spec : {M : Type 1} → statement M
 receive-source-spec =
