@@ -14,7 +14,7 @@ use Rattle.receiver.specs.declared.packet.PacketPlace.{PacketPlace}
 use Rattle.receiver.specs.declared.packet.PlaceFound.{PlaceFound}
 use Rattle.receiver.specs.declared.packet.PlaceFound.the-variants.{PlaceIs, Out}
 use Rattle.receiver.specs.History.{Reading, fails, check, behind, ahead, placeOf, placed}
-use Rattle.receiver.specs.Steps.{placeAt, placeFound, PlaceOf}
+use Rattle.receiver.specs.Steps.{placeAt, placeFound}
 
 abbrev place-in : PacketPlace → PlaceFound → PacketPlace
 place-in p (PlaceIs q) = q
@@ -62,9 +62,6 @@ module _ (h : Header) (e n : ℕ) where
       go true true a b k = record { at = ap (place-in p) k; near = ltb-true _ _ a; fits = leb-true _ _ b }
       go true false a b k = absurd (subst IsPlace k tt)
       go false u a b k = absurd (subst IsPlace k tt)
-
-  pub place-of : (p : PacketPlace) → PlaceIs p ≡ placeFound h e n → PlaceOf h n p
-  place-of p q = let f = found-at p q in record { distance = distance; is = f .at; near = f .fits }
 
   -- Of every base with the header's ESI, that is the packet's place by the history.
   module _ (b : ℕ) (esi : b % 2 ^ 32 ≡ h .base .0) (next : ℕ → Reading) where

@@ -1,4 +1,4 @@
--- A packet call, from its steps: where a check fails, and where the packet lies at its place and is taken.
+-- A packet call, by how it ends: no header, a check that fails, a packet that contradicts, or one that is accepted.
 use mathlib.Core.Path.{_≡_, refl, sym, ap, _∙_, subst}
 use mathlib.Core.Logic.{_≢_}
 use mathlib.Core.Option.{Option, none, some, Option·none-ne-some, Option·some-injective}
@@ -7,8 +7,7 @@ use Prim.Native.Nat.{ℕ, _+_, _-_, _%_, _^_, _≤_, _<_}
 use native.Mathlib.Nat.{mod-lt, mod-add-mod}
 use native.Mathlib.Omega.{arith}
 use lib.ListN.{length}
-use lib.Dec.{leb}
-use borrow.Author.Tests.{le-leb, lt-leb}
+use borrow.Author.Tests.{lt-leb}
 use Rattle.wire.specs.declared.Setting.{Setting}
 use Rattle.wire.specs.declared.Refusal.{Refusal}
 use Rattle.wire.specs.declared.Refusal.the-variants as refusals
@@ -23,20 +22,21 @@ use Rattle.receiver.specs.declared.Answer.{Answer}
 use Rattle.receiver.specs.declared.Answer.the-variants.{Done, Refused}
 use Rattle.receiver.specs.declared.Header.{Header}
 use Rattle.receiver.specs.declared.packet.PacketPlace.{PacketPlace}
+use Rattle.receiver.specs.declared.packet.PlaceFound.the-variants.{PlaceIs, Out}
 use Rattle.receiver.specs.declared.packet.Gathered.{Gathered}
 use Rattle.receiver.specs.declared.packet.Gathered.the-variants.{All, Contradiction}
-use Rattle.receiver.specs.History.{Located, source, repair, first, named, Call, Reading, fails, located, check, memorySize, workingSize, reading, readPacket, Said, value, refusal}
+use Rattle.receiver.specs.History.{Located, source, repair, first, named, placeOf, placed, Call, Reading, fails, located, check, memorySize, workingSize, reading}
+use Rattle.receiver.specs.History.{value, refusal}
 use Rattle.receiver.specs.Model.{State, packetOf, added, responds, receiving}
 use Rattle.receiver.specs.Header.{headerIn}
 use Rattle.receiver.specs.Promises.{said, Contained, Follows, Received}
 use Rattle.receiver.specs.Layout.{headerOf, Holds, receiverLayout}
-use Rattle.receiver.specs.Steps.{placeAt, Comes, WorksOn, Lies, Finished, PlaceOf, Taken}
+use Rattle.receiver.specs.Steps.{placeAt, placeFound, Comes, WorksOn, firsts, Lies, Gathers, Finished}
 use Rattle.receiver.proofs.Cases.{IsRefusal, numeral}
-use Rattle.receiver.proofs.Headers.{Headed, headed, header-fits}
+use Rattle.receiver.proofs.Headers.{header-fits}
+use Rattle.receiver.proofs.Locating.{distance, found-at, at-placed, out-placed, out-other}
 use Rattle.receiver.proofs.Finishing.{header-held}
 use Rattle.receiver.proofs.Gathering.{contained-none}
-
--- ---- Where a call says no
 
 pub received-unopened : (c : Call) (m v : List ℕ) → headerIn m ≡ none → Received receiverLayout c m m v v (Refused refusals.Unopened)
 received-unopened c m v e = record {
@@ -47,37 +47,8 @@ received-unopened c m v e = record {
   follows = λ s t k. absurd (Option·none-ne-some (headerOf s t) (sym e ∙ k .header));
 }
 
--- A check fails.
-pub received-refused : (c : Call) (m v : List ℕ) (h : Header) (r : Refusal) → headerIn m ≡ some h → numberOf r ≢ 3
-    → ((s : Setting) (t : State s) → h ≡ headerOf s t → reading s (t .base) (length v) c ≡ fails (numberOf r))
-    → Received receiverLayout c m m v v (Refused r)
-unfolding receiving
-received-refused c m v h r e other says = record {
-  unopened = ((λ q. absurd (other (ap numeral q))), (λ q. absurd (Option·none-ne-some h (sym q ∙ e))));
-  untouched = λ _. refl;
-  refused = λ n q. refl;
-  contained = λ h′ q. (contained-none, contained-none);
-  follows = λ s t k.
-      subst (λ x. Follows receiverLayout s (responds s t x) m m (Refused r)) (sym (says s t (header-held m h s t e k))) (refl, refl);
-}
+-- ---- What a place asks of the memories
 
--- The packet is taken, or contradicts.
-pub received-taken : (c : Call) (q : ℕ → Located) (m m′ v v′ : List ℕ) (h : Header) (a : Answer) → headerIn m ≡ some h
-    → ((s : Setting) (t : State s) → h ≡ headerOf s t → reading s (t .base) (length v) c ≡ located (q (t .base)))
-    → Taken q h m m′ v v′ a → Received receiverLayout c m m′ v v′ a
-unfolding receiving
-received-taken c q m m′ v v′ h a e says f = record {
-  unopened = ((λ x. let z = f .refused 3 x .0 in absurd (omega (arith, z))), (λ x. absurd (Option·none-ne-some h (sym x ∙ e))));
-  untouched = λ x. absurd (Option·none-ne-some h (sym x ∙ e));
-  refused = λ n x. f .refused n x .1;
-  contained = λ h′ x. subst (λ y. Contained (memorySize (y .setting)) m m′ × Contained (workingSize (y .setting)) v v′) (Option·some-injective h h′ (sym e ∙ x)) (f .contained);
-  follows = λ s t k.
-      subst (λ x. Follows receiverLayout s (responds s t x) m m′ a) (sym (says s t (header-held m h s t e k))) (f .follows s t k);
-}
-
--- ---- The place of a packet
-
--- What the steps ask of the memories and of the place.
 pub record Ready (at : PacketPlace) (m v : List ℕ) : Type 0 where
   pub fits : Fits (at .shape .width) (at .shape .size) m
   pub works : packet.Works (at .shape .width) (at .shape .size) 0 v
@@ -86,48 +57,77 @@ pub record Ready (at : PacketPlace) (m v : List ℕ) : Type 0 where
   pub small : at .shape .base < 65536
   pub rise : at .rise ≤ 65536
 
-pub ready : (h : Header) (n : ℕ) (at : PacketPlace) (m v : List ℕ) → headerIn m ≡ some h → workingSize (h .setting) ≤ length v → PlaceOf h n at
-    → Ready at m v
-ready h n at m v has room f =
-    let g = header-fits m h has in
-    let p : PacketPlace = placeAt h (f .distance) n in
-    let b = mod-lt (h .row + p .rise) (g .some-width) in
-    subst (λ x. Ready x m v) (sym (f .is))
-    (record {
-      fits = g;
-      works = record {
-        some-width = g .some-width;
-        wide = g .wide;
-        some-symbol = g .some-symbol;
-        long = g .long;
-        room = room;
-        within = omega arith;
-        columns = λ k l. absurd (omega arith);
-      };
-      base = b;
-      first = mod-lt (h .row + f .distance) (g .some-width);
-      small = omega (arith, b, g .wide);
-      rise = omega (arith, f .near);
-    })
+module _ (h : Header) (e n : ℕ) (at : PacketPlace) (q : PlaceIs at ≡ placeFound h e n) where
+  pub place-is : at ≡ placeAt h (distance h e n) n
+  place-is = found-at h e n at q .at
 
--- The place's window is the header's.
-pub place-width : {h : Header} {n : ℕ} {at : PacketPlace} → PlaceOf h n at → at .shape .width ≡ h .setting .width
-place-width f = ap (λ p. p .shape .width) (f .is)
+  pub place-width : at .shape .width ≡ h .setting .width
+  place-width = ap (λ p. p .shape .width) place-is
 
-pub place-size : {h : Header} {n : ℕ} {at : PacketPlace} → PlaceOf h n at → at .shape .size ≡ h .setting .size
-place-size f = ap (λ p. p .shape .size) (f .is)
+  pub place-size : at .shape .size ≡ h .setting .size
+  place-size = ap (λ p. p .shape .size) place-is
 
-module _ (h : Header) (n : ℕ) (at : PacketPlace) (f : PlaceOf h n at) (v v′ : List ℕ) where
-  pub place-contained : Contained (place (at .shape .width) (at .shape .size) (at .shape .width + 1)) v v′ → Contained (workingSize (h .setting)) v v′
-  place-contained g = subst (λ (p : PacketPlace). Contained (place (p .shape .width) (p .shape .size) (p .shape .width + 1)) v v′) (f .is) g
+  module _ (m v : List ℕ) (has : headerIn m ≡ some h) (room : workingSize (h .setting) ≤ length v) where
+    pub ready : Ready at m v
+    ready =
+        let f = found-at h e n at q in
+        let g = header-fits m h has in
+        let d : ℕ = distance h e n in
+        let b = mod-lt (h .row + (d + n - h .setting .width)) (g .some-width) in
+        subst (λ x. Ready x m v) (sym (f .at))
+        (record {
+          fits = g;
+          works = record {
+            some-width = g .some-width;
+            wide = g .wide;
+            some-symbol = g .some-symbol;
+            long = g .long;
+            room = room;
+            within = omega arith;
+            columns = λ k l. absurd (omega arith);
+          };
+          base = b;
+          first = mod-lt (h .row + d) (g .some-width);
+          small = omega (arith, b, g .wide);
+          rise = omega (arith, f .fits);
+        })
 
-  pub place-works : (r : Gathered) (kept : ℕ) → r ≡ All kept → WorksOn (at .shape .width) (at .shape .size) v′ r
-      → packet.Works (h .setting .width) (h .setting .size) kept v′
-  place-works r kept e g =
-      subst (λ (p : PacketPlace). packet.Works (p .shape .width) (p .shape .size) kept v′) (f .is) (subst (WorksOn (at .shape .width) (at .shape .size) v′) e g)
+    -- What finishing asks, once the equations are gathered.
+    pub finish-asks : (v′ : List ℕ) (r : Gathered) (kept : ℕ) → r ≡ All kept
+        → WorksOn (at .shape .width) (at .shape .size) v′ r
+        → (headerIn m ≡ some h) × packet.Works (h .setting .width) (h .setting .size) kept v′ × (at .shape .base < 65536) × (at .rise ≤ 65536)
+    finish-asks v′ r kept z g =
+        let k = subst (WorksOn (at .shape .width) (at .shape .size) v′) z g in
+        (has, subst (λ (p : PacketPlace). packet.Works (p .shape .width) (p .shape .size) kept v′) place-is k, ready .small, ready .rise)
 
--- By the state's base, it is where the packet lies in the window.
-pub lies-at : (s : Setting) (t : State s) (d n : ℕ) → 0 < n → n ≤ s .width
+-- ---- The model's answer
+
+first-of : (E : ℕ) (q : Located) → packetOf E q .first ≡ first q
+unfolding packets.source packets.repair
+first-of E (source p vs) = refl
+first-of E (repair p n cs vs) = refl
+
+named-of : (E : ℕ) (q : Located) → packetOf E q .count ≡ named q
+unfolding packets.source packets.repair
+named-of E (source p vs) = refl
+named-of E (repair p n cs vs) = refl
+
+-- By a packet's rise and equations.
+received-by : (s : Setting) (t : State s) (p : decoder.Packet (Coded (s .size))) (rise : ℕ) → decoder.rise t p ≡ rise
+    → (o : Option (model.State (Coded (s .size)) (s .width)))
+    → decoder.insert-all (decoder.over (Coded (s .size)) (s .width) (t .base + rise) p) (decoder.advance-by rise (t .window)) ≡ o
+    → decoder.receive t p ≡ decoder.and-then o (λ S. some (record { base = t .base + rise; window = S }))
+unfolding decoder.receive
+received-by s t p rise e o f =
+    ap
+    (λ d.
+    decoder.and-then (decoder.insert-all (decoder.over (Coded (s .size)) (s .width) (t .base + d) p) (decoder.advance-by d (t .window)))
+    (λ S. some (record { base = t .base + d; window = S })))
+    e
+    ∙ ap (λ x. decoder.and-then x (λ S. some (record { base = t .base + rise; window = S }))) f
+
+-- By the state's base, the place is where the packet lies in the window.
+lies-at : (s : Setting) (t : State s) (d n : ℕ) → 0 < n → n ≤ s .width
     → Lies (placeAt (headerOf s t) d n) (placeAt (headerOf s t) d n .first) n (t .base) (d - (d + n - s .width))
 lies-at s t d n pos fits =
     let w : ℕ = s .width in
@@ -140,65 +140,122 @@ lies-at s t d n pos fits =
       room = omega arith;
     }
 
--- ---- The packet is taken
+-- ---- A call on memory with a header
 
-first-of : (E : ℕ) (q : Located) → packetOf E q .first ≡ first q
-unfolding packets.source packets.repair
-first-of E (source p vs) = refl
-first-of E (repair p n cs vs) = refl
+module _ (c : Call) (m v : List ℕ) (h : Header) (has : headerIn m ≡ some h) where
+  -- A state that the memory holds has the header's setting, and a base with its ESI.
+  reads : (x : ℕ → Reading) → ((b : ℕ) → b % 2 ^ 32 ≡ h .base .0 → reading (h .setting) b (length v) c ≡ x b)
+      → (s : Setting) (t : State s) → h ≡ headerOf s t → reading s (t .base) (length v) c ≡ x (t .base)
+  reads x f s t e =
+      subst (λ (y : Header). reading (y .setting) (t .base) (length v) c ≡ x (t .base)) e (f (t .base) (sym (ap (λ (y : Header). y .base .0) e)))
 
-named-of : (E : ℕ) (q : Located) → packetOf E q .count ≡ named q
-unfolding packets.source packets.repair
-named-of E (source p vs) = refl
-named-of E (repair p n cs vs) = refl
-
--- The model's answer to a packet whose rise and equations are known.
-received-by : (s : Setting) (t : State s) (p : decoder.Packet (Coded (s .size))) (rise : ℕ) → decoder.rise t p ≡ rise
-    → (o : Option (model.State (Coded (s .size)) (s .width)))
-    → decoder.insert-all (decoder.over (Coded (s .size)) (s .width) (t .base + rise) p) (decoder.advance-by rise (t .window)) ≡ o
-    → decoder.receive t p ≡ decoder.and-then o (λ S. some (record { base = t .base + rise; window = S }))
-unfolding decoder.receive
-received-by s t p rise e o f =
-    ap (λ d.
-    decoder.and-then (decoder.insert-all (decoder.over (Coded (s .size)) (s .width) (t .base + d) p) (decoder.advance-by d (t .window)))
-    (λ S. some (record { base = t .base + d; window = S }))) e
-    ∙ ap (λ x. decoder.and-then x (λ S. some (record { base = t .base + rise; window = S }))) f
-
-module _ (h : Header) (n d : ℕ) (at : PacketPlace) (is : at ≡ placeAt h d n) (q : ℕ → Located) (from : (b : ℕ) → first (q b) ≡ b + d)
-    (names : (b : ℕ) → named (q b) ≡ n) (m v v′ : List ℕ) (has : headerIn m ≡ some h) (kept-work : Contained (workingSize (h .setting)) v v′)
-    (r : Gathered)
-    (comes : (s : Setting) (t : State s) → h ≡ headerOf s t → Holds m s t
-    → Comes (s .width) (s .size) (t .base + at .rise) (decoder.advance-by (at .rise) (t .window)) v′
-    (decoder.over (Coded (s .size)) (s .width) (t .base + at .rise) (packetOf (s .size) (q (t .base)))) r) where
-  rises : (s : Setting) (t : State s) → h ≡ headerOf s t → decoder.rise t (packetOf (s .size) (q (t .base))) ≡ at .rise
-  unfolding decoder.rise
-  rises s t e =
-      let w : h .setting .width ≡ s .width = ap (λ x. x .setting .width) e in
-      let x : at .rise ≡ d + n - h .setting .width = ap (λ p. p .rise) is in
-      omega (arith, w, x, first-of (s .size) (q (t .base)), named-of (s .size) (q (t .base)), from (t .base), names (t .base))
-
-  pub taken-none : r ≡ Contradiction → Taken q h m m v v′ (Refused refusals.Contradiction)
-  taken-none z = record {
-    refused = λ k e. (sym (ap numeral e), refl);
-    contained = (contained-none, kept-work);
+  -- A check fails.
+  pub received-refused : (r : Refusal) → numberOf r ≢ 3
+      → ((b : ℕ) → b % 2 ^ 32 ≡ h .base .0 → reading (h .setting) b (length v) c ≡ fails (numberOf r)) → Received receiverLayout c m m v v (Refused r)
+  unfolding receiving
+  received-refused r other says = record {
+    unopened = ((λ q. absurd (other (ap numeral q))), (λ q. absurd (Option·none-ne-some h (sym q ∙ has))));
+    untouched = λ _. refl;
+    refused = λ n q. refl;
+    contained = λ h′ q. (contained-none, contained-none);
     follows = λ s t k.
-        let e = header-held m h s t has k in
-        let none-of = subst (Comes (s .width) (s .size) (t .base + at .rise) _ v′ _) z (comes s t e k) in
-        subst (λ o. Follows receiverLayout s (added s t o) m m (Refused refusals.Contradiction))
-        (sym (received-by s t (packetOf (s .size) (q (t .base))) (at .rise) (rises s t e) none none-of)) (refl, refl);
+        subst (λ x. Follows receiverLayout s (responds s t x) m m (Refused r)) (sym (reads (λ b. fails (numberOf r)) says s t (header-held m h s t has k)))
+        (refl, refl);
   }
 
-  pub taken-all : (kept count : ℕ) (m′ : List ℕ) → r ≡ All kept → Finished h at kept count v′ m m′ → Taken q h m m′ v v′ (Done count)
-  taken-all kept count m′ z f = record {
-    refused = λ k e. absurd (subst IsRefusal (sym e) tt);
-    contained = (f .contained, kept-work);
-    follows = λ s t k.
-        let e = header-held m h s t has k in
-        let gathered = subst (Comes (s .width) (s .size) (t .base + at .rise) _ v′ _) z (comes s t e k) in
-        let row : at .shape .base ≡ (t .base + at .rise) % s .width =
-        subst (λ (p : PacketPlace). p .shape .base ≡ (t .base + p .rise) % s .width) (sym (is ∙ ap (λ x. placeAt x d n) e))
-        (mod-add-mod (t .base) (s .width) (d + n - s .width)) in
-        let (T, i, held, n) = f .outcome s t _ k row gathered in
-        subst (λ o. Follows receiverLayout s (added s t o) m m′ (Done count))
-        (sym (received-by s t (packetOf (s .size) (q (t .base))) (at .rise) (rises s t e) (some T) i)) (ap value n, held);
-  }
+  -- Working memory is too short.
+  pub received-short : length v < workingSize (h .setting) → Received receiverLayout c m m v v (Refused refusals.Short)
+  unfolding reading check
+  received-short l = received-refused refusals.Short (λ z. omega arith) (λ b e. rw (lt-leb (workingSize (h .setting)) (length v) l))
+
+  -- The checks before the packet's place have passed.
+  module _ (e n : ℕ) (next : ℕ → ℕ → Reading) (says : (b : ℕ) → reading (h .setting) b (length v) c ≡ placed n (placeOf b e) (next b)) where
+    pub received-out : (r : Refusal) → Out r ≡ placeFound h e n → Received receiverLayout c m m v v (Refused r)
+    received-out r q = received-refused r (out-other h e n r q) (λ b esi. says b ∙ out-placed h e n b esi (next b) r q)
+
+    pub reading-at : (at : PacketPlace) → PlaceIs at ≡ placeFound h e n → (b : ℕ) → b % 2 ^ 32 ≡ h .base .0
+        → reading (h .setting) b (length v) c ≡ next b (distance h e n)
+    reading-at at q b esi = says b ∙ at-placed h e n b esi (next b) at (found-at h e n at q)
+
+  -- All checks have passed: the packet is q p, where p is its first position, and its equations g have been gathered at its place.
+  module _ (n d count : ℕ) (at : PacketPlace) (is : at ≡ placeAt h d n) (pos : 0 < n) (fits : n ≤ h .setting .width) (q : ℕ → Located)
+      (from : (p : ℕ) → first (q p) ≡ p) (names : (p : ℕ) → named (q p) ≡ n)
+      (says : (b : ℕ) → b % 2 ^ 32 ≡ h .base .0 → reading (h .setting) b (length v) c ≡ located (q (b + d)))
+      (g : (w E : ℕ) → ℕ → ℕ → model.Row (Coded E) w)
+      (spell : (b i : ℕ) → decoder.over (Coded (h .setting .size)) (h .setting .width) b (packetOf (h .setting .size) (q (b + i)))
+      ≡ firsts (g (h .setting .width) (h .setting .size) i) count)
+      (v′ : List ℕ) (r : Gathered) (f : Gathers at n (g (at .shape .width) (at .shape .size)) count r m v v′) where
+    work-kept : Contained (workingSize (h .setting)) v v′
+    work-kept = subst (λ (p : PacketPlace). Contained (place (p .shape .width) (p .shape .size) (p .shape .width + 1)) v v′) is (f .contained)
+
+    module _ (s : Setting) (t : State s) (k : Holds m s t) where
+      e : h ≡ headerOf s t
+      e = header-held m h s t has k
+
+      here : at ≡ placeAt (headerOf s t) d n
+      here = is ∙ ap (λ x. placeAt x d n) e
+
+      -- The model's packet, and what its equations come to.
+      abbrev p : decoder.Packet (Coded (s .size))
+      p = packetOf (s .size) (q (t .base + d))
+
+      abbrev ComesAt : PacketPlace → Type 0
+      ComesAt at =
+          Comes (s .width) (s .size) (t .base + at .rise) (decoder.advance-by (at .rise) (t .window)) v′
+          (decoder.over (Coded (s .size)) (s .width) (t .base + at .rise) p) r
+
+      comes : ComesAt at
+      comes =
+          let i : ℕ = d + n - s .width in
+          let b : ℕ = t .base + i in
+          let w : h .setting .width ≡ s .width = ap (λ (y : Header). y .setting .width) e in
+          let x : b + (d - i) ≡ t .base + d = omega (arith, w) in
+          let spelt = subst (λ (y : Header). (b i : ℕ) → decoder.over (Coded (y .setting .size)) (y .setting .width) b (packetOf (y .setting .size) (q (b + i)))
+          ≡ firsts (g (y .setting .width) (y .setting .size) i) count) e spell in
+          let f′ = subst (λ (y : PacketPlace). Gathers y n (g (y .shape .width) (y .shape .size)) count r m v v′) here f in
+          subst ComesAt (sym here)
+          (subst (λ es. Comes (s .width) (s .size) b (decoder.advance-by i (t .window)) v′ es r)
+          (sym (spelt b (d - i)) ∙ ap (λ (y : ℕ). decoder.over (Coded (s .size)) (s .width) b (packetOf (s .size) (q y))) x)
+          (f′ .outcome (t .base) (d - i) (t .window) (lies-at s t d n pos (omega (arith, w))) (k .rows) (k .reduced)))
+
+      rises : decoder.rise t p ≡ at .rise
+      unfolding decoder.rise
+      rises =
+          let x : at .rise ≡ d + n - s .width = ap (λ y. y .rise) here in
+          omega (arith, x, first-of (s .size) (q (t .base + d)), named-of (s .size) (q (t .base + d)), from (t .base + d), names (t .base + d))
+
+      -- What the call does is what the model says of the packet.
+      does-by : (m′ : List ℕ) (a : Answer) (o : Option (model.State (Coded (s .size)) (s .width)))
+          → decoder.insert-all (decoder.over (Coded (s .size)) (s .width) (t .base + at .rise) p) (decoder.advance-by (at .rise) (t .window)) ≡ o
+          → Follows receiverLayout s (added s t (decoder.and-then o (λ S. some (record { base = t .base + at .rise; window = S })))) m m′ a
+          → Follows receiverLayout s (receiving s t (length v) c) m m′ a
+      unfolding receiving
+      does-by m′ a o i x =
+          subst (λ y. Follows receiverLayout s (responds s t y) m m′ a) (sym (reads (λ b. located (q (b + d))) says s t e))
+          (subst (λ y. Follows receiverLayout s (added s t y) m m′ a) (sym (received-by s t p (at .rise) rises o i)) x)
+
+    pub received-contradiction : r ≡ Contradiction → Received receiverLayout c m m v v′ (Refused refusals.Contradiction)
+    received-contradiction z = record {
+      unopened = ((λ x. let y = ap numeral x in absurd (omega (arith, y))), (λ x. absurd (Option·none-ne-some h (sym x ∙ has))));
+      untouched = λ x. absurd (Option·none-ne-some h (sym x ∙ has));
+      refused = λ n x. refl;
+      contained = λ h′ x.
+          subst (λ (y : Header). Contained (memorySize (y .setting)) m m × Contained (workingSize (y .setting)) v v′)
+          (Option·some-injective h h′ (sym has ∙ x)) (contained-none, work-kept);
+      follows = λ s t k. does-by s t k m (Refused refusals.Contradiction) none (subst (Comes _ _ _ _ v′ _) z (comes s t k)) (refl, refl);
+    }
+
+    pub received-done : (kept known : ℕ) (m′ : List ℕ) → r ≡ All kept → Finished h at kept known v′ m m′ → Received receiverLayout c m m′ v v′ (Done known)
+    received-done kept known m′ z done = record {
+      unopened = ((λ x. absurd (subst IsRefusal (sym x) tt)), (λ x. absurd (Option·none-ne-some h (sym x ∙ has))));
+      untouched = λ x. absurd (Option·none-ne-some h (sym x ∙ has));
+      refused = λ n x. absurd (subst IsRefusal (sym x) tt);
+      contained = λ h′ x.
+          subst (λ (y : Header). Contained (memorySize (y .setting)) m m′ × Contained (workingSize (y .setting)) v v′)
+          (Option·some-injective h h′ (sym has ∙ x)) (done .contained, work-kept);
+      follows = λ s t k.
+          let row : at .shape .base ≡ (t .base + at .rise) % s .width =
+          subst (λ (y : PacketPlace). y .shape .base ≡ (t .base + y .rise) % s .width) (sym (here s t k)) (mod-add-mod (t .base) (s .width) (d + n - s .width)) in
+          let (T, i, held, counted) = done .outcome s t _ k row (subst (Comes _ _ _ _ v′ _) z (comes s t k)) in
+          does-by s t k m′ (Done known) (some T) i (ap value counted, held);
+    }

@@ -19,7 +19,6 @@ use Rattle.elimination.specs.declared.gather.Verdict.the-variants as verdict
 use Rattle.elimination.specs.Window.{place, row, equation, Window}
 use Rattle.elimination.specs.Gather.{Laid}
 use Rattle.elimination.specs.Packet as packet
-use Rattle.receiver.specs.declared.Answer.{Answer}
 use Rattle.receiver.specs.declared.Header.{Header}
 use Rattle.receiver.specs.declared.packet.PacketPlace.{PacketPlace}
 use Rattle.receiver.specs.declared.packet.PlaceFound.{PlaceFound}
@@ -27,10 +26,10 @@ use Rattle.receiver.specs.declared.packet.PlaceFound.the-variants.{Place
 use Rattle.receiver.specs.declared.packet.Gathered.{Gathered}
 use Rattle.receiver.specs.declared.packet.Gathered.the-variants.{All, Contradiction}
 use Rattle.receiver.specs.Symbol.{Symbol}
-use Rattle.receiver.specs.History.{Located, located, memorySize, workingSize, refusal}
-use Rattle.receiver.specs.Model.{State, responds}
-use Rattle.receiver.specs.Promises.{said, Contained, Follows}
-use Rattle.receiver.specs.Layout.{Holds, receiverLayout}
+use Rattle.receiver.specs.History.{memorySize}
+use Rattle.receiver.specs.Model.{State}
+use Rattle.receiver.specs.Promises.{Contained}
+use Rattle.receiver.specs.Layout.{Holds}
 
 -- ---- The packet's place
 
@@ -131,17 +130,3 @@ pub record Finished (h : Header) (at : PacketPlace) (kept count : ℕ) (work m m
       → (T : model.State (Coded (s .size)) (s .width)) × (decoder.insert-all es (decoder.advance-by (at .rise) (t .window)) ≡ some T)
       × Holds m′ s (record { base = t .base + at .rise; window = T })
       × (count ≡ decoder.newly t (record { base = t .base + at .rise; window = T }))
-
--- ---- A packet call
-
--- The place of n symbols by the header, from some distance on.
-pub record PlaceOf (h : Header) (n : ℕ) (at : PacketPlace) : Type 0 where
-  pub distance : ℕ
-  pub is : at ≡ placeAt h distance n
-  pub near : distance + n ≤ 65536
-
--- A packet, which is q b where the base is b, has been accepted; or it contradicts (11), and the memory is as it was.
-pub record Taken (q : ℕ → Located) (h : Header) (m m′ v v′ : List ℕ) (a : Answer) : Type 0 where
-  pub refused : (n : ℕ) → said a ≡ refusal n → (n ≡ 11) × (m′ ≡ m)
-  pub contained : Contained (memorySize (h .setting)) m m′ × Contained (workingSize (h .setting)) v v′
-  pub follows : (s : Setting) (t : State s) → Holds m s t → Follows receiverLayout s (responds s t (located (q (t .base)))) m m′ a

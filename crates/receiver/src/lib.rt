@@ -109,18 +109,22 @@ pub fn receive_source(mem: &mut [u8], work: &mut [u8], flow: u8, packet: &[u8]) 
     if setting.width < count {
         return Answer::Refused(Refusal::Long);
     }
-    match packet::locate(header, fields.first, count) {
-        PlaceFound::PlaceIs(place) => {
-            let adu = memory::part(packet, 0, fields.len);
-            source::take_source(mem, work, header, place, flow, adu, count)
-        }
-        PlaceFound::Out(refusal) => Answer::Refused(refusal),
-    }
+    let place = match packet::locate(header, fields.first, count) {
+        PlaceFound::PlaceIs(at) => at,
+        PlaceFound::Out(refusal) => return Answer::Refused(refusal),
+    };
+    let adu = memory::part(packet, 0, fields.len);
+    let Gathered::All(kept) = source::gather_source(mem, work, place, flow, adu, count) else {
+        return Answer::Refused(Refusal::Contradiction);
+    };
+    Answer::Done(packet::finish(mem, work, header, place, kept))
 }
 
-// Receives a repair packet. Gives how many positions of the window became known.
+// Receives a repair packet. The state is only read until all its symbols are known to agree with it. Gives how many positions of the window
+// became known.
 pub fn receive_repair(mem: &mut [u8], work: &mut [u8], packet: &[u8]) -> Answer
-    ensures { λ r. ⌜ Received receiverLayout (repair-call (now (packet .entry))) (now (mem .entry)) (now (mem .exit)) (now (work .entry)) (now (work .exit)) r ⌝ }
+    ensures { λ r. ⌜ Received receiverLayout (repair-call (now (packet .entry)))
+        (now (mem .entry)) (now (mem .exit)) (now (work .entry)) (now (work .exit)) r ⌝ }
 {
     let Found::HeaderIs(header) = front::read_header(mem) else {
         return Answer::Refused(Refusal::Unopened);
@@ -141,7 +145,7 @@ pub fn receive_repair(mem: &mut [u8], work: &mut [u8], packet: &[u8]) -> Answer
         PlaceFound::PlaceIs(at) => at,
         PlaceFound::Out(refusal) => return Answer::Refused(refusal),
     };
-    let mut lists = repair::room_for_lists();
+    let mut lists = coefficients::room_for_lists();
     let scheme = setting.scheme;
     let Filled::Done = coefficients::fill_lists(&mut lists, n, scheme, fields.key, fields.dt, count)
     else {

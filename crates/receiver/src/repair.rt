@@ -68,10 +68,3 @@ pub fn gather_repair(
     }
     Gathered::All(kept)
 }
-
-// Room for the coefficients of 16 repair symbols over the widest window.
-pub fn room_for_lists() -> [u8; 4080]
-    ensures { λ r. ⌜ length r ≡ 4080 ⌝ }
-{
-    [0; 4080]
-}

@@ -1,24 +1,18 @@
 // A source packet's equations: one for each symbol of its ADU, which says that the position holds it.
 ghost use mathlib.Core.Path.{_≡_};
-ghost use mathlib.Core.Option.{some};
 ghost use Prim.Native.Nat.{_+_, _≤_, _<_};
 ghost use lib.ListN.{length};
 ghost use Rattle.memory.specs.Part.{splice};
 ghost use Rattle.wire.specs.Packets.{symbolCount, symbolAt};
 ghost use Rattle.elimination.specs.Window.{place, Fits};
 ghost use Rattle.elimination.specs.Packet.{Works};
-ghost use Rattle.receiver.specs.History.{workingSize};
-ghost use Rattle.receiver.specs.Header.{headerIn};
-ghost use Rattle.receiver.specs.Steps.{Admits, Gathers, PlaceOf};
-ghost use Rattle.receiver.specs.SourceSteps.{equationOf, SourceTaken};
-use super::Answer;
-use super::Header;
+ghost use Rattle.receiver.specs.Steps.{Admits, Gathers};
+ghost use Rattle.receiver.specs.SourceSteps.{equationOf};
 use super::find;
 use super::packet;
 use super::packet::Gathered;
 use super::packet::PacketPlace;
 use elimination::Shape;
-use wire::Refusal;
 
 // The i-th symbol of an ADU in the row `k` of working memory.
 fn write_row(work: &mut [u8], shape: Shape, k: usize, flow: u8, adu: &[u8], i: usize)
@@ -51,7 +45,7 @@ fn admit_symbol(
 }
 
 // The equations of the `count` symbols of an ADU.
-fn gather_source(
+pub fn gather_source(
     mem: &[u8],
     work: &mut [u8],
     place: PacketPlace,
@@ -72,24 +66,4 @@ fn gather_source(
         kept = now;
     }
     Gathered::All(kept)
-}
-
-// A source packet whose place is found: it is accepted, or it contradicts.
-pub fn take_source(
-    mem: &mut [u8],
-    work: &mut [u8],
-    header: Header,
-    place: PacketPlace,
-    flow: u8,
-    adu: &[u8],
-    count: usize,
-) -> Answer
-    requires { ⌜ (headerIn (now mem) ≡ some header) × (workingSize (header .setting) ≤ length (now work)) × PlaceOf header count place
-        × (length (now adu) ≤ 65535) × (count ≡ symbolCount (header .setting .size) (length (now adu))) × (count ≤ header .setting .width) ⌝ }
-    ensures { λ r. ⌜ SourceTaken header place count flow (now (adu .entry)) (now (mem .entry)) (now (mem .exit)) (now (work .entry)) (now (work .exit)) r ⌝ }
-{
-    let Gathered::All(kept) = gather_source(mem, work, place, flow, adu, count) else {
-        return Answer::Refused(Refusal::Contradiction);
-    };
-    Answer::Done(packet::finish(mem, work, header, place, kept))
 }

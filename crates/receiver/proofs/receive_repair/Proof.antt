@@ -1,5 +1,5 @@
 -- `receiver::receive_repair` meets its contract.
-use mathlib.Core.Path.{_≡_, sym, _∙_, subst}
+use mathlib.Core.Path.{_≡_, sym, _∙_}
 use mathlib.Core.Bool.{true}
 use mathlib.Core.Option.{some}
 use Prim.Native.Nat.{ℕ, _*_, _≤_}
@@ -16,10 +16,9 @@ use Rattle.coefficients.proofs.Fills.{lists-were-done, lists-were-refused}
 use Rattle.receiver.specs.declared.Header.{Header}
 use Rattle.receiver.specs.History.{workingSize}
 use Rattle.receiver.specs.Header.{headerIn}
-use Rattle.receiver.specs.Steps.{WorksOn}
 use Rattle.receiver.proofs.Headers.{header-is, header-none, headed}
-use Rattle.receiver.proofs.Receiving.{received-unopened}
-use Rattle.receiver.proofs.RepairCall.{sized, repair-short, repair-form, repair-range, repair-out, repair-draws, gather-asks, finish-asks, repair-contradicts, repair-done}
+use Rattle.receiver.proofs.Receiving.{received-unopened, received-short, finish-asks}
+use Rattle.receiver.proofs.RepairCall.{sized, call-form, call-range, call-out, call-draws, gather-asks, call-contradicts, call-done}
 use borrow.Author.Needs.{needs}
 use Rattle.receiver.proofs.receive_repair.Statement.{statement}
 use Rattle.receiver.proofs.receive_repair.Tie as tie
@@ -51,18 +50,18 @@ working-size-requires : tie.Need-working-size-requires
 working-size-requires c κs = let p = c .before .before in headed _ (header p) (has p) .valid
 
 returns-2 : tie.Need-returns-2
-returns-2 c = let p = c .before .before .before .before in repair-short _ _ _ (header p) (has p) (rw (c .before .working-size .ensures) at (c .if1 .taken))
+returns-2 c = let p = c .before .before .before .before in received-short _ _ _ (header p) (has p) (rw (c .before .working-size .ensures) at (c .if1 .taken))
 
 returns-3 : tie.Need-returns-3
 returns-3 c =
     let p = c .before .before .before .before .before .before .before in
-    repair-form _ _ _ (header p) (has p) (lent (c .before .before .before)) _ (sym (c .enum-told2 .given .1) ∙ c .before .before .read-repair .ensures)
+    call-form _ _ _ (header p) (has p) (lent (c .before .before .before)) _ (sym (c .enum-told2 .given .1) ∙ c .before .before .read-repair .ensures)
 
 returns-4 : tie.Need-returns-4
 returns-4 c =
     let p = c .before .before .before .before .before .before .before .before .before .before in
     let q = c .before .before .before in
-    repair-range _ _ _ (header p) (has p) (lent (c .before .before .before .before .before .before)) (fields q) (read q)
+    call-range _ _ _ (header p) (has p) (lent (c .before .before .before .before .before .before)) (fields q) (read q)
     (sym (c .before .between .ensures) ∙ not-true (c .before .between .result) (c .if2 .taken))
 
 locate-requires : tie.Need-locate-requires
@@ -75,7 +74,7 @@ returns-5 : tie.Need-returns-5
 returns-5 c =
     let p = c .before .before .before .before .before .before .before .before .before .before .before .before .before .before in
     let q = c .before .before .before .before .before .before .before in
-    repair-out _ _ _ (header p) (has p) (lent (c .before .before .before .before .before .before .before .before .before .before)) (fields q) (read q) (fits (c .before .before .before .before)) _ (sym (c .before .refusal .given .1) ∙ c .before .before .before .locate .ensures)
+    call-out _ _ _ (header p) (has p) (lent (c .before .before .before .before .before .before .before .before .before .before)) (fields q) (read q) (fits (c .before .before .before .before)) _ (sym (c .before .refusal .given .1) ∙ c .before .before .before .locate .ensures)
 
 -- The lists fit the room for them.
 lists-fit : (p : tie.Else2) → fields (p .before .before .before) .count * fields (p .before .before .before) .nss ≤ 4080
@@ -103,7 +102,7 @@ returns-6 : tie.Need-returns-6
 returns-6 c =
     let p = c .before .before .before .before .before .before .before .before .before .before .before .before .before .before .before .before .before .before .before .before in
     let q = c .before .before .before .before .before .before .before .before .before .before .before .before .before in
-    repair-draws _ _ _ (header p) (has p) (lent (c .before .before .before .before .before .before .before .before .before .before .before .before .before .before .before .before)) (fields q) (read q) (fits (c .before .before .before .before .before .before .before .before .before .before)) _ (sym (c .before .before .before .before .before .before .before .at .given .1) ∙ c .before .before .before .before .before .before .before .before .before .locate .ensures)
+    call-draws _ _ _ (header p) (has p) (lent (c .before .before .before .before .before .before .before .before .before .before .before .before .before .before .before .before)) (fields q) (read q) (fits (c .before .before .before .before .before .before .before .before .before .before)) _ (sym (c .before .before .before .before .before .before .before .at .given .1) ∙ c .before .before .before .before .before .before .before .before .before .locate .ensures)
     (lists-were-refused (c .before .before .before .fill-lists .ensures) (c .enum-told4 .given .1))
 
 gather-repair-requires : tie.Need-gather-repair-requires
@@ -119,16 +118,14 @@ returns-7 c =
     let q = c .before .before .before .before .before .before .before .before .before .before .before .before .before .before .before .before .before .before .before .before .before in
     let drawn = c .before .before .before .before .before .before .before .before .before .before .before .fill-lists .ensures in
     let done = c .before .before .before .before .before .before .before .before .enum-told3 .given .1 in
-    repair-contradicts _ _ _ (header p) (has p) (lent (c .before .before .before .before .before .before .before .before .before .before .before .before .before .before .before .before .before .before .before .before .before .before .before .before)) (fields q) (read q) (fits (c .before .before .before .before .before .before .before .before .before .before .before .before .before .before .before .before .before .before)) _ (sym (c .before .before .before .before .before .before .before .before .before .before .before .before .before .before .before .at .given .1) ∙ c .before .before .before .before .before .before .before .before .before .before .before .before .before .before .before .before .before .locate .ensures)
+    call-contradicts _ _ _ (header p) (has p) (lent (c .before .before .before .before .before .before .before .before .before .before .before .before .before .before .before .before .before .before .before .before .before .before .before .before)) (fields q) (read q) (fits (c .before .before .before .before .before .before .before .before .before .before .before .before .before .before .before .before .before .before)) _ (sym (c .before .before .before .before .before .before .before .before .before .before .before .before .before .before .before .at .given .1) ∙ c .before .before .before .before .before .before .before .before .before .before .before .before .before .before .before .before .before .locate .ensures)
     (lists-were-done drawn done) _ _ (drawn .bytes done) _ _ (c .before .before .before .before .gather-repair .ensures) (c .enum-told5 .given .1)
 
 finish-requires : tie.Need-finish-requires
 finish-requires c κs =
     let a = c .before .before .before .before .before .before .before .before .before .before .before .before .before .before .before .before .before .before .before .before .before .before .before .before .before .before .before .before .before .before .before .before .before .before .before .before .before .before .args in
     let p = c .before .before .before .before .before .before .before .before .before .before .before .before .before .before .before .before .before .before .before .before .before .before .before .before .before .before .before .before .before .before .before in
-    let q = c .before .before .before .before .before .before .before .before .before .before .before .before .before .before .before .before .before .before .before .before .before .before .before .before in
-    finish-asks _ _ (a .work .now) (header p) (has p) (lent (c .before .before .before .before .before .before .before .before .before .before .before .before .before .before .before .before .before .before .before .before .before .before .before .before .before .before .before)) (fields q) (read q) (fits (c .before .before .before .before .before .before .before .before .before .before .before .before .before .before .before .before .before .before .before .before .before)) _ (sym (c .before .before .before .before .before .before .before .before .before .before .before .before .before .before .before .before .before .before .at .given .1) ∙ c .before .before .before .before .before .before .before .before .before .before .before .before .before .before .before .before .before .before .before .before .locate .ensures) _ _
-    (subst (WorksOn _ _ _) (c .before .before .before .kept .given .1) (c .before .before .before .before .before .before .before .gather-repair .ensures .works))
+    finish-asks (header p) _ _ _ (sym (c .before .before .before .before .before .before .before .before .before .before .before .before .before .before .before .before .before .before .at .given .1) ∙ c .before .before .before .before .before .before .before .before .before .before .before .before .before .before .before .before .before .before .before .before .locate .ensures) _ (a .work .now) (has p) (lent (c .before .before .before .before .before .before .before .before .before .before .before .before .before .before .before .before .before .before .before .before .before .before .before .before .before .before .before)) _ (c .before .before .before .before .before .before .before .gather-repair .result) _ (c .before .before .before .kept .given .1) (c .before .before .before .before .before .before .before .gather-repair .ensures .works)
 
 returns-8 : tie.Need-returns-8
 returns-8 c =
@@ -136,7 +133,7 @@ returns-8 c =
     let q = c .before .before .before .before .before .before .before .before .before .before .before .before .before .before .before .before .before .before .before .before .before .before .before .before .before .before .before in
     let drawn = c .before .before .before .before .before .before .before .before .before .before .before .before .before .before .before .before .before .fill-lists .ensures in
     let done = c .before .before .before .before .before .before .before .before .before .before .before .before .before .before .enum-told3 .given .1 in
-    repair-done _ _ _ (header p) (has p) (lent (c .before .before .before .before .before .before .before .before .before .before .before .before .before .before .before .before .before .before .before .before .before .before .before .before .before .before .before .before .before .before)) (fields q) (read q) (fits (c .before .before .before .before .before .before .before .before .before .before .before .before .before .before .before .before .before .before .before .before .before .before .before .before)) _ (sym (c .before .before .before .before .before .before .before .before .before .before .before .before .before .before .before .before .before .before .before .before .before .at .given .1) ∙ c .before .before .before .before .before .before .before .before .before .before .before .before .before .before .before .before .before .before .before .before .before .before .before .locate .ensures)
+    call-done _ _ _ (header p) (has p) (lent (c .before .before .before .before .before .before .before .before .before .before .before .before .before .before .before .before .before .before .before .before .before .before .before .before .before .before .before .before .before .before)) (fields q) (read q) (fits (c .before .before .before .before .before .before .before .before .before .before .before .before .before .before .before .before .before .before .before .before .before .before .before .before)) _ (sym (c .before .before .before .before .before .before .before .before .before .before .before .before .before .before .before .before .before .before .before .before .before .at .given .1) ∙ c .before .before .before .before .before .before .before .before .before .before .before .before .before .before .before .before .before .before .before .before .before .before .before .locate .ensures)
     (lists-were-done drawn done) _ _ (drawn .bytes done) _ _ (c .before .before .before .before .before .before .before .before .before .before .gather-repair .ensures) _ _ _ (c .before .before .before .before .before .before .kept .given .1) (c .before .before .finish .ensures)
 
 pub receive-repair-spec : {M : Type 1} → statement M

@@ -1,18 +1,21 @@
 -- `receiver::receive_source` meets its contract.
 use mathlib.Core.Path.{_≡_, ap, sym, _∙_}
 use mathlib.Core.Option.{some}
-use Prim.Native.Nat.{_≤_}
+use Prim.Native.Nat.{ℕ, _≤_}
 use native.Mathlib.Omega.{arith}
 use lib.ListN.{length}
 use Rattle.wire.specs.declared.SourceFields.{SourceFields}
 use Rattle.wire.specs.Packets.{symbolCount}
 use Rattle.receiver.specs.declared.Header.{Header}
+use Rattle.receiver.specs.declared.packet.PacketPlace.{PacketPlace}
+use Rattle.receiver.specs.declared.packet.PlaceFound.the-variants.{PlaceIs}
 use Rattle.receiver.specs.History.{workingSize}
 use Rattle.receiver.specs.Header.{headerIn}
+use Rattle.receiver.specs.Steps.{placeFound}
 use Rattle.receiver.proofs.Headers.{header-is, header-none, Headed, headed}
-use Rattle.receiver.proofs.Locating.{place-of}
-use Rattle.receiver.proofs.Receiving.{received-unopened}
-use Rattle.receiver.proofs.SourceCall.{Fields, source-fields, adu-length, source-none, call-short, call-form, call-long, call-many, call-out, call-taken}
+use Rattle.receiver.proofs.Receiving.{received-unopened, received-short, place-width, place-size, ready, finish-asks}
+use Rattle.receiver.proofs.SourceCall.{Fields, source-fields, adu-length, source-none}
+use Rattle.receiver.proofs.SourceCall.{call-form, call-long, call-many, call-out, call-contradicts, call-done}
 use borrow.Author.Needs.{needs}
 use Rattle.receiver.proofs.receive_source.Statement.{statement}
 use Rattle.receiver.proofs.receive_source.Tie as tie
@@ -38,6 +41,22 @@ fields p = p .fields .given .0 .0
 reads : (p : tie.After-fields) → Fields (p .before .before .before .before .before .before .before .before .before .before .before .before .before .before .args .packet .now) (fields p)
 reads p = source-fields _ (fields p) (p .before .before .read-source .result) (p .before .before .read-source .ensures) (p .fields .given .1)
 
+-- the packet's place, and what was read before it
+abbrev place : tie.After-at → PacketPlace
+place p = p .at .given .0 .0
+
+abbrev read-header : tie.After-at → tie.After-header
+read-header p = p .before .before .before .before .before .before .before .before .before .before .before .before .before .before .before .before
+
+abbrev read-fields : tie.After-at → tie.After-fields
+read-fields p = p .before .before .before .before .before .before .before .before .before
+
+long-enough : (p : tie.After-at) → workingSize (header (read-header p) .setting) ≤ length (p .before .before .before .before .before .before .before .before .before .before .before .before .before .before .before .before .before .before .before .before .before .before .before .args .work .now)
+long-enough p = room (p .before .before .before .before .before .before .before .before .before .before .before .before)
+
+found : (p : tie.After-at) → PlaceIs (place p) ≡ placeFound (header (read-header p)) (fields (read-fields p) .first .0) (p .before .before .before .before .before .symbol-count .result)
+found p = sym (p .at .given .1) ∙ p .before .before .locate .ensures
+
 returns : tie.Need-returns
 returns c = received-unopened _ _ _ (header-none _ (c .before .before .read-header .ensures) (c .enum-told .given .1))
 
@@ -45,7 +64,7 @@ working-size-requires : tie.Need-working-size-requires
 working-size-requires c κs = says (c .before .before) .valid
 
 returns-2 : tie.Need-returns-2
-returns-2 c = call-short _ _ _ _ (header (c .before .before .before .before)) (has (c .before .before .before .before)) (rw (c .before .working-size .ensures) at (c .if1 .taken))
+returns-2 c = received-short _ _ _ (header (c .before .before .before .before)) (has (c .before .before .before .before)) (rw (c .before .working-size .ensures) at (c .if1 .taken))
 
 returns-3 : tie.Need-returns-3
 returns-3 c =
@@ -64,31 +83,52 @@ returns-5 c =
 locate-requires : tie.Need-locate-requires
 locate-requires c κs = let k = says (c .before .before .before .before .before .before .before .before .before .before .before .before .before) in (k .valid, k .row-lt, c .if3 .left)
 
+returns-6 : tie.Need-returns-6
+returns-6 c =
+    call-out _ _ _ _ (header (c .before .before .before .before .before .before .before .before .before .before .before .before .before .before .before .before .before)) (has (c .before .before .before .before .before .before .before .before .before .before .before .before .before .before .before .before .before)) (room (c .before .before .before .before .before .before .before .before .before .before .before .before .before)) (fields (c .before .before .before .before .before .before .before .before .before .before)) (reads (c .before .before .before .before .before .before .before .before .before .before)) (c .before .before .before .before .before .before .before .if2 .left) _ (c .before .before .before .before .before .before .symbol-count .ensures)
+    (c .before .before .before .before .if3 .left) _ (sym (c .before .refusal .given .1) ∙ c .before .before .before .locate .ensures)
+
 part-requires : tie.Need-part-requires
 part-requires c κs = omega (arith, reads (c .before .before .before .before .before .before .before .before .before .before) .within)
 
-take-source-requires : tie.Need-take-source-requires
-take-source-requires c κs =
-    let l = adu-length (reads (c .before .before .before .before .before .before .before .before .before .before .before .before .before)) (c .before .before .part .ensures .bytes) in
-    let counted = c .before .before .before .before .before .before .before .before .before .symbol-count .ensures in (
-      has (c .before .before .before .before .before .before .before .before .before .before .before .before .before .before .before .before .before .before .before .before),
-      room (c .before .before .before .before .before .before .before .before .before .before .before .before .before .before .before .before),
-      place-of (header (c .before .before .before .before .before .before .before .before .before .before .before .before .before .before .before .before .before .before .before .before)) _ _ _
-          (sym (c .before .before .before .before .place .given .1) ∙ c .before .before .before .before .before .before .locate .ensures),
-      omega (arith, l, c .before .before .before .before .before .before .before .before .before .before .if2 .left),
-      counted ∙ ap (symbolCount (header (c .before .before .before .before .before .before .before .before .before .before .before .before .before .before .before .before .before .before .before .before) .setting .size)) (sym l),
-      c .before .before .before .before .before .before .before .if3 .left,
+gather-source-requires : tie.Need-gather-source-requires
+gather-source-requires c κs =
+    let p = c .before .before .before .before in
+    let g = ready _ _ _ (place p) (found p) _ _ (has (read-header p)) (long-enough p) in
+    let l = adu-length (reads (read-fields p)) (c .before .before .part .ensures .bytes) in
+    let size = place-size _ _ _ (place p) (found p) in (
+      g .fits,
+      g .works,
+      g .base,
+      g .first,
+      omega (arith, l, p .before .before .before .before .before .before .if2 .left),
+      p .before .before .before .before .before .symbol-count .ensures ∙ ap (symbolCount (header (read-header p) .setting .size)) (sym l)
+          ∙ ap (λ (E : ℕ). symbolCount E (length (c .before .before .part .result .now))) (sym size),
+      omega (arith, p .before .before .before .if3 .left, place-width _ _ _ (place p) (found p)),
     )
-
-returns-6 : tie.Need-returns-6
-returns-6 c =
-    call-taken _ _ _ _ (header (c .before .before .before .before .before .before .before .before .before .before .before .before .before .before .before .before .before .before .before .before .before .before .before .before .before)) (has (c .before .before .before .before .before .before .before .before .before .before .before .before .before .before .before .before .before .before .before .before .before .before .before .before .before)) (room (c .before .before .before .before .before .before .before .before .before .before .before .before .before .before .before .before .before .before .before .before .before)) (fields (c .before .before .before .before .before .before .before .before .before .before .before .before .before .before .before .before .before .before)) (reads (c .before .before .before .before .before .before .before .before .before .before .before .before .before .before .before .before .before .before)) (c .before .before .before .before .before .before .before .before .before .before .before .before .before .before .before .if2 .left) _ (c .before .before .before .before .before .before .before .before .before .before .before .before .before .before .symbol-count .ensures)
-    (c .before .before .before .before .before .before .before .before .before .before .before .before .if3 .left) _ _ _ _ _ (sym (c .before .before .before .before .before .before .before .before .before .place .given .1) ∙ c .before .before .before .before .before .before .before .before .before .before .before .locate .ensures) (c .before .before .before .before .before .before .before .part .ensures .bytes) (c .before .before .before .before .take-source .ensures)
 
 returns-7 : tie.Need-returns-7
 returns-7 c =
-    call-out _ _ _ _ (header (c .before .before .before .before .before .before .before .before .before .before .before .before .before .before .before .before .before)) (has (c .before .before .before .before .before .before .before .before .before .before .before .before .before .before .before .before .before)) (room (c .before .before .before .before .before .before .before .before .before .before .before .before .before)) (fields (c .before .before .before .before .before .before .before .before .before .before)) (reads (c .before .before .before .before .before .before .before .before .before .before)) (c .before .before .before .before .before .before .before .if2 .left) _ (c .before .before .before .before .before .before .symbol-count .ensures)
-    (c .before .before .before .before .if3 .left) _ (sym (c .before .refusal .given .1) ∙ c .before .before .before .locate .ensures)
+    let p = c .before .before .before .before .before .before .before .before .before in
+    let gathered = c .before .before .before .before .gather-source in
+    call-contradicts _ _ _ _ (header (read-header p)) (has (read-header p)) (long-enough p) (fields (read-fields p)) (reads (read-fields p))
+    (p .before .before .before .before .before .before .if2 .left) _ (p .before .before .before .before .before .symbol-count .ensures) (p .before .before .before .if3 .left) (place p) (found p) _ _ (c .before .before .before .before .before .before .before .part .ensures .bytes)
+    (gathered .result) (gathered .ensures) (c .enum-told3 .given .1)
+
+finish-requires : tie.Need-finish-requires
+finish-requires c κs =
+    let p = c .before .before .before .before .before .before .before .before .before .before .before .before in
+    let gathered = c .before .before .before .before .before .before .before .gather-source in
+    finish-asks _ _ _ (place p) (found p) _ (p .before .before .before .before .before .before .before .before .before .before .before .before .before .before .before .before .before .before .before .before .before .before .before .args .work .now) (has (read-header p)) (long-enough p) _ (gathered .result) _
+    (c .before .before .before .kept .given .1) (gathered .ensures .works)
+
+returns-8 : tie.Need-returns-8
+returns-8 c =
+    let p = c .before .before .before .before .before .before .before .before .before .before .before .before .before .before .before in
+    let gathered = c .before .before .before .before .before .before .before .before .before .before .gather-source in
+    call-done _ _ _ _ (header (read-header p)) (has (read-header p)) (long-enough p) (fields (read-fields p)) (reads (read-fields p))
+    (p .before .before .before .before .before .before .if2 .left) _ (p .before .before .before .before .before .symbol-count .ensures) (p .before .before .before .if3 .left) (place p) (found p) _ _ (c .before .before .before .before .before .before .before .before .before .before .before .before .before .part .ensures .bytes)
+    (gathered .result) (gathered .ensures) _ _ _ (c .before .before .before .before .before .before .kept .given .1) (c .before .before .finish .ensures)
 
 pub receive-source-spec : {M : Type 1} → statement M
 receive-source-spec =
@@ -114,11 +154,17 @@ receive-source-spec =
     returns-5
     locate-requires
     (λ c. search needs)
-    part-requires
-    take-source-requires
-    (λ c. search needs)
     (λ c. search needs)
     (λ c. search needs)
     returns-6
+    part-requires
+    gather-source-requires
     (λ c. search needs)
-    returns-7)
+    (λ c. search needs)
+    (λ c. search needs)
+    (λ c. search needs)
+    returns-7
+    finish-requires
+    (λ c. search needs)
+    (λ c. search needs)
+    returns-8)
