@@ -1,8 +1,8 @@
 -- A packet's rows joined with the state's, and the header with the new base: the memory holds the state after the packet.
 use mathlib.Core.Path.{_≡_, refl, sym, ap, ap₂, _∙_, subst}
-use mathlib.Core.Option.{Option, none, some, Option·some-injective}
+use mathlib.Core.Option.{Option, some, Option·some-injective}
 use mathlib.Core.List.{List}
-use Prim.Native.Nat.{ℕ, _+_, _*_, _%_, _^_, _≤_, _<_}
+use Prim.Native.Nat.{ℕ, _+_, _%_, _^_, _≤_, _<_}
 use native.Mathlib.Nat.{mod-lt}
 use native.Mathlib.Omega.{arith}
 use lib.ListN.{length, take, drop}
@@ -15,7 +15,6 @@ use Rattle.wire.specs.declared.Setting.{Setting}
 use Rattle.wire.specs.Numbers.{esiAfter}
 use Rattle.wire.specs.Settings.{settingIn}
 use Rattle.wire.proofs.Settings.{setting-kept}
-use Rattle.decoder.specs.Field.{Laws}
 use Rattle.decoder.specs.Bytes.{Coded}
 use Rattle.decoder.specs.Model as model
 use Rattle.decoder.specs.Receiver as decoder
@@ -31,10 +30,9 @@ use Rattle.receiver.specs.declared.packet.PacketPlace.{PacketPlace}
 use Rattle.receiver.specs.History.{memorySize}
 use Rattle.receiver.specs.Model.{State}
 use Rattle.receiver.specs.Header.{headerIn}
-use Rattle.receiver.specs.Promises.{Contained}
 use Rattle.receiver.specs.Layout.{headerOf, Holds}
 use Rattle.receiver.specs.Steps.{Finished}
-use Rattle.receiver.proofs.Headers.{numbers, found, Headed, headed, header-fits}
+use Rattle.receiver.proofs.Headers.{found, headed, header-fits}
 
 -- The header that a memory has is that of the state which it holds.
 pub header-held : (m : List ℕ) (h : Header) (s : Setting) (t : State s) → headerIn m ≡ some h → Holds m s t → h ≡ headerOf s t

@@ -1,11 +1,11 @@
 -- A packet's equations, admitted one after the other: what one more makes of them, and what all come to.
 use mathlib.Core.Path.{_≡_, refl, sym, ap, ap₂, _∙_, subst}
-use mathlib.Core.Option.{Option, none, some}
+use mathlib.Core.Option.{none, some}
 use mathlib.Core.List.{List, [], _∷_, _++_}
-use Prim.Native.Nat.{ℕ, zero, suc, _+_, _-_, _*_, _%_, _≤_, _<_}
+use Prim.Native.Nat.{ℕ, zero, suc, _+_, _≤_, _<_}
 use native.Mathlib.Decide.{ℕ-discrete}
 use native.Mathlib.Omega.{arith}
-use lib.ListN.{length, drop, getD}
+use lib.ListN.{length, getD}
 use Rattle.memory.specs.Part.{splice}
 use Rattle.memory.proofs.Parts.{getD-part, getD-within, row-fits}
 use Rattle.decoder.specs.Bytes.{Coded}
@@ -15,7 +15,7 @@ use Rattle.decoder.specs.Stretch.{symbol-at}
 use Rattle.decoder.proofs.Jump.{insert-all-append}
 use Rattle.elimination.specs.declared.gather.Verdict.{Verdict}
 use Rattle.elimination.specs.declared.gather.Verdict.the-variants as verdict
-use Rattle.elimination.specs.Window.{stride, place, row, equation, Window, Fits}
+use Rattle.elimination.specs.Window.{stride, place, row, equation}
 use Rattle.elimination.specs.Packet as packet
 use Rattle.elimination.specs.Gather.{Only, LaidIn, Admitted, Agrees, count-kept}
 use Rattle.elimination.proofs.Framing.{only-trans, only-wider, only-splice, works-only, row-room}
@@ -27,7 +27,7 @@ use Rattle.receiver.specs.declared.packet.Gathered.{Gathered}
 use Rattle.receiver.specs.declared.packet.Gathered.the-variants.{All, Contradiction}
 use Rattle.receiver.specs.Symbol.{symbolOf}
 use Rattle.receiver.specs.Promises.{Contained}
-use Rattle.receiver.specs.Steps.{gatheredBy, Comes, WorksOn, firsts, Lies, EquationAdmitted, Admits, Gathers}
+use Rattle.receiver.specs.Steps.{gatheredBy, Comes, WorksOn, Spells, firsts, Lies, EquationAdmitted, Admits, Gathers}
 
 -- ---- Memories that keep their length and what lies past a size
 
@@ -113,6 +113,29 @@ module _ (at : PacketPlace) (kept first : ℕ) (cs : List ℕ) (v : Verdict) (m 
         (subst (λ x. Agrees w E q (decoder.advance-by (at .rise) S) work′ kept (es ++ (x ∷ [])) v) is
         (a .outcome b (at .rise) d S es (lies .base) (lies .stay) (lies .column) (omega (arith, lies .some, lies .room)) (lies .room) held reduced (l .laid .off) before));
   }
+
+-- An equation e of a packet of n positions from the d-th of the window on, whose symbol x was stored in the row before, and whose coefficients
+-- `cs` are of the positions from the `to d`-th on.
+pub stored-admitted : (at : PacketPlace) (kept first n : ℕ) (cs x m work work₁ work′ : List ℕ) (r : Gathered)
+    (e : ℕ → model.Row (Coded (at .shape .size)) (at .shape .width)) (to : ℕ → ℕ)
+    → packet.Works (at .shape .width) (at .shape .size) kept work → length x ≡ at .shape .size
+    → work₁ ≡ splice (place (at .shape .width) (at .shape .size) kept + at .shape .width) x work → EquationAdmitted at kept first cs r m work₁ work′
+    → ((b d : ℕ) → Lies at (at .first) n b d
+    → Lies at first (length cs) b (to d) × Spells (at .shape .width) (at .shape .size) (b + at .rise) first cs (symbolOf (at .shape .size) x) (e d))
+    → Admits at n e kept r m work work′
+stored-admitted at kept first n cs x m work work₁ work′ r e to g size stored a spelt =
+    let w : ℕ = at .shape .width in
+    let E : ℕ = at .shape .size in
+    let only = stored-only w E kept x work work₁ g size stored in
+    record {
+      contained = contained-more (contained-row w E kept (place w E kept + stride w E) work work₁ (g .within) (omega arith) only) (a .contained);
+      works = a .works;
+      outcome = λ b d S es lies held reduced gathered.
+          let (l, s) = spelt b d lies in
+          a .outcome b (to d) S es (e d) l held reduced (λ t laid v. s t laid (v ∙ stored-is w E kept x work work₁ g size stored))
+          (gathered-only w E (b + at .rise) kept (place w E kept + stride w E) (decoder.advance-by (at .rise) S) work work₁ es
+          (omega (arith, g .some-symbol)) only (omega arith) gathered);
+    }
 
 -- ---- All equations
 

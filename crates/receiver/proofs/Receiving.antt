@@ -26,10 +26,10 @@ use Rattle.receiver.specs.declared.packet.PlaceFound.the-variants.{Place
 use Rattle.receiver.specs.declared.packet.Gathered.{Gathered}
 use Rattle.receiver.specs.declared.packet.Gathered.the-variants.{All, Contradiction}
 use Rattle.receiver.specs.History.{Located, source, repair, first, named, placeOf, placed, Call, Reading, fails, located, check, memorySize, workingSize, reading}
-use Rattle.receiver.specs.History.{value, refusal}
+use Rattle.receiver.specs.History.{value}
 use Rattle.receiver.specs.Model.{State, packetOf, added, responds, receiving}
 use Rattle.receiver.specs.Header.{headerIn}
-use Rattle.receiver.specs.Promises.{said, Contained, Follows, Received}
+use Rattle.receiver.specs.Promises.{Contained, Follows, Received}
 use Rattle.receiver.specs.Layout.{headerOf, Holds, receiverLayout}
 use Rattle.receiver.specs.Steps.{placeAt, placeFound, Comes, WorksOn, firsts, Lies, Gathers, Finished}
 use Rattle.receiver.proofs.Cases.{IsRefusal, numeral}

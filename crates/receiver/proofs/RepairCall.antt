@@ -3,7 +3,7 @@ use mathlib.Core.Path.{_≡_, refl, sym, ap, ap₂, _∙_}
 use mathlib.Core.Bool.{Bool, true, false}
 use mathlib.Core.Option.{some}
 use mathlib.Core.List.{List, _++_}
-use Prim.Native.Nat.{ℕ, _+_, _-_, _*_, _%_, _^_, _≤_, _<_}
+use Prim.Native.Nat.{ℕ, _+_, _*_, _%_, _^_, _≤_, _<_}
 use native.Mathlib.Omega.{arith}
 use lib.ListN.{length, drop}
 use lib.Dec.{leb}
@@ -14,7 +14,7 @@ use Rattle.wire.specs.declared.Refusal.the-variants as refusals
 use Rattle.wire.specs.declared.RepairFields.{RepairFields}
 use Rattle.wire.specs.declared.RepairHeader.the-variants.{Repair, NoRepair}
 use Rattle.wire.specs.Numbers.{within}
-use Rattle.wire.specs.Packets.{joined, chunks, repairCount, repairForm, repairKey, densityThreshold, protectedCount, firstEsi, repairSymbols}
+use Rattle.wire.specs.Packets.{joined, chunks, repairCount, repairForm, repairKey, densityThreshold, protectedCount, repairSymbols}
 use Rattle.wire.specs.Headers.{repairFields, repairHeaderOf}
 use Rattle.wire.proofs.Adui.{length-chunks}
 use Rattle.wire.proofs.Settings.{both, within-bounds}
@@ -30,7 +30,7 @@ use Rattle.receiver.specs.declared.packet.PacketPlace.{PacketPlace}
 use Rattle.receiver.specs.declared.packet.Gathered.{Gathered}
 use Rattle.receiver.specs.declared.packet.Gathered.the-variants.{All, Contradiction}
 use Rattle.receiver.specs.declared.packet.PlaceFound.the-variants.{PlaceIs, Out}
-use Rattle.receiver.specs.History.{Located, repair, named, Call, repair-call, Reading, fails, located, check, placeOf, placed, workingSize, readRepair, reading}
+use Rattle.receiver.specs.History.{Located, repair, named, Call, repair-call, Reading, located, check, placeOf, placed, workingSize, readRepair, reading}
 use Rattle.receiver.specs.Model.{packetOf}
 use Rattle.receiver.specs.Header.{headerIn}
 use Rattle.receiver.specs.Promises.{Received}

@@ -1,7 +1,7 @@
 -- A repair packet's equations: a row with its coefficients and its symbol spells the model's equation, and all are the model's packet.
 use mathlib.Core.Path.{_≡_, refl, sym, ap, ap₂, _∙_}
 use mathlib.Core.List.{List, [], _∷_}
-use Prim.Native.Nat.{ℕ, _+_, _-_, _*_, _<_}
+use Prim.Native.Nat.{ℕ, _+_, _-_, _*_}
 use native.Mathlib.Omega.{arith}
 use lib.ListN.{length, getD, drop}
 use Rattle.memory.specs.Part.{part, splice}
@@ -12,10 +12,9 @@ use Rattle.decoder.specs.Bytes.{byte, Coded}
 use Rattle.decoder.specs.Model.{Row}
 use Rattle.decoder.specs.Receiver.{embed, over}
 use Rattle.decoder.specs.Packets as packets
-use Rattle.elimination.specs.Window.{stride, place}
+use Rattle.elimination.specs.Window.{place}
 use Rattle.elimination.specs.Packet.{Works}
 use Rattle.elimination.proofs.Spelling.{spells}
-use Rattle.elimination.proofs.Admitting.{gathered-only}
 use Rattle.receiver.specs.declared.packet.PacketPlace.{PacketPlace}
 use Rattle.receiver.specs.declared.packet.Gathered.{Gathered}
 use Rattle.receiver.specs.Symbol.{Symbol}
@@ -23,7 +22,7 @@ use Rattle.receiver.specs.History.{repair}
 use Rattle.receiver.specs.Model.{packetOf}
 use Rattle.receiver.specs.Steps.{firsts, EquationAdmitted, Admits}
 use Rattle.receiver.specs.RepairSteps.{repairEquation, equationAt}
-use Rattle.receiver.proofs.Gathering.{contained-row, contained-more, stored-only, stored-is, firsts-same, firsts-cons}
+use Rattle.receiver.proofs.Gathering.{stored-admitted, firsts-same, firsts-cons}
 
 -- ---- One symbol
 
@@ -38,19 +37,13 @@ module _ (at : PacketPlace) (kept : ℕ) (list symbol m work work₁ work′ : L
       → EquationAdmitted at kept (at .first) list r m work₁ work′
       → Admits at (length list) (repairEquation w E (length list) list symbol) kept r m work work′
   symbol-admitted g size stored a =
-      let pos : 0 < E = omega (arith, g .some-symbol) in
-      let only = stored-only w E kept symbol work work₁ g size stored in
-      record {
-        contained = contained-more (contained-row w E kept (place w E kept + stride w E) work work₁ (g .within) (omega arith) only) (a .contained);
-        works = a .works;
-        outcome = λ b d S es l held reduced gathered.
-            a .outcome b d S es (repairEquation w E (length list) list symbol d) l held reduced
-            (λ t laid e.
-            spells w E (at .first) list t (g .some-width) pos laid (b + at .rise) d (l .column) (l .room)
-            ∙ ap (λ (y : Symbol E). embed (Coded E) w d (length list) (packets.row (Coded E) (length list) (λ j. byte (getD list j 0)) y))
-            (e ∙ stored-is w E kept symbol work work₁ g size stored))
-            (gathered-only w E (b + at .rise) kept (place w E kept + stride w E) _ work work₁ es pos only (omega arith) gathered);
-      }
+      stored-admitted at kept (at .first) (length list) list symbol m work work₁ work′ r (repairEquation w E (length list) list symbol) (λ d. d) g size stored a
+      (λ b d l. (
+        l,
+        λ t laid e.
+            spells w E (at .first) list t (g .some-width) (omega (arith, g .some-symbol)) laid (b + at .rise) d (l .column) (l .room)
+            ∙ ap (λ (y : Symbol E). embed (Coded E) w d (length list) (packets.row (Coded E) (length list) (λ j. byte (getD list j 0)) y)) e,
+      ))
 
 -- Of the list and the symbol that the code lends.
 pub symbol-of : (at : PacketPlace) (kept n i : ℕ) (list lists bytes m work work′ : List ℕ) (r : Gathered) → list ≡ part (i * n) n lists → length list ≡ n

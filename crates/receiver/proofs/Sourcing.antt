@@ -1,11 +1,11 @@
 -- A source packet's equations: a row with the coefficient one at the symbol's position spells the model's equation, and all are the model's packet.
 use mathlib.Core.Path.{_≡_, refl, sym, ap, ap₂, _∙_}
 use mathlib.Core.List.{List, [], _∷_, map}
-use Prim.Native.Nat.{ℕ, zero, suc, _+_, _-_, _*_, _%_, _≤_, _<_}
+use Prim.Native.Nat.{ℕ, zero, suc, _+_, _-_, _%_, _<_}
 use native.Mathlib.Nat.{mod-add-mod}
 use native.Mathlib.Omega.{arith}
 use lib.ListN.{length, getD}
-use Rattle.memory.specs.Part.{part, splice}
+use Rattle.memory.specs.Part.{splice}
 use Rattle.wire.specs.Packets.{symbolCount, adui, symbolAt, sourceSymbols}
 use Rattle.wire.proofs.Adui as adui
 use Rattle.decoder.specs.Bytes.{Coded}
@@ -13,9 +13,8 @@ use Rattle.decoder.specs.Model as model
 use Rattle.decoder.specs.Receiver as decoder
 use Rattle.decoder.specs.Packets as packets
 use Rattle.decoder.specs.Stretch.{symbol-at}
-use Rattle.elimination.specs.Window.{stride, place, row, Window, Fits}
+use Rattle.elimination.specs.Window.{place, row}
 use Rattle.elimination.specs.Packet as packet
-use Rattle.elimination.proofs.Admitting.{gathered-only}
 use Rattle.elimination.proofs.Spelling.{spells-one}
 use Rattle.receiver.specs.declared.packet.PacketPlace.{PacketPlace}
 use Rattle.receiver.specs.declared.packet.Gathered.{Gathered}
@@ -23,9 +22,9 @@ use Rattle.receiver.specs.Symbol.{Symbol, symbolOf}
 use Rattle.receiver.specs.History.{source}
 use Rattle.receiver.specs.Model.{packetOf}
 use Rattle.receiver.specs.Inner.{RowOf}
-use Rattle.receiver.specs.Steps.{Spells, firsts, Lies, EquationAdmitted, Admits}
+use Rattle.receiver.specs.Steps.{firsts, Lies, EquationAdmitted, Admits}
 use Rattle.receiver.specs.SourceSteps.{equationOf}
-use Rattle.receiver.proofs.Gathering.{contained-row, contained-more, stored-only, stored-is, firsts-same, firsts-cons}
+use Rattle.receiver.proofs.Gathering.{stored-admitted, firsts-same, firsts-cons}
 
 -- ---- One symbol
 
@@ -54,22 +53,15 @@ module _ (at : PacketPlace) (kept flow i r : ℕ) (adu m work work₁ work′ : 
       → Admits at n (λ d. equationOf w E flow adu d i) kept answer m work work′
   symbol-admitted g h f stored a =
       let pos : 0 < E = omega (arith, g .some-symbol) in
-      let size = length-symbol flow adu E i pos h in
-      let only = stored-only w E kept (symbolAt flow adu E i) work work₁ g size stored in
-      record {
-        contained = contained-more (contained-row w E kept (place w E kept + stride w E) work work₁ (g .within) (omega arith) only) (a .contained);
-        works = a .works;
-        outcome = λ b d S es l held reduced gathered.
-            let q : ℕ = b + at .rise in
-            let here = column b d f l in
-            a .outcome b (d + i) S es (equationOf w E flow adu d i)
-            (record { base = l .base; stay = l .stay; column = here; some = omega arith; room = omega (arith, l .room) }) held reduced
-            (λ t laid e.
-            spells-one w E r t (omega (arith, g .some-width)) pos laid q d n i here h (l .room)
-            ∙ ap (λ (y : Symbol E). decoder.embed (Coded E) w d n (packets.row (Coded E) n (packets.only (Coded E) i) y))
-            (e ∙ stored-is w E kept (symbolAt flow adu E i) work work₁ g size stored))
-            (gathered-only w E q kept (place w E kept + stride w E) _ work work₁ es pos only (omega arith) gathered);
-      }
+      stored-admitted at kept r n (1 ∷ []) (symbolAt flow adu E i) m work work₁ work′ answer (λ d. equationOf w E flow adu d i) (λ d. d + i) g
+      (length-symbol flow adu E i pos h) stored a
+      (λ b d l.
+      let here = column b d f l in (
+        record { base = l .base; stay = l .stay; column = here; some = omega arith; room = omega (arith, l .room) },
+        λ t laid e.
+            spells-one w E r t (omega (arith, g .some-width)) pos laid (b + at .rise) d n i here h (l .room)
+            ∙ ap (λ (y : Symbol E). decoder.embed (Coded E) w d n (packets.row (Coded E) n (packets.only (Coded E) i) y)) e,
+      ))
 
 -- ---- All symbols
 

@@ -107,8 +107,8 @@ module _ (at : PacketPlace) where
   pub record Admits (n : ℕ) (e : ℕ → model.Row (Coded E) w) (kept : ℕ) (r : Gathered) (m work work′ : List ℕ) : Type 0 where
     pub contained : Contained (place w E (w + 1)) work work′
     pub works : WorksOn w E work′ r
-    pub outcome : (b d : ℕ) (S : model.State (Coded E) w) (es : List (model.Row (Coded E) w)) → Lies at (at .first) n b d → Window w E m b S → model.Rref S
-        → packet.Gathered w E (b + at .rise) (decoder.advance-by (at .rise) S) work kept es
+    pub outcome : (b d : ℕ) (S : model.State (Coded E) w) (es : List (model.Row (Coded E) w)) → Lies at (at .first) n b d
+        → Window w E m b S → model.Rref S → packet.Gathered w E (b + at .rise) (decoder.advance-by (at .rise) S) work kept es
         → Comes w E (b + at .rise) (decoder.advance-by (at .rise) S) work′ (es ++ (e d ∷ [])) r
 
   -- The first i of its equations g d have been admitted, or one of them refused.

@@ -4,7 +4,6 @@ ghost use mathlib.Core.Path.{_≡_};
 ghost use Prim.Native.Nat.{_+_, _<_, _≤_};
 ghost use Rattle.elimination.specs.Window.{place};
 use super::Found;
-use super::Header;
 use super::Spot;
 use super::front;
 use elimination::Shape;

@@ -1,5 +1,4 @@
 // The receiver: opening, the two packet calls, and the two calls that show a symbol (RFC 8681, section 3.4; document 01).
-ghost use mathlib.Core.Path.{_≡_};
 ghost use Rattle.receiver.specs.Promises.{Opened, Received, SymbolAnswered, PartShown};
 ghost use Rattle.receiver.specs.History.{source-call, repair-call};
 ghost use Rattle.receiver.specs.Layout.{receiverLayout};
@@ -88,9 +87,11 @@ pub fn symbol_part(mem: &[u8], esi: Esi) -> &[u8]
     }
 }
 
-// Receives a source packet that came with a flow. Gives how many positions of the window became known.
+// Receives a source packet that came with a flow. The state is only read until all its symbols are known to agree with it. Gives how many
+// positions of the window became known.
 pub fn receive_source(mem: &mut [u8], work: &mut [u8], flow: u8, packet: &[u8]) -> Answer
-    ensures { λ r. ⌜ Received receiverLayout (source-call flow (now (packet .entry))) (now (mem .entry)) (now (mem .exit)) (now (work .entry)) (now (work .exit)) r ⌝ }
+    ensures { λ r. ⌜ Received receiverLayout (source-call flow (now (packet .entry)))
+        (now (mem .entry)) (now (mem .exit)) (now (work .entry)) (now (work .exit)) r ⌝ }
 {
     let Found::HeaderIs(header) = front::read_header(mem) else {
         return Answer::Refused(Refusal::Unopened);

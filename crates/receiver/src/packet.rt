@@ -105,7 +105,8 @@ pub fn admit_equation(
 
 // The packet is accepted: its rows, `kept` in working memory, join the state's, and the base rises. Gives how many positions have become known.
 pub fn finish(mem: &mut [u8], work: &[u8], header: Header, place: PacketPlace, kept: usize) -> usize
-    requires { ⌜ (headerIn (now mem) ≡ some header) × Works (header .setting .width) (header .setting .size) kept (now work) × (place .shape .base < 65536) × (place .rise ≤ 65536) ⌝ }
+    requires { ⌜ (headerIn (now mem) ≡ some header) × Works (header .setting .width) (header .setting .size) kept (now work)
+        × (place .shape .base < 65536) × (place .rise ≤ 65536) ⌝ }
     ensures { λ n. ⌜ Finished header place kept n (now (work .entry)) (now (mem .entry)) (now (mem .exit)) ⌝ }
 {
     let shape = Shape {

@@ -17,7 +17,8 @@ use elimination::Shape;
 // The i-th symbol of an ADU in the row `k` of working memory.
 fn write_row(work: &mut [u8], shape: Shape, k: usize, flow: u8, adu: &[u8], i: usize)
     requires { ⌜ Works (shape .width) (shape .size) k (now work) × (length (now adu) ≤ 65535) × (i < symbolCount (shape .size) (length (now adu))) ⌝ }
-    ensures { λ _. ⌜ now (work .exit) ≡ splice (place (shape .width) (shape .size) k + shape .width) (symbolAt flow (now (adu .entry)) (shape .size) i) (now (work .entry)) ⌝ }
+    ensures { λ _. ⌜ now (work .exit)
+        ≡ splice (place (shape .width) (shape .size) k + shape .width) (symbolAt flow (now (adu .entry)) (shape .size) i) (now (work .entry)) ⌝ }
 {
     let at = find::symbol_start(shape.width, shape.size, k);
     wire::write_symbol(&mut work[at..at + shape.size], flow, adu, i);
@@ -36,7 +37,9 @@ fn admit_symbol(
     requires { ⌜ Fits (place .shape .width) (place .shape .size) (now mem) × Works (place .shape .width) (place .shape .size) kept (now work)
         × (place .shape .base < place .shape .width) × (place .first < place .shape .width) × (length (now adu) ≤ 65535)
         × (i < symbolCount (place .shape .size) (length (now adu))) × (symbolCount (place .shape .size) (length (now adu)) ≤ place .shape .width) ⌝ }
-    ensures { λ r. ⌜ Admits place (symbolCount (place .shape .size) (length (now (adu .entry)))) (λ d. equationOf (place .shape .width) (place .shape .size) flow (now (adu .entry)) d i) kept r (now (mem .entry)) (now (work .entry)) (now (work .exit)) ⌝ }
+    ensures { λ r. ⌜ Admits place (symbolCount (place .shape .size) (length (now (adu .entry))))
+        (λ d. equationOf (place .shape .width) (place .shape .size) flow (now (adu .entry)) d i)
+        kept r (now (mem .entry)) (now (work .entry)) (now (work .exit)) ⌝ }
 {
     let shape = place.shape;
     let row = find::row_after(place.first, i, shape.width);
@@ -56,7 +59,9 @@ pub fn gather_source(
     requires { ⌜ Fits (place .shape .width) (place .shape .size) (now mem) × Works (place .shape .width) (place .shape .size) 0 (now work)
         × (place .shape .base < place .shape .width) × (place .first < place .shape .width) × (length (now adu) ≤ 65535)
         × (count ≡ symbolCount (place .shape .size) (length (now adu))) × (count ≤ place .shape .width) ⌝ }
-    ensures { λ r. ⌜ Gathers place (symbolCount (place .shape .size) (length (now (adu .entry)))) (equationOf (place .shape .width) (place .shape .size) flow (now (adu .entry))) count r (now (mem .entry)) (now (work .entry)) (now (work .exit)) ⌝ }
+    ensures { λ r. ⌜ Gathers place (symbolCount (place .shape .size) (length (now (adu .entry))))
+        (equationOf (place .shape .width) (place .shape .size) flow (now (adu .entry)))
+        count r (now (mem .entry)) (now (work .entry)) (now (work .exit)) ⌝ }
 {
     let mut kept: usize = 0;
     for i in 0..count {

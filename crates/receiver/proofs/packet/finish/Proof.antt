@@ -1,8 +1,5 @@
 -- `receiver::packet::finish` meets its contract.
-use mathlib.Core.Path.{_∙_, ap}
 use native.Mathlib.Omega.{arith}
-use lib.ListN.{length}
-use Prim.Native.Nat.{_≤_}
 use Rattle.elimination.specs.Window.{Fits}
 use Rattle.receiver.proofs.Headers.{headed, header-fits}
 use Rattle.receiver.proofs.Finishing.{finished}
