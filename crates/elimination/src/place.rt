@@ -82,7 +82,8 @@ fn mark(mem: &mut [u8], shape: Shape, r: usize) -> usize
 // The column `r` of the row `q`, which has a coefficient there, is cleared by the working row, if the row `q` is in use. Gives one if its position
 // has become known, else zero.
 fn clear_coefficient(mem: &mut [u8], row: &[u8], shape: Shape, r: usize, q: usize) -> usize
-    requires { ⌜ Fits (shape .width) (shape .size) (now mem) × (length (now row) ≡ shape .width + shape .size) × (r < shape .width) × (q < shape .width) × (getD (now mem) (place (shape .width) (shape .size) q + r) 0 ≢ 0) ⌝ }
+    requires { ⌜ Fits (shape .width) (shape .size) (now mem) × (length (now row) ≡ shape .width + shape .size) × (r < shape .width) × (q < shape .width)
+        × (getD (now mem) (place (shape .width) (shape .size) q + r) 0 ≢ 0) ⌝ }
     ensures { λ n. ⌜ ClearedRow (shape .width) (shape .size) r q n (now (row .entry)) (now (mem .entry)) (now (mem .exit)) ⌝ }
 {
     let at = super::start_of(shape, q);
