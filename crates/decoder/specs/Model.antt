@@ -26,7 +26,7 @@ module _ (O : Ops) where
   infixl 60 _*_
   infixl 50 _⊕_
   infixr 60 _•_
-  -- A filling gives a symbol to every position. Positions count from the window's base, or from the session's start.
+  -- A filling gives a symbol to every position. Positions count from the window's base, or from the stream's start.
   abbrev pub Filling : Type 0
   Filling = ℕ → Sym
 

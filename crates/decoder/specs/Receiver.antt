@@ -45,7 +45,7 @@ module _ (O : Ops) where
   Hold n [] x = Unit {0}
   Hold n (e ∷ es) x = (eval O n e x ≡ null) × Hold n es x
 
-  -- The filling of the whole session satisfies the packet; and every packet of a list.
+  -- The filling of the whole stream satisfies the packet; and every packet of a list.
   abbrev pub Satisfies : Packet → Filling O → Type 0
   Satisfies p f = Hold (p .count) (p .rows) (shift (p .first) f)
 
