@@ -1,13 +1,8 @@
 // The sender's calls on windows of symbols of 1,400 bytes. The calls are those of crate `bench`; a slice is a pointer and a length.
+#include "library.h"
 #include "table.h"
 #define E 1400
 #define W 255
-
-void bench_copy(u8 *, size_t, const u8 *, size_t);
-void bench_add_scaled(u8 *, size_t, const u8 *, size_t, u8);
-size_t bench_sender_open(u8 *, size_t, size_t, size_t, size_t);
-size_t bench_add_adu(u8 *, size_t, u8, const u8 *, size_t, u8 *, size_t);
-size_t bench_make_repair(const u8 *, size_t, uint16_t, size_t, size_t, u8 *, size_t);
 
 static u8 symbols[W * E], general[W], dst[E], adu[E - 3], out[8 + 16 * E];
 

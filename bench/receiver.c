@@ -1,18 +1,10 @@
 // The receiver's packet calls on symbols of 1,400 bytes, after a sender of the same width. The calls are those of crate `bench`.
+#include "library.h"
 #include "table.h"
 #define E 1400
 #define W 255
 #define ROW(w) ((w) + E + 4)
 #define REFUSED 1000000
-
-void bench_copy(u8 *, size_t, const u8 *, size_t);
-void bench_add_scaled(u8 *, size_t, const u8 *, size_t, u8);
-size_t bench_sender_open(u8 *, size_t, size_t, size_t, size_t);
-size_t bench_add_adu(u8 *, size_t, u8, const u8 *, size_t, u8 *, size_t);
-size_t bench_make_repair(const u8 *, size_t, uint16_t, size_t, size_t, u8 *, size_t);
-size_t bench_receiver_open(u8 *, size_t, size_t, size_t, size_t);
-size_t bench_receive_source(u8 *, size_t, u8 *, size_t, u8, const u8 *, size_t);
-size_t bench_receive_repair(u8 *, size_t, u8 *, size_t, const u8 *, size_t);
 
 static u8 work[64 + (W + 1) * ROW(W)], adu[E - 3], symbols[W * E], general[W], dst[E];
 

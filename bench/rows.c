@@ -1,16 +1,11 @@
 // The row operations on symbols of 1,400 bytes. The calls are those of crate `bench`; a slice is a pointer and a length.
+#include "library.h"
 #include "table.h"
 #define E 1400
 #define W 255
 
 void xor_o2(u8 *, const u8 *, size_t);
 void xor_o3(u8 *, const u8 *, size_t);
-void bench_copy(u8 *, size_t, const u8 *, size_t);
-void bench_add_scaled(u8 *, size_t, const u8 *, size_t, u8);
-void bench_add_by_tables(u8 *, size_t, const u8 *, size_t, u8);
-void bench_add_within(u8 *, size_t, size_t, size_t, size_t, u8);
-void bench_combine(u8 *, size_t, const u8 *, size_t, const u8 *, size_t);
-void bench_add_combination(u8 *, size_t, const u8 *, size_t, const u8 *, size_t);
 
 static u8 symbols[W * E], general[W], bits[W], dst[E], other[E];
 
