@@ -9,3 +9,5 @@ pub mod NotEmpty
 pub mod ReceiverUnopened
 pub mod Receiver
 pub mod Bench
+pub mod Handing
+pub mod SentAdus

@@ -1,10 +1,10 @@
 -- The receiver as a plain history (document 01, "Receiver, as a plain history"): what a packet says where it lies, which packets a list of
 -- calls has accepted, where that has brought the base, and what the next call has to answer. No memory and no elimination stands here.
 use mathlib.Core.Path.{_≡_}
-use mathlib.Core.Logic.{_↔_}
+use mathlib.Core.Logic.{_↔_, _⊎_}
 use mathlib.Core.Bool.{Bool, true, false, cond, _&&_}
 use mathlib.Core.List.{List, [], _∷_, map}
-use Prim.Native.Nat.{ℕ, zero, suc, _+_, _-_, _*_, _%_, _^_, _<_, max}
+use Prim.Native.Nat.{ℕ, zero, suc, _+_, _-_, _*_, _%_, _^_, _≤_, _<_, max}
 use lib.ListN.{length}
 use lib.Dec.{ltb, leb}
 use Rattle.memory.specs.Number.{Bytes}
@@ -14,6 +14,7 @@ use Rattle.wire.specs.Packets.{symbolCount, sourceSymbols, sourceForm, sourceAd
 use Rattle.wire.specs.Packets.{firstEsi, repairSymbols}
 use Rattle.coefficients.specs.Coefficients.{keys, listsOf, allOk}
 use Rattle.rows.specs.Combination.{combination}
+use Rattle.starts.specs.Adu.{needs}
 use Rattle.receiver.specs.Symbol.{Symbol, bytesOf}
 
 -- ---- What a packet says
@@ -169,9 +170,13 @@ pub data Counted (P : ℕ → Type 0) : ℕ → ℕ → Type 0 where
 module _ (s : Setting) where
   open Setting s using (size as E, width)
 
-  -- A packet is accepted: base rises, by the least needed, until the packet's last position fits.
+  -- Base rises, by the least needed, until the packet's last position fits.
+  abbrev pub raised : ℕ → Located → ℕ
+  raised base q = max base (first q + named q - width)
+
+  -- A packet is accepted.
   abbrev pub accept : Log → Located → Log
-  accept l q = record { base = max (baseOf l) (first q + named q - width); accepted = q ∷ l .accepted }
+  accept l q = record { base = raised (baseOf l) q; accepted = q ∷ l .accepted }
 
   -- The log after a call that answered so: a packet is accepted when its call answers a count and no refusal.
   abbrev pub logged : Log → Reading → Said → Log
@@ -192,3 +197,36 @@ module _ (s : Setting) where
     -- Where a check fails, the number is that of the first; where none does, 11 says that no filling satisfies it and all accepted before.
     pub failed : (m : ℕ) → r ≡ fails m → a ≡ refusal m
     pub contradicts : (q : Located) → r ≡ located q → (a ≡ refusal 11) ↔ ¬ Consistent E (q ∷ l .accepted)
+
+-- ---- Starts
+
+module _ (s : Setting) where
+  open Setting s using (size as E, width)
+
+  -- The base after packets, the last first.
+  abbrev pub baseAfter : List Located → ℕ
+  baseAfter [] = 0
+  baseAfter (q ∷ qs) = raised s (baseAfter qs) q
+
+  -- A mark is kept from the base on up to base + width, that one included.
+  pub record Spanned (base p : ℕ) : Type 0 where
+    pub low : base ≤ p
+    pub high : p ≤ base + width
+
+  -- A source packet marks its first position and the one after its last.
+  abbrev pub Named : Located → ℕ → Type 0
+  Named (source p symbols) x = (x ≡ p) ⊎ (x ≡ p + length symbols)
+  Named (repair p n coefficients symbols) x = ⊥
+
+  -- After the packets qs, from the positions that are marked already: a marked known position of the window, whose L needs n symbols in what the
+  -- fillings hold there, marks the position n later.
+  pub data Reached (qs : List Located) (Already : ℕ → Type 0) : ℕ → Type 0 where
+    already : {p : ℕ} → Already p → Spanned (baseAfter qs) p → Reached qs Already p
+    later : {p : ℕ} → Reached qs Already p → p < baseAfter qs + width → Known E qs p → (f : Filling E) → All E qs f
+        → Spanned (baseAfter qs) (p + needs E (bytesOf E (f p))) → Reached qs Already (p + needs E (bytesOf E (f p)))
+
+  -- The positions that are marked as starts after the packets qs, the last first: position 0; and after every packet those marked before it, those
+  -- that it marks, and those that they reach.
+  abbrev pub Start : List Located → ℕ → Type 0
+  Start [] p = p ≡ 0
+  Start (q ∷ qs) p = Reached (q ∷ qs) (λ x. Start qs x ⊎ Named q x) p

@@ -3,7 +3,7 @@
 use mathlib.Core.Bool.{cond}
 use mathlib.Core.Option.{Option, none, some}
 use mathlib.Core.List.{List, [], _∷_}
-use Prim.Native.Nat.{ℕ, _+_}
+use Prim.Native.Nat.{ℕ, _+_, _-_}
 use lib.ListN.{length, getD}
 use lib.Dec.{ltb}
 use Rattle.wire.specs.declared.Setting.{Setting}
@@ -11,6 +11,8 @@ use Rattle.decoder.specs.Bytes.{byte, Coded}
 use Rattle.decoder.specs.Model.{known}
 use Rattle.decoder.specs.Receiver as decoder
 use Rattle.decoder.specs.Packets as packets
+use Rattle.starts.specs.Adu.{Handing, withholds, need, handing}
+use Rattle.starts.specs.Starts.{Starts, also, moved, pass, seen}
 use Rattle.receiver.specs.Symbol.{Symbol, symbolOf}
 use Rattle.receiver.specs.History.{Located, source, repair, Place, behind, ahead, placeOf, Call, Reading, fails, located, reading, Said, value}
 use Rattle.receiver.specs.History.{refusal}
@@ -83,3 +85,32 @@ module _ (s : Setting) where
   -- The symbol call for the ESI e.
   unfoldable pub finding : State s → (e : ℕ) → Finding E
   finding t e = symbolIn t (placeOf (t .base) e)
+
+-- ---- Starts
+
+module _ (s : Setting) where
+  open Setting s using (size as E, width)
+
+  -- A source packet marks its first position and the one after its last; positions are given by their distance from the base.
+  abbrev pub naming : (base : ℕ) → Located → Starts → Starts
+  naming base (source p symbols) M = also (p - base) (also (p + length symbols - base) M)
+  naming base (repair p n coefficients symbols) M = M
+
+  -- The marks after a packet was accepted: those that stay, those that it makes, and those of the pass.
+  unfoldable pub startsAfter : (t t′ : State s) → Located → Starts → Starts
+  startsAfter t t′ q M = pass E (seen E width (t′ .window)) width (naming (t′ .base) q (moved width (t′ .base - t .base) M))
+
+  -- The marks after a call of which the checks before 11 have made this, and which has come to that.
+  abbrev pub marking : State s → Starts → Reading → Outcome s → Starts
+  marking t M (located q) (done n t′) = startsAfter t t′ q M
+  marking t M (located q) (refused n) = M
+  marking t M (fails m) o = M
+
+  -- The ADU call at a place: 8 behind the base, 12 past the window, else what the window hands out there.
+  abbrev pub aduIn : State s → Starts → (room : ℕ) → Place → Handing
+  aduIn t M room behind = withholds 8
+  aduIn t M room (ahead d) = need (ltb d width) 12 (handing E width room M (seen E width (t .window)) d)
+
+  -- The ADU call for the ESI e, with `room` bytes of output.
+  unfoldable pub aduAt : State s → Starts → (room e : ℕ) → Handing
+  aduAt t M room e = aduIn t M room (placeOf (t .base) e)

@@ -11,14 +11,19 @@ use lib.ListN.{length, drop}
 use lib.Dec.{ltb}
 use Rattle.memory.specs.Part.{LiesAt}
 use Rattle.wire.specs.declared.Setting.{Setting}
+use Rattle.wire.specs.declared.Refusal.the-variants.{Unopened}
 use Rattle.wire.specs.Numbers.{numberOf}
 use Rattle.wire.specs.Settings.{settingOf}
+use Rattle.starts.specs.declared.Handed.{Handed}
+use Rattle.starts.specs.declared.Handed.the-variants.{Withheld}
+use Rattle.starts.specs.Adu.{HandedAs, Leaves}
+use Rattle.starts.specs.Starts.{Starts}
 use Rattle.receiver.specs.declared.Answer.{Answer}
 use Rattle.receiver.specs.declared.Answer.the-variants.{Done, Refused}
 use Rattle.receiver.specs.declared.Header.{Header}
 use Rattle.receiver.specs.Symbol.{bytesOf}
 use Rattle.receiver.specs.History.{Call, memorySize, workingSize, Said, value, refusal}
-use Rattle.receiver.specs.Model.{State, opened, Outcome, refused, done, receiving, Finding, shows, hides, finding}
+use Rattle.receiver.specs.Model.{State, opened, Outcome, refused, done, receiving, Finding, shows, hides, finding, aduAt}
 use Rattle.receiver.specs.Header.{headerIn}
 
 -- Document 01's number of an answer.
@@ -30,6 +35,8 @@ said (Refused r) = refusal (numberOf r)
 pub record Layout : Type 1 where
   -- The memory holds the state of a receiver that was opened with the setting.
   pub Holds : List ℕ → (s : Setting) → State s → Type 0
+  -- The memory that holds the state marks these positions as starts, by their distance from the base, up to the width.
+  pub Marks : List ℕ → (s : Setting) → State s → Starts → Type 0
   -- Where in the memory the symbol at a position starts.
   pub symbolStart : Setting → (position : ℕ) → ℕ
 
@@ -44,7 +51,7 @@ opening none room = refusal 1
 opening (some s) room = cond (ltb room (memorySize s)) (refusal 2) (value 0)
 
 module _ (L : Layout) where
-  open Layout L using (Holds, symbolStart)
+  open Layout L using (Holds, Marks, symbolStart)
 
   -- Opening with a scheme, E and width.
   pub record Opened (scheme E w : ℕ) (m m′ : List ℕ) (a : Answer) : Type 0 where
@@ -87,3 +94,9 @@ module _ (L : Layout) where
     pub unopened : headerIn (now m) ≡ none → now part ≡ []
     pub within : (h : Header) → headerIn (now m) ≡ some h → (now part ≡ []) ⊎ ((at : ℕ) × LiesAt part m at (h .setting .size))
     pub shows : (s : Setting) (t : State s) → Holds (now m) s t → Shows s (finding s t e) m part
+
+  -- The ADU call for the ESI e, which changes nothing but its output.
+  pub record AduAnswered (m : List ℕ) (e : ℕ) (out out′ : List ℕ) (a : Handed) : Type 0 where
+    pub unopened : (a ≡ Withheld Unopened) ↔ (headerIn m ≡ none)
+    pub leaves : Leaves out out′ a
+    pub hands : (s : Setting) (t : State s) (M : Starts) → Holds m s t → Marks m s t M → HandedAs (aduAt s t M (length out) e) out out′ a

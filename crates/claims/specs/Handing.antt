@@ -1,0 +1,66 @@
+-- Handing out an ADU: what is claimed of the ADU call after every list of packet calls from a fresh receiver.
+use mathlib.Core.Path.{_≡_}
+use mathlib.Core.Logic.{_↔_}
+use mathlib.Core.Bool.{Bool, true}
+use mathlib.Core.Option.{none, some}
+use mathlib.Core.List.{List, _++_}
+use Prim.Native.Nat.{ℕ, _+_, _^_, _≤_, _<_}
+use lib.ListN.{length, drop}
+use Rattle.wire.specs.declared.Setting.{Setting}
+use Rattle.wire.specs.Settings.{settingOf}
+use Rattle.wire.specs.Packets.{symbolCount, sourceSymbols}
+use Rattle.starts.specs.declared.Handed.{Handed}
+use Rattle.starts.specs.declared.Handed.the-variants.{Adu}
+use Rattle.starts.specs.Adu.{View, withholds, handing, HandedAs}
+use Rattle.receiver.specs.declared.Answer.{Answer}
+use Rattle.receiver.specs.Symbol.{bytesOf}
+use Rattle.receiver.specs.History.{Filling, symbolsAt, Located, All, Known, baseOf, value, Start}
+use Rattle.receiver.specs.Promises.{Layout, said, Opened, AduAnswered}
+use Rattle.claims.specs.Run.{Step, Run, final, history}
+use Rattle.claims.specs.Demand.{esi}
+
+module _ (s : Setting) where
+  open Setting s using (size as E, width)
+
+  -- What the accepted packets make known and mark, from the base on: the bytes on which all fillings agree, and the starts.
+  pub record Told (qs : List Located) (base : ℕ) (see : View) (marked : ℕ → Bool) : Type 0 where
+    pub known : (i : ℕ) → i < width → Known E qs (base + i) → (f : Filling E) → All E qs f → see i ≡ some (bytesOf E (f (base + i)))
+    pub unknown : (i : ℕ) → i < width → ¬ Known E qs (base + i) → see i ≡ none
+    pub outside : (i : ℕ) → width ≤ i → see i ≡ none
+    pub starts : (i : ℕ) → i ≤ width → (marked i ≡ true) ↔ Start s qs (base + i)
+
+  -- Every filling holds the symbols of the ADU with its flow from the position p on, and the window has them all.
+  pub record HoldsAdu (qs : List Located) (base p flow : ℕ) (adu : List ℕ) : Type 0 where
+    pub long : length adu ≤ 65535
+    pub inside : p + symbolCount E (length adu) ≤ base + width
+    pub held : (f : Filling E) → All E qs f → symbolsAt E f p (symbolCount E (length adu)) ≡ sourceSymbols flow adu E
+
+-- Of the packets qs that were accepted, of the base, and of the memory m that the list has left.
+module _ (L : Layout) (s : Setting) (m : List ℕ) (qs : List Located) (base : ℕ) where
+  open Setting s using (size as E, width)
+
+  -- The position d past the base.
+  pub record HandedExactly (d : ℕ) (see : View) (marked : ℕ → Bool) : Type 0 where
+    -- The call's answer and output: behind the base 8, past the window 12, else by what is told, in document 01's order.
+    pub behind : 2 ^ 31 ≤ d → (out out′ : List ℕ) (a : Handed) → AduAnswered L m (esi (base + d)) out out′ a → HandedAs (withholds 8) out out′ a
+    pub past : width ≤ d → d < 2 ^ 31 → (out out′ : List ℕ) (a : Handed) → AduAnswered L m (esi (base + d)) out out′ a
+        → HandedAs (withholds 12) out out′ a
+    pub order : d < width → (out out′ : List ℕ) (a : Handed) → AduAnswered L m (esi (base + d)) out out′ a
+        → HandedAs (handing E width (length out) marked see d) out out′ a
+    -- An ADU is handed out with its flow exactly when the position is marked a start, every filling holds its symbols there, and output has room.
+    pub handed : d < width → (out out′ : List ℕ) (a : Handed) → AduAnswered L m (esi (base + d)) out out′ a → (flow : ℕ) (adu : List ℕ)
+        → ((a ≡ Adu flow (length adu)) × (out′ ≡ adu ++ drop (length adu) out))
+        ↔ (Start s qs (base + d) × HoldsAdu s qs base (base + d) flow adu × (length adu ≤ length out))
+
+  pub record Handed-out : Type 0 where
+    pub see : View
+    pub marked : ℕ → Bool
+    pub told : Told s qs base see marked
+    pub calls : (d : ℕ) → d < 2 ^ 32 → HandedExactly d see marked
+
+-- From memory on which opening has just answered 0, after every list of packet calls.
+abbrev pub Hands-out : Layout → Type 0
+Hands-out L =
+    (scheme E w : ℕ) (m₀ m : List ℕ) (a : Answer) → Opened L scheme E w m₀ m a → said a ≡ value 0
+    → (ts : List Step) → Run L m ts
+    → (s : Setting) × (settingOf scheme E w ≡ some s) × Handed-out L s (final m ts) (history s ts .accepted) (baseOf (history s ts))

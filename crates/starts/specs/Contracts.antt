@@ -1,0 +1,40 @@
+-- Contracts of inner functions: a reader need not believe these.
+-- Each holds for every system S that the memory holds for a window from b on, where `base` is the row of b.
+use mathlib.Core.Path.{_≡_}
+use mathlib.Core.List.{List}
+use Prim.Native.Nat.{ℕ, _+_, _%_}
+use lib.ListN.{length}
+use Rattle.decoder.specs.Bytes.{Coded}
+use Rattle.decoder.specs.Model.{State}
+use Rattle.elimination.specs.Window.{Window}
+use Rattle.starts.specs.declared.Handed.{Handed}
+use Rattle.starts.specs.Adu.{handing, Leaves, HandedAs}
+use Rattle.starts.specs.Starts.{Starts, zeroth, also, moved, pass, seen}
+use Rattle.starts.specs.Marks.{Marks, OnlyMarks}
+
+-- Position 0 alone is marked.
+pub record Begun (w E base : ℕ) (m m′ : List ℕ) : Type 0 where
+  pub only : OnlyMarks w E m m′
+  pub marks : Marks w E base m′ zeroth
+
+-- One more position is marked.
+pub record Added (w E base i : ℕ) (m m′ : List ℕ) : Type 0 where
+  pub only : OnlyMarks w E m m′
+  pub marks : (M : Starts) → Marks w E base m M → Marks w E base m′ (also i M)
+
+-- The base has risen from the row `base` on.
+pub record Moved (w E base rise : ℕ) (m m′ : List ℕ) : Type 0 where
+  pub only : OnlyMarks w E m m′
+  pub marks : (M : Starts) → Marks w E base m M → Marks w E ((base + rise) % w) m′ (moved w rise M)
+
+-- The pass through the window has been made.
+pub record Passed (w E base : ℕ) (m m′ : List ℕ) : Type 0 where
+  pub only : OnlyMarks w E m m′
+  pub marks : (b : ℕ) (S : State (Coded E) w) (M : Starts) → b % w ≡ base → Window w E m b S → Marks w E base m M
+      → Marks w E base m′ (pass E (seen E w S) w M)
+
+-- The ADU call for the d-th position of the window has been made.
+pub record HandedOut (w E base d : ℕ) (m out out′ : List ℕ) (r : Handed) : Type 0 where
+  pub leaves : Leaves out out′ r
+  pub told : (b : ℕ) (S : State (Coded E) w) (M : Starts) → b % w ≡ base → Window w E m b S → Marks w E base m M
+      → HandedAs (handing E w (length out) M (seen E w S) d) out out′ r

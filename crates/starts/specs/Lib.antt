@@ -1,0 +1,4 @@
+pub mod Adu
+pub mod Starts
+pub mod Marks
+pub mod Contracts

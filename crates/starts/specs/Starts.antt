@@ -1,0 +1,47 @@
+-- The marks of starts as the receiver computes them: by a position's distance from the base, up to the width.
+-- That these are the history's is proved (crate `claims`): a reader of the claims need not believe it.
+use mathlib.Core.Bool.{Bool, true, false, _&&_, _||_}
+use mathlib.Core.Option.{Option, none, some}
+use mathlib.Core.List.{List}
+use Prim.Native.Nat.{ℕ, zero, suc, _+_}
+use lib.Dec.{eqb, leb}
+use Rattle.decoder.specs.Symbols.{Tuple}
+use Rattle.decoder.specs.Bytes.{Byte, Coded}
+use Rattle.decoder.specs.Stretch.{bytes-of}
+use Rattle.decoder.specs.Model.{State, known}
+use Rattle.starts.specs.Adu.{needs, View}
+
+-- Which positions are marked.
+abbrev pub Starts : Type 0
+Starts = ℕ → Bool
+
+-- Position 0 alone.
+abbrev pub zeroth : Starts
+zeroth i = eqb i 0
+
+-- One more.
+abbrev pub also : ℕ → Starts → Starts
+also j M i = eqb i j || M i
+
+-- The base has risen: marks below it, and marks past the old base + width, are dropped.
+abbrev pub moved : (width rise : ℕ) → Starts → Starts
+moved width rise M i = leb (rise + i) width && M (rise + i)
+
+-- A marked known position whose L needs n symbols marks the position n later.
+abbrev pub onward : (E : ℕ) → Bool → Option (List ℕ) → ℕ → Starts → Starts
+onward E true (some v) i M = also (i + needs E v) M
+onward E true none i M = M
+onward E false o i M = M
+
+-- Rising through the first n positions of the window.
+unfoldable pub pass : (E : ℕ) → View → (n : ℕ) → Starts → Starts
+pass E see zero M = M
+pass E see (suc n) M = onward E (pass E see n M n) (see n) n (pass E see n M)
+
+-- What a system knows of its window.
+abbrev pub shown : (E : ℕ) → Option (Tuple Byte E) → Option (List ℕ)
+shown E none = none
+shown E (some v) = some (bytes-of E v)
+
+abbrev pub seen : (E w : ℕ) → State (Coded E) w → View
+seen E w S i = shown E (known S i)
