@@ -1,2 +1,5 @@
+-- The modules of the proofs.
+pub mod Tests
+pub mod Chaining
 pub mod Deciding
 pub mod Marking
