@@ -1,2 +1,7 @@
+-- The modules of the proofs.
+pub mod Tests
+pub mod Chaining
+pub mod Deciding
+pub mod Marking
 pub mod Texts
 pub mod Giving
