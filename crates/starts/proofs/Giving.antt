@@ -43,29 +43,17 @@ known-past (pivot r S) (suc i) h = known-past S i (le-of-suc-le-suc h)
 
 -- ---- What the window knows
 
-module _ (w E base : ℕ) (m : List ℕ) (fits : Fits w E m) (f : Bytes m) where
-  -- The i-th position is known, by its row.
+module _ (w E base : ℕ) (m : List ℕ) where
+  -- The i-th position is known, by its row; and so are the first i from the d-th on.
   abbrev pub KnownAt : ℕ → Bool → Type 0
   KnownAt i t = Known w E ((base + i) % w) t m
 
-  module _ (b : ℕ) (S : State (Coded E) w) (e : b % w ≡ base) (v : Window w E m b S) where
-    row-same : (i : ℕ) → (b + i) % w ≡ (base + i) % w
-    row-same i = sym (mod-add-mod b w i) ∙ ap (λ x. (x + i) % w) e
-
-    pub see-known : (i : ℕ) → i < w → KnownAt i true → seen E w S i ≡ some (symbolIn w E base m i)
-    see-known i l k =
-        ap (shown E) (k b i S l (row-same i) v)
-        ∙ ap some (symbol-bytes w E ((base + i) % w) m fits (mod-lt (base + i) (fits .some-width)) f)
-
-    pub see-unknown : (i : ℕ) → i < w → KnownAt i false → seen E w S i ≡ none
-    see-unknown i l k = ap (shown E) (k b i S l (row-same i) v)
-
-    see-past : (i : ℕ) → w ≤ i → seen E w S i ≡ none
-    see-past i l = ap (shown E) (known-past S i l)
-
-  -- The first i of them are known.
   abbrev pub KnownFrom : (d i : ℕ) → Type 0
   KnownFrom d i = (j : ℕ) → j < i → KnownAt (d + j) true
+
+  -- As the code finds it.
+  pub known-is : (i r : ℕ) (t t′ : Bool) → r ≡ (base + i) % w → t ≡ t′ → Known w E r t m → KnownAt i t′
+  known-is i r t t′ e q k = subst (λ x. Known w E x t′ m) e (subst (λ x. Known w E r x m) q k)
 
   pub known-none : (d : ℕ) → KnownFrom d 0
   known-none d j h = absurd (not-suc-le-zero h)
@@ -77,15 +65,33 @@ module _ (w E base : ℕ) (m : List ℕ) (fits : Fits w E m) (f : Bytes m) where
       go (yes e) = subst (λ x. KnownAt (d + x) true) (sym e) h
       go (no e) = k j (omega arith)
 
-  pub known-all : (d n : ℕ) → d + n ≤ w → KnownFrom d n → AllKnown w E base d n true m
-  known-all d n l k = (
+module _ (w E base : ℕ) (m : List ℕ) (fits : Fits w E m) (f : Bytes m) where
+  module _ (b : ℕ) (S : State (Coded E) w) (e : b % w ≡ base) (v : Window w E m b S) where
+    row-same : (i : ℕ) → (b + i) % w ≡ (base + i) % w
+    row-same i = sym (mod-add-mod b w i) ∙ ap (λ x. (x + i) % w) e
+
+    see-known : (i : ℕ) → i < w → KnownAt w E base m i true → seen E w S i ≡ some (symbolIn w E base m i)
+    see-known i l k =
+        ap (shown E) (k b i S l (row-same i) v)
+        ∙ ap some (symbol-bytes w E ((base + i) % w) m fits (mod-lt (base + i) (fits .some-width)) f)
+
+    see-unknown : (i : ℕ) → i < w → KnownAt w E base m i false → seen E w S i ≡ none
+    see-unknown i l k = ap (shown E) (k b i S l (row-same i) v)
+
+    see-past : (i : ℕ) → w ≤ i → seen E w S i ≡ none
+    see-past i l = ap (shown E) (known-past S i l)
+
+  pub known-all : (d n i : ℕ) → d + n ≤ w → i ≡ n → KnownFrom w E base m d i → AllKnown w E base d n true m
+  known-all d n i l q k = (
     l,
-    λ b S e v. joint-text w E base m (seen E w S) d n (λ j a c.
+    λ b S e v.
+        joint-text w E base m (seen E w S) d n
+        (λ j a c.
         let s : d + (j - d) ≡ j = omega arith in
-        see-known b S e v j (omega arith) (subst (λ x. KnownAt x true) s (k (j - d) (omega arith)))),
+        see-known b S e v j (omega arith) (subst (λ x. KnownAt w E base m x true) s (k (j - d) (omega arith)))),
   )
 
-  pub known-not : (d n i : ℕ) → d + n ≤ w → i < n → KnownAt (d + i) false → AllKnown w E base d n false m
+  pub known-not : (d n i : ℕ) → d + n ≤ w → i < n → KnownAt w E base m (d + i) false → AllKnown w E base d n false m
   known-not d n i l h k = λ b S e v. joint-none (seen E w S) d n (d + i) (omega arith) (omega arith) (see-unknown b S e v (d + i) (omega arith) k)
 
   pub known-beyond : (d n : ℕ) → d < w → w - d < n → AllKnown w E base d n false m
@@ -118,5 +124,5 @@ module _ (w E base d : ℕ) (m out : List ℕ) (fits : Fits w E m) (f : Bytes m)
         ap (λ y. need y 13 (begin E w (length out) (seen E w S) d (seen E w S d))) (sym (k d (omega arith)) ∙ start)
         ∙ ap (begin E w (length out) (seen E w S) d) x
 
-    pub first-unknown : KnownAt w E base m fits f d false → HandedOut w E base d m out out (Withheld Unknown)
+    pub first-unknown : KnownAt w E base m d false → HandedOut w E base d m out out (Withheld Unknown)
     first-unknown u = refused Unknown (λ b S M e v k. begun b S M k none (see-unknown w E base m fits f b S e v d inside u))

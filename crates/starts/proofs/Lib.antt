@@ -4,4 +4,5 @@ pub mod Chaining
 pub mod Deciding
 pub mod Marking
 pub mod Texts
+pub mod Copying
 pub mod Giving

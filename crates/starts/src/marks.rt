@@ -6,7 +6,7 @@ ghost use Rattle.starts.specs.Marks.{markAt, marked};
 use elimination::Shape;
 
 // The row of the i-th position of the window.
-fn row_of(shape: Shape, i: usize) -> usize
+pub fn row_of(shape: Shape, i: usize) -> usize
     requires { ⌜ (shape .base < shape .width) × (i < shape .width) × (shape .width ≤ 255) ⌝ }
     ensures { λ r. ⌜ (r ≡ (shape .base + i) % shape .width) × (r < shape .width) ⌝ }
 {

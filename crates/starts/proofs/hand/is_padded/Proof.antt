@@ -1,0 +1,96 @@
+-- `starts::hand::is_padded` meets its contract.
+use Prim.Native.Nat.{_+_, _-_, _*_}
+use native.Mathlib.Omega.{arith}
+use Rattle.starts.proofs.Copying.{span-some, span-start, span-last, padding-test}
+use borrow.Author.Needs.{needs}
+use Rattle.starts.proofs.hand.is_padded.Statement.{statement}
+use Rattle.starts.proofs.hand.is_padded.Tie as tie
+use Rattle.starts.proofs.hand.is_padded.Reads as reads
+use Rattle.starts.proofs.hand.is_padded.Lts as lts
+use Rattle.elimination.proofs.or_all.Reads as or-all-reads
+use Rattle.starts.proofs.hand.symbol_at.Reads as symbol-at-reads
+
+sub-before : tie.Need-sub-before
+sub-before c =
+    let a = c .before .args in
+    let s = a .shape in
+    let z = c .before .pre .0 .some-symbol in
+    let k = c .before .pre .2 in
+    omega (arith, span-some (s .width) (s .size) (a .d) (a .n) (a .len) z k)
+
+mul-before : tie.Need-mul-before
+mul-before c =
+    let a = c .before .before .args in
+    let s = a .shape in
+    let z = c .before .before .pre .0 .some-symbol in
+    let k = c .before .before .pre .2 in
+    omega (arith, span-start (s .width) (s .size) (a .d) (a .n) (a .len) z k (a .n - 1) (omega (arith, span-some (s .width) (s .size) (a .d) (a .n) (a .len) z k)), k .short)
+
+sub-symbol-at : tie.Need-sub-symbol-at
+sub-symbol-at c =
+    let a = c .before .before .args in
+    let s = a .shape in
+    let z = c .before .before .pre .0 .some-symbol in
+    let k = c .before .before .pre .2 in
+    omega (arith, span-some (s .width) (s .size) (a .d) (a .n) (a .len) z k)
+
+add-symbol-at : tie.Need-add-symbol-at
+add-symbol-at c = search needs
+
+symbol-at-requires : tie.Need-symbol-at-requires
+symbol-at-requires c κs =
+    let a = c .before .before .args in
+    let s = a .shape in
+    let z = c .before .before .pre .0 .some-symbol in
+    let k = c .before .before .pre .2 in
+    (search needs, omega (arith, span-some (s .width) (s .size) (a .d) (a .n) (a .len) z k, k .within), search needs, search needs)
+
+add-or-all : tie.Need-add-or-all
+add-or-all c = search needs
+
+sub-or-all : tie.Need-sub-or-all
+sub-or-all c =
+    let a = c .before .before .before .args in
+    let s = a .shape in
+    let z = c .before .before .before .pre .0 .some-symbol in
+    let k = c .before .before .before .pre .2 in
+    omega (arith, span-start (s .width) (s .size) (a .d) (a .n) (a .len) z k (a .n - 1) (omega (arith, span-some (s .width) (s .size) (a .d) (a .n) (a .len) z k)))
+
+add-or-all-2 : tie.Need-add-or-all-2
+add-or-all-2 c = search needs
+
+add-or-all-3 : tie.Need-add-or-all-3
+add-or-all-3 c = search needs
+
+or-all-requires : tie.Need-or-all-requires
+or-all-requires c κs =
+    let a = c .before .before .before .before .args in
+    let s = a .shape in
+    let z = c .before .before .before .before .pre .0 .some-symbol in
+    let k = c .before .before .before .before .pre .2 in
+    (omega (arith, span-last (s .width) (s .size) (a .d) (a .n) (a .len) z k), omega (arith, c .before .symbol-at .ensures .end, c .before .before .before .before .pre .0 .room))
+
+returns : tie.Need-returns
+returns c =
+    let a = c .before .before .before .before .before .args in
+    let s = a .shape in
+    let z = c .before .before .before .before .before .pre .0 .some-symbol in
+    let k = c .before .before .before .before .before .pre .2 in
+    padding-test (s .width) (s .size) (s .base) (a .d) (a .n) (a .len) (a .mem .now) (c .before .before .before .before .before .pre .0) k (c .before .before .symbol-at .result) (c .or-all .result)
+    (c .before .before .symbol-at .ensures .start) (c .or-all .ensures)
+
+pub is-padded-spec : {M : Type 1} → statement M
+is-padded-spec =
+    tie.close
+    (tie.spec
+    sub-before
+    mul-before
+    sub-symbol-at
+    add-symbol-at
+    symbol-at-requires
+    add-or-all
+    sub-or-all
+    add-or-all-2
+    add-or-all-3
+    or-all-requires
+    returns)
