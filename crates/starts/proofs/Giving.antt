@@ -1,5 +1,5 @@
 -- From what the code reads in the memory to what the ADU call promises: one law for each answer.
-use mathlib.Core.Path.{_≡_, refl, sym, ap, _∙_, subst}
+use mathlib.Core.Path.{_≡_, refl, sym, ap, ap₂, _∙_, subst}
 use mathlib.Core.Bool.{Bool, true, false}
 use mathlib.Core.Option.{Option, none, some}
 use mathlib.Core.List.{List, _++_}
@@ -31,6 +31,7 @@ use Rattle.starts.specs.Marks.{marked, Marks}
 use Rattle.starts.specs.Contracts.{HandedOut}
 use Rattle.starts.specs.HandSteps.{symbolPlace, symbolIn, text, AllKnown, Spans}
 use Rattle.starts.proofs.Texts.{joint-none, joint-text, text-length, text-flow, text-size, symbol-size}
+use Rattle.starts.proofs.Copying.{span-some, span-end}
 
 -- No position past the window is known.
 known-past : {O : Ops} {n : ℕ} (S : State O n) (i : ℕ) → n ≤ i → known S i ≡ none
@@ -97,6 +98,13 @@ module _ (w E base : ℕ) (m : List ℕ) (fits : Fits w E m) (f : Bytes m) where
   pub known-beyond : (d n : ℕ) → d < w → w - d < n → AllKnown w E base d n false m
   known-beyond d n l h = λ b S e v. joint-none (seen E w S) d n w (omega arith) (omega arith) (see-past b S e v w (omega arith))
 
+-- The same with the test as the code has it.
+pub all-is : (w E base d n : ℕ) (m : List ℕ) (t t′ : Bool) → t ≡ t′ → AllKnown w E base d n t m → AllKnown w E base d n t′ m
+all-is w E base d n m t t′ q a = subst (λ x. AllKnown w E base d n x m) q a
+
+pub spans : (w E base d n L : ℕ) (m : List ℕ) → AllKnown w E base d n true m → n ≡ symbolCount E L → L ≤ 65535 → Spans w E d n L
+spans w E base d n L m a e h = record { within = a .0; count = e; short = h }
+
 -- ---- The answers
 
 module _ (w E base d : ℕ) (m out : List ℕ) (fits : Fits w E m) (f : Bytes m) (inside : d < w) where
@@ -126,3 +134,87 @@ module _ (w E base d : ℕ) (m out : List ℕ) (fits : Fits w E m) (f : Bytes m)
 
     pub first-unknown : KnownAt w E base m d false → HandedOut w E base d m out out (Withheld Unknown)
     first-unknown u = refused Unknown (λ b S M e v k. begun b S M k none (see-unknown w E base m fits f b S e v d inside u))
+
+    -- The first symbol is known. The code reads L in it, at `at`, and finds that it needs n symbols.
+    module _ (u : KnownAt w E base m d true) (at L n : ℕ) (here : at ≡ symbolPlace w E base d) (is : L ≡ number (part (at + 1) 2 m))
+        (count : n ≡ symbolCount E L) (short : L ≤ 65535) where
+      size-is : lengthIn (symbolIn w E base m d) ≡ L
+      size-is = symbol-size w E base m fits d ∙ ap (λ x. number (part (x + 1) 2 m)) (sym here) ∙ sym is
+
+      counted : needs E (symbolIn w E base m d) ≡ n
+      counted = ap (symbolCount E) size-is ∙ sym count
+
+      -- What is left to look at, by whether there are too many symbols, and by what all of them make up.
+      looked : (b : ℕ) (S : State (Coded E) w) (M : Starts) → b % w ≡ base → Window w E m b S → Marks w E base m M
+          → handing E w (length out) M (seen E w S) d ≡ need (leb n w) 14 (unpack E w (length out) (joint (seen E w S) d n))
+      looked b S M e v k =
+          begun b S M k (some (symbolIn w E base m d)) (see-known w E base m fits f b S e v d inside u)
+          ∙ ap (λ x. need (leb x w) 14 (unpack E w (length out) (joint (seen E w S) d x))) counted
+
+      pub too-many : w < n → HandedOut w E base d m out out (Withheld Padding)
+      unfolding need
+      too-many h = refused Padding (λ b S M e v k.
+          looked b S M e v k ∙ ap (λ x. need x 14 (unpack E w (length out) (joint (seen E w S) d n))) (lt-leb n w h))
+
+      module _ (few : n ≤ w) where
+        unpacked : (b : ℕ) (S : State (Coded E) w) (M : Starts) → b % w ≡ base → Window w E m b S → Marks w E base m M
+            → (o : Option (List ℕ)) → joint (seen E w S) d n ≡ o → handing E w (length out) M (seen E w S) d ≡ unpack E w (length out) o
+        unfolding need
+        unpacked b S M e v k o q =
+            looked b S M e v k ∙ ap (λ x. need x 14 (unpack E w (length out) (joint (seen E w S) d n))) (le-leb n w few)
+            ∙ ap (unpack E w (length out)) q
+
+        pub another-unknown : AllKnown w E base d n false m → HandedOut w E base d m out out (Withheld Unknown)
+        another-unknown a = refused Unknown (λ b S M e v k. unpacked b S M e v k none (a b S e v))
+
+        -- All of them are known.
+        module _ (a : AllKnown w E base d n true m) where
+          abbrev x : List ℕ
+          x = text w E base m d n
+
+          fitting : Spans w E d n L
+          fitting = spans w E base d n L m a count short
+
+          some-symbols : 0 < n
+          some-symbols = span-some w E d n L (fits .some-symbol) fitting
+
+          all-sized : lengthIn x ≡ L
+          all-sized = text-size w E base m fits d n some-symbols ∙ size-is
+
+          opened : Comes (need (allZero (drop (3 + L) x)) 14 (need (leb L (length out)) 2 (hands (flowIn x) (part 3 L x))))
+          opened b S M e v k =
+              unpacked b S M e v k (some x) (a .1 b S e v)
+              ∙ ap (λ l. need (allZero (drop (3 + l) x)) 14 (need (leb l (length out)) 2 (hands (flowIn x) (part 3 l x)))) all-sized
+
+          pub not-padded : allZero (drop (3 + L) x) ≡ false → HandedOut w E base d m out out (Withheld Padding)
+          unfolding need
+          not-padded t = refused Padding (λ b S M e v k.
+              opened b S M e v k ∙ ap (λ y. need y 14 (need (leb L (length out)) 2 (hands (flowIn x) (part 3 L x)))) t)
+
+          module _ (padded : allZero (drop (3 + L) x) ≡ true) where
+            whole : Comes (need (leb L (length out)) 2 (hands (flowIn x) (part 3 L x)))
+            unfolding need
+            whole b S M e v k =
+                opened b S M e v k ∙ ap (λ y. need y 14 (need (leb L (length out)) 2 (hands (flowIn x) (part 3 L x)))) padded
+
+            pub no-room : length out < L → HandedOut w E base d m out out (Withheld Short)
+            unfolding need
+            no-room h = refused Short (λ b S M e v k. whole b S M e v k ∙ ap (λ y. need y 2 (hands (flowIn x) (part 3 L x))) (lt-leb L (length out) h))
+
+            pub hands-out : L ≤ length out → (out′ : List ℕ) → out′ ≡ splice 0 (part 3 L x) out → HandedOut w E base d m out out′ (Adu (getD m at 0) L)
+            unfolding need splice
+            hands-out h out′ q =
+                let size : length (part 3 L x) ≡ L =
+                length-part 3 L x (omega (arith, text-length w E base m fits d n, span-end w E d n L (fits .some-symbol) fitting)) in
+                let flow : flowIn x ≡ getD m at 0 = text-flow w E base m fits d n some-symbols ∙ ap (λ y. getD m y 0) (sym here) in
+                record {
+                  leaves = (
+                    h,
+                    ap length q ∙ length-splice 0 (part 3 L x) out (omega arith),
+                    ap (drop L) q ∙ past-splice L 0 (part 3 L x) out (omega arith) (omega arith),
+                  );
+                  told = λ b S M e v k.
+                      subst (λ y. HandedAs y out out′ (Adu (getD m at 0) L))
+                      (sym (whole b S M e v k ∙ ap (λ y. need y 2 (hands (flowIn x) (part 3 L x))) (le-leb L (length out) h)))
+                      (ap₂ Adu (sym flow) (sym size), q);
+                }
