@@ -2,7 +2,7 @@
 use mathlib.Core.Path.{_≡_, refl, sym, ap, ap₂, _∙_, subst}
 use mathlib.Core.Logic.{_↔_}
 use mathlib.Core.List.{List}
-use Prim.Native.Nat.{ℕ, zero, suc, _+_, _-_, _*_, _%_, _≤_, _<_, min}
+use Prim.Native.Nat.{ℕ, suc, _+_, _-_, _*_, _%_, _≤_, _<_, min}
 use native.Mathlib.Nat.{zero-mul, zero-add, suc-mul}
 use native.Mathlib.Numerals.{add-one}
 use native.Mathlib.Decide.{decLt}
@@ -11,7 +11,6 @@ use lib.ListN.{length, drop}
 use lib.Dec.{eqb}
 use Rattle.memory.specs.Part.{part, splice}
 use Rattle.memory.proofs.Parts.{length-part, length-splice, part-add, splice-next, row-fits}
-use Rattle.wire.specs.Packets.{symbolCount}
 use Rattle.wire.proofs.Adui.{room, least}
 use Rattle.elimination.specs.Window.{stride, place, Fits}
 use Rattle.elimination.specs.RowSteps.{Zero-from}

@@ -1,10 +1,11 @@
 -- From what the code reads in the memory to what the ADU call promises: one law for each answer.
 use mathlib.Core.Path.{_≡_, refl, sym, ap, ap₂, _∙_, subst}
+use mathlib.Core.Logic.{_≢_}
 use mathlib.Core.Bool.{Bool, true, false}
 use mathlib.Core.Option.{Option, none, some}
-use mathlib.Core.List.{List, _++_}
-use Prim.Native.Nat.{ℕ, zero, suc, _+_, _-_, _*_, _%_, _≤_, _<_}
-use native.Mathlib.Nat.{mod-lt, mod-add-mod, not-suc-le-zero, le-of-suc-le-suc, zero-mul, suc-mul}
+use mathlib.Core.List.{List}
+use Prim.Native.Nat.{ℕ, zero, suc, _+_, _-_, _%_, _≤_, _<_}
+use native.Mathlib.Nat.{mod-lt, mod-add-mod, not-suc-le-zero, le-of-suc-le-suc}
 use native.Mathlib.Decide.{ℕ-discrete}
 use native.Mathlib.Omega.{arith}
 use lib.ListN.{length, drop, getD}
@@ -17,15 +18,15 @@ use Rattle.wire.specs.declared.Refusal.{Refusal}
 use Rattle.wire.specs.declared.Refusal.the-variants.{Short, Unknown, NoStart, Padding}
 use Rattle.wire.specs.Numbers.{numberOf}
 use Rattle.wire.specs.Packets.{symbolCount}
-use Rattle.wire.proofs.Adui.{room}
 use Rattle.decoder.specs.Field.{Ops}
 use Rattle.decoder.specs.Bytes.{Coded}
 use Rattle.decoder.specs.Model.{State, end, free, pivot, known}
 use Rattle.elimination.specs.Window.{Window, Fits}
 use Rattle.elimination.specs.Place.{Known}
 use Rattle.elimination.proofs.Showing.{symbol-bytes}
+use Rattle.starts.specs.declared.Handed.{Handed}
 use Rattle.starts.specs.declared.Handed.the-variants.{Adu, Withheld}
-use Rattle.starts.specs.Adu.{View, joint, need, Handing, hands, withholds, needs, lengthIn, flowIn, allZero, unpack, begin, handing, HandedAs}
+use Rattle.starts.specs.Adu.{joint, need, Handing, hands, withholds, needs, lengthIn, flowIn, allZero, unpack, begin, handing, HandedAs}
 use Rattle.starts.specs.Starts.{Starts, shown, seen}
 use Rattle.starts.specs.Marks.{marked, Marks}
 use Rattle.starts.specs.Contracts.{HandedOut}
@@ -107,21 +108,27 @@ spans w E base d n L m a e h = record { within = a .0; count = e; short = h }
 
 -- ---- The answers
 
+-- The number of a refusal, 0 of an ADU.
+abbrev reason : Handed → ℕ
+reason (Adu flow L) = 0
+reason (Withheld x) = numberOf x
+
 module _ (w E base d : ℕ) (m out : List ℕ) (fits : Fits w E m) (f : Bytes m) (inside : d < w) where
   -- What the call comes to, by what the memory holds.
   abbrev Comes : Handing → Type 0
   Comes h = (b : ℕ) (S : State (Coded E) w) (M : Starts) → b % w ≡ base → Window w E m b S → Marks w E base m M
       → handing E w (length out) M (seen E w S) d ≡ h
 
-  refused : (x : Refusal) → Comes (withholds (numberOf x)) → HandedOut w E base d m out out (Withheld x)
-  refused x c = record {
+  refused : (x : Refusal) → numberOf x ≢ 3 → Comes (withholds (numberOf x)) → HandedOut w E base d m out out (Withheld x)
+  refused x n c = record {
+    opened = λ q. n (ap reason q);
     leaves = refl;
     told = λ b S M e v k. subst (λ h. HandedAs h out out (Withheld x)) (sym (c b S M e v k)) (refl, refl);
   }
 
   pub no-start : marked w E base m d ≡ false → HandedOut w E base d m out out (Withheld NoStart)
   unfolding handing need
-  no-start t = refused NoStart (λ b S M e v k.
+  no-start t = refused NoStart (λ q. absurd (omega (arith, q))) (λ b S M e v k.
       ap (λ x. need x 13 (begin E w (length out) (seen E w S) d (seen E w S d))) (sym (k d (omega arith)) ∙ t))
 
   module _ (start : marked w E base m d ≡ true) where
@@ -133,7 +140,7 @@ module _ (w E base d : ℕ) (m out : List ℕ) (fits : Fits w E m) (f : Bytes m)
         ∙ ap (begin E w (length out) (seen E w S) d) x
 
     pub first-unknown : KnownAt w E base m d false → HandedOut w E base d m out out (Withheld Unknown)
-    first-unknown u = refused Unknown (λ b S M e v k. begun b S M k none (see-unknown w E base m fits f b S e v d inside u))
+    first-unknown u = refused Unknown (λ q. absurd (omega (arith, q))) (λ b S M e v k. begun b S M k none (see-unknown w E base m fits f b S e v d inside u))
 
     -- The first symbol is known. The code reads L in it, at `at`, and finds that it needs n symbols.
     module _ (u : KnownAt w E base m d true) (at L n : ℕ) (here : at ≡ symbolPlace w E base d) (is : L ≡ number (part (at + 1) 2 m))
@@ -153,7 +160,7 @@ module _ (w E base d : ℕ) (m out : List ℕ) (fits : Fits w E m) (f : Bytes m)
 
       pub too-many : w < n → HandedOut w E base d m out out (Withheld Padding)
       unfolding need
-      too-many h = refused Padding (λ b S M e v k.
+      too-many h = refused Padding (λ q. absurd (omega (arith, q))) (λ b S M e v k.
           looked b S M e v k ∙ ap (λ x. need x 14 (unpack E w (length out) (joint (seen E w S) d n))) (lt-leb n w h))
 
       module _ (few : n ≤ w) where
@@ -165,7 +172,7 @@ module _ (w E base d : ℕ) (m out : List ℕ) (fits : Fits w E m) (f : Bytes m)
             ∙ ap (unpack E w (length out)) q
 
         pub another-unknown : AllKnown w E base d n false m → HandedOut w E base d m out out (Withheld Unknown)
-        another-unknown a = refused Unknown (λ b S M e v k. unpacked b S M e v k none (a b S e v))
+        another-unknown a = refused Unknown (λ q. absurd (omega (arith, q))) (λ b S M e v k. unpacked b S M e v k none (a b S e v))
 
         -- All of them are known.
         module _ (a : AllKnown w E base d n true m) where
@@ -188,7 +195,7 @@ module _ (w E base d : ℕ) (m out : List ℕ) (fits : Fits w E m) (f : Bytes m)
 
           pub not-padded : allZero (drop (3 + L) x) ≡ false → HandedOut w E base d m out out (Withheld Padding)
           unfolding need
-          not-padded t = refused Padding (λ b S M e v k.
+          not-padded t = refused Padding (λ q. absurd (omega (arith, q))) (λ b S M e v k.
               opened b S M e v k ∙ ap (λ y. need y 14 (need (leb L (length out)) 2 (hands (flowIn x) (part 3 L x)))) t)
 
           module _ (padded : allZero (drop (3 + L) x) ≡ true) where
@@ -199,7 +206,7 @@ module _ (w E base d : ℕ) (m out : List ℕ) (fits : Fits w E m) (f : Bytes m)
 
             pub no-room : length out < L → HandedOut w E base d m out out (Withheld Short)
             unfolding need
-            no-room h = refused Short (λ b S M e v k. whole b S M e v k ∙ ap (λ y. need y 2 (hands (flowIn x) (part 3 L x))) (lt-leb L (length out) h))
+            no-room h = refused Short (λ q. absurd (omega (arith, q))) (λ b S M e v k. whole b S M e v k ∙ ap (λ y. need y 2 (hands (flowIn x) (part 3 L x))) (lt-leb L (length out) h))
 
             pub hands-out : L ≤ length out → (out′ : List ℕ) → out′ ≡ splice 0 (part 3 L x) out → HandedOut w E base d m out out′ (Adu (getD m at 0) L)
             unfolding need splice
@@ -208,6 +215,7 @@ module _ (w E base d : ℕ) (m out : List ℕ) (fits : Fits w E m) (f : Bytes m)
                 length-part 3 L x (omega (arith, text-length w E base m fits d n, span-end w E d n L (fits .some-symbol) fitting)) in
                 let flow : flowIn x ≡ getD m at 0 = text-flow w E base m fits d n some-symbols ∙ ap (λ y. getD m y 0) (sym here) in
                 record {
+                  opened = λ y. absurd (omega (arith, ap reason y));
                   leaves = (
                     h,
                     ap length q ∙ length-splice 0 (part 3 L x) out (omega arith),

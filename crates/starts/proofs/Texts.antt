@@ -5,7 +5,7 @@ use mathlib.Core.Option.{Option, none, some}
 use mathlib.Core.Logic.{_↔_}
 use mathlib.Core.List.{List, [], _∷_, _++_}
 use Prim.Native.Nat.{ℕ, zero, suc, _+_, _-_, _*_, _%_, _≤_, _<_}
-use native.Mathlib.Nat.{mod-lt, not-suc-le-zero, le-of-suc-le-suc, add-zero, add-suc, suc-add, suc-mul, zero-mul, zero-add}
+use native.Mathlib.Nat.{mod-lt, not-suc-le-zero, le-of-suc-le-suc, add-zero, suc-mul, zero-mul}
 use native.Mathlib.Decide.{ℕ-discrete}
 use native.Mathlib.Omega.{arith}
 use lib.ListN.{length, take, drop, getD, length-append, length-drop, List·getD-append}

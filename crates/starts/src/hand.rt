@@ -1,6 +1,6 @@
 // Handing out an ADU: its symbols are looked up in the window, its padding is checked, and its bytes are copied from where the symbols stand.
 ghost use mathlib.Core.Path.{_≡_};
-ghost use Prim.Native.Nat.{_+_, _%_, _≤_, _<_, min};
+ghost use Prim.Native.Nat.{_+_, _≤_, _<_, min};
 ghost use lib.ListN.{length, drop};
 ghost use Rattle.memory.specs.Part.{part, splice};
 ghost use Rattle.elimination.specs.Window.{Fits};

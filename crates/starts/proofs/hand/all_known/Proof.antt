@@ -7,10 +7,6 @@ use Rattle.starts.proofs.Giving.{KnownFrom, known-is, known-none, known
 use borrow.Author.Needs.{needs}
 use Rattle.starts.proofs.hand.all_known.Statement.{statement}
 use Rattle.starts.proofs.hand.all_known.Tie as tie
-use Rattle.starts.proofs.hand.all_known.Reads as reads
-use Rattle.starts.proofs.hand.all_known.Lts as lts
-use Rattle.elimination.proofs.place.is_known.Reads as is-known-reads
-use Rattle.starts.proofs.marks.row_of.Reads as row-of-reads
 
 abbrev Inv-loop : tie.InvT-loop
 Inv-loop mem shape d n i₀ i = (i ≤ n) × KnownFrom (shape .width) (shape .size) (shape .base) mem d i

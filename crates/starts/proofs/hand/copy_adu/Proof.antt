@@ -1,18 +1,11 @@
 -- `starts::hand::copy_adu` meets its contract. The loop: the ADU's bytes of the symbols before the i-th have been copied.
-use mathlib.Core.Path.{_≡_}
-use Prim.Native.Nat.{_+_, _-_, _*_, _≤_}
+use Prim.Native.Nat.{_-_, _≤_}
 use native.Mathlib.Omega.{arith}
-use lib.ListN.{length}
 use Rattle.starts.specs.HandSteps.{text}
-use Rattle.starts.proofs.Copying.{span-some, span-start, span-end, Copied, copied-none, copied-length, copied-all, copied-more}
+use Rattle.starts.proofs.Copying.{span-some, Copied, copied-none, copied-length, copied-all, copied-more}
 use borrow.Author.Needs.{needs}
 use Rattle.starts.proofs.hand.copy_adu.Statement.{statement}
 use Rattle.starts.proofs.hand.copy_adu.Tie as tie
-use Rattle.starts.proofs.hand.copy_adu.Reads as reads
-use Rattle.starts.proofs.hand.copy_adu.Lts as lts
-use Rattle.memory.proofs.copy_part.Reads as copy-part-reads
-use Rattle.starts.proofs.hand.least.Reads as least-reads
-use Rattle.starts.proofs.hand.symbol_at.Reads as symbol-at-reads
 
 abbrev Inv-loop : tie.InvT-loop
 Inv-loop mem shape d n len out₀ at₀ skip₀ i₀ out at skip i = (i ≤ n) × Copied (shape .size) n len i at skip (text (shape .width) (shape .size) (shape .base) mem d n) out₀ out

@@ -7,17 +7,6 @@ use Rattle.starts.proofs.Giving.{known-is, all-is, no-start, first-unkn
 use borrow.Author.Needs.{needs}
 use Rattle.starts.proofs.hand.hand_out.Statement.{statement}
 use Rattle.starts.proofs.hand.hand_out.Tie as tie
-use Rattle.starts.proofs.hand.hand_out.Reads as reads
-use Rattle.starts.proofs.hand.hand_out.Lts as lts
-use Rattle.elimination.proofs.place.is_known.Reads as is-known-reads
-use Rattle.memory.proofs.load_u16.Reads as load-u16-reads
-use Rattle.starts.proofs.hand.all_known.Reads as all-known-reads
-use Rattle.starts.proofs.hand.copy_adu.Reads as copy-adu-reads
-use Rattle.starts.proofs.hand.is_padded.Reads as is-padded-reads
-use Rattle.starts.proofs.hand.symbol_at.Reads as symbol-at-reads
-use Rattle.starts.proofs.marks.is_marked.Reads as is-marked-reads
-use Rattle.starts.proofs.marks.row_of.Reads as row-of-reads
-use Rattle.wire.proofs.symbol_count.Reads as symbol-count-reads
 
 is-marked-requires : tie.Need-is-marked-requires
 is-marked-requires c κs = search needs

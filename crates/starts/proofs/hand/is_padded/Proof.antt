@@ -1,14 +1,10 @@
 -- `starts::hand::is_padded` meets its contract.
-use Prim.Native.Nat.{_+_, _-_, _*_}
+use Prim.Native.Nat.{_-_}
 use native.Mathlib.Omega.{arith}
 use Rattle.starts.proofs.Copying.{span-some, span-start, span-last, padding-test}
 use borrow.Author.Needs.{needs}
 use Rattle.starts.proofs.hand.is_padded.Statement.{statement}
 use Rattle.starts.proofs.hand.is_padded.Tie as tie
-use Rattle.starts.proofs.hand.is_padded.Reads as reads
-use Rattle.starts.proofs.hand.is_padded.Lts as lts
-use Rattle.elimination.proofs.or_all.Reads as or-all-reads
-use Rattle.starts.proofs.hand.symbol_at.Reads as symbol-at-reads
 
 sub-before : tie.Need-sub-before
 sub-before c =

@@ -5,9 +5,6 @@ use Rattle.starts.proofs.Copying.{symbol-found}
 use borrow.Author.Needs.{needs}
 use Rattle.starts.proofs.hand.symbol_at.Statement.{statement}
 use Rattle.starts.proofs.hand.symbol_at.Tie as tie
-use Rattle.starts.proofs.hand.symbol_at.Reads as reads
-use Rattle.starts.proofs.hand.symbol_at.Lts as lts
-use Rattle.starts.proofs.marks.row_of.Reads as row-of-reads
 
 -- src/hand.rt:22:9
 row-of-requires : tie.Need-row-of-requires
