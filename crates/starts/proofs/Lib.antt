@@ -1,5 +1,6 @@
 -- The modules of the proofs.
 pub mod Tests
 pub mod Chaining
-pub mod Deciding
+pub mod Only
 pub mod Marking
+pub mod Passing
