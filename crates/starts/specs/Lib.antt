@@ -3,3 +3,4 @@ pub mod Starts
 pub mod Marks
 pub mod Contracts
 pub mod HandSteps
+pub mod MarkSteps

@@ -1,12 +1,10 @@
+-- `starts::marks::is_marked` meets its contract.
 use mathlib.Core.Path.{ap}
 use lib.ListN.{getD}
 use lib.Dec.{ltb}
 use borrow.Author.Needs.{needs}
 use Rattle.starts.proofs.marks.is_marked.Statement.{statement}
 use Rattle.starts.proofs.marks.is_marked.Tie as tie
-use Rattle.starts.proofs.marks.is_marked.Reads as reads
-use Rattle.starts.proofs.marks.is_marked.Lts as lts
-use Rattle.starts.proofs.marks.mark_at.Reads as mark-at-reads
 
 -- src/marks.rt:38:9
 mark-at-requires : tie.Need-mark-at-requires

@@ -1,11 +1,9 @@
+-- `starts::marks::mark_at` meets its contract.
 use native.Mathlib.Omega.{arith}
-use Rattle.starts.proofs.Marking.{row-area, flag-inside, mark-row, mark-past}
+use Rattle.starts.proofs.Only.{row-area, flag-inside, mark-row, mark-past}
 use borrow.Author.Needs.{needs}
 use Rattle.starts.proofs.marks.mark_at.Statement.{statement}
 use Rattle.starts.proofs.marks.mark_at.Tie as tie
-use Rattle.starts.proofs.marks.mark_at.Reads as reads
-use Rattle.starts.proofs.marks.mark_at.Lts as lts
-use Rattle.starts.proofs.marks.row_of.Reads as row-of-reads
 
 -- src/marks.rt:25:17
 add-n : tie.Need-add-n

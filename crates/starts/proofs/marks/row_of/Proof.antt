@@ -1,12 +1,11 @@
+-- `starts::marks::row_of` meets its contract.
 use mathlib.Core.Path.{sym}
 use native.Mathlib.Nat.{mod-eq-of-lt}
 use native.Mathlib.Omega.{arith}
-use Rattle.starts.proofs.Marking.{row-wrapped}
+use Rattle.starts.proofs.Only.{row-wrapped}
 use borrow.Author.Needs.{needs}
 use Rattle.starts.proofs.marks.row_of.Statement.{statement}
 use Rattle.starts.proofs.marks.row_of.Tie as tie
-use Rattle.starts.proofs.marks.row_of.Reads as reads
-use Rattle.starts.proofs.marks.row_of.Lts as lts
 
 -- src/marks.rt:14:13
 add-r : tie.Need-add-r
