@@ -91,7 +91,10 @@ turned w E base rise i j h l e =
 
 -- The base has risen by more than the width.
 pub moved-far : (w E base rise : ℕ) (m m′ : List ℕ) → 0 < w → w < rise → Dropped w E base (w + 1) m m′ → Moved w E base rise m m′
-moved-far w E base rise m m′ pos g f = record { only = f .only; marks = λ M h i l. go i (decLt i w) ∙ sym (ap (λ t. t && M (rise + i)) (lt-leb (rise + i) w (omega arith))) }
+moved-far w E base rise m m′ pos g f = record {
+  only = f .only;
+  marks = λ M h i l. go i (decLt i w) ∙ sym (ap (λ t. t && M (rise + i)) (lt-leb (rise + i) w (omega arith)));
+}
   where
     go : (i : ℕ) → Dec (i < w) → marked w E ((base + rise) % w) m′ i ≡ false
     go i (yes a) =

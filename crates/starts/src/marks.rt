@@ -3,7 +3,7 @@ ghost use mathlib.Core.Path.{_≡_};
 ghost use Prim.Native.Nat.{_+_, _%_, _≤_, _<_};
 ghost use Rattle.elimination.specs.Window.{place, Fits};
 ghost use Rattle.starts.specs.Marks.{markAt, marked};
-ghost use Rattle.starts.specs.MarkSteps.{Written, Dropped, Stepped};
+ghost use Rattle.starts.specs.MarkSteps.{Written, Dropped, Stepped, Owned, Updated};
 ghost use Rattle.starts.specs.Contracts.{Begun, Added, Moved, Passed};
 use elimination::Shape;
 
@@ -133,4 +133,33 @@ pub fn pass(mem: &mut [u8], shape: Shape)
     for i in 0..w {
         step(mem, shape, i);
     }
+}
+
+// A packet with `named` symbols of its own from the position `first` on, if any, marks that and the one after its last.
+fn set_own(mem: &mut [u8], shape: Shape, first: usize, named: usize)
+    requires { ⌜ Fits (shape .width) (shape .size) (now mem) × (shape .base < shape .width) × (first + named ≤ shape .width) ⌝ }
+    ensures { λ _. ⌜ Owned (shape .width) (shape .size) (shape .base) first named (now (mem .entry)) (now (mem .exit)) ⌝ }
+{
+    if named == 0 {
+        return;
+    }
+    set(mem, shape, first + named);
+    set(mem, shape, first);
+}
+
+// A packet was accepted, with `named` symbols of its own from the position `first` on: the window has moved on by `rise` positions from the row
+// `oldest` on, and the packet's first position and the one after its last are marked, and what they and the marks before reach.
+pub fn update(mem: &mut [u8], shape: Shape, oldest: usize, rise: usize, first: usize, named: usize)
+    requires { ⌜ Fits (shape .width) (shape .size) (now mem) × (oldest < shape .width) × (shape .base ≡ (oldest + rise) % shape .width)
+        × (first + named ≤ shape .width) ⌝ }
+    ensures { λ _. ⌜ Updated (shape .width) (shape .size) oldest rise first named (now (mem .entry)) (now (mem .exit)) ⌝ }
+{
+    let before = Shape {
+        width: shape.width,
+        size: shape.size,
+        base: oldest,
+    };
+    move_on(mem, before, rise);
+    set_own(mem, shape, first, named);
+    pass(mem, shape);
 }

@@ -16,7 +16,10 @@ drop-first-requires c κs = search needs
 
 -- src/marks.rt:85:5
 write-requires : tie.Need-write-requires
-write-requires c κs = (only-fits (c .before .before .before .before .before .before .before .pre .0) (c .before .before .before .drop-first .ensures .only), omega arith, omega arith)
+write-requires c κs =
+    let p3 = c .before .before .before in
+    let p7 = p3 .before .before .before .before in
+    (only-fits (p7 .pre .0) (p3 .drop-first .ensures .only), omega arith, omega arith)
 
 -- src/marks.rt:80:1
 same-length : tie.Need-same-length
@@ -24,7 +27,11 @@ same-length c = search needs
 
 -- src/marks.rt:80:1
 returns : tie.Need-returns
-returns c = begun _ _ _ _ _ _ (c .before .before .before .before .before .before .before .before .before .before .pre .0 .some-width) (c .before .before .before .before .before .before .drop-first .ensures) (c .before .before .write .ensures)
+returns c =
+    let p2 = c .before .before in
+    let p6 = p2 .before .before .before .before in
+    let p10 = p6 .before .before .before .before in
+    begun _ _ _ _ _ _ (p10 .pre .0 .some-width) (p6 .drop-first .ensures) (p2 .write .ensures)
 
 pub begin-spec : {M : Type 1} → statement M
 begin-spec =

@@ -19,11 +19,15 @@ add-result c = search needs
 
 -- src/marks.rt:27:14
 mul-result : tie.Need-mul-result
-mul-result c = let a = c .before .before .before .args .shape in omega (arith, row-area (a .width) (a .size) (c .row-of .result) (omega arith) (omega arith) (omega arith))
+mul-result c =
+    let a = c .before .before .before .args .shape in
+    omega (arith, row-area (a .width) (a .size) (c .row-of .result) (omega arith) (omega arith) (omega arith))
 
 -- src/marks.rt:27:9
 add-result-2 : tie.Need-add-result-2
-add-result-2 c = let a = c .before .before .before .args .shape in omega (arith, row-area (a .width) (a .size) (c .row-of .result) (omega arith) (omega arith) (omega arith))
+add-result-2 c =
+    let a = c .before .before .before .args .shape in
+    omega (arith, row-area (a .width) (a .size) (c .row-of .result) (omega arith) (omega arith) (omega arith))
 
 -- src/marks.rt:27:29
 add-result-3 : tie.Need-add-result-3
@@ -31,11 +35,13 @@ add-result-3 c = search needs
 
 -- src/marks.rt:27:9
 add-result-4 : tie.Need-add-result-4
-add-result-4 c = let a = c .before .before .before .args .shape in omega (arith, row-area (a .width) (a .size) (c .row-of .result) (omega arith) (omega arith) (omega arith))
+add-result-4 c =
+    let a = c .before .before .before .args .shape in
+    omega (arith, row-area (a .width) (a .size) (c .row-of .result) (omega arith) (omega arith) (omega arith))
 
 -- src/marks.rt:19:1
 returns : tie.Need-returns
-returns c = let a = c .before .before .before .args in (mark-row _ _ _ _ _ (c .before .before .if1 .taken) (c .row-of .ensures .0), flag-inside _ _ _ (c .row-of .ensures .1))
+returns c = (mark-row _ _ _ _ _ (c .before .before .if1 .taken) (c .row-of .ensures .0), flag-inside _ _ _ (c .row-of .ensures .1))
 
 -- src/marks.rt:19:1
 returns-2 : tie.Need-returns-2

@@ -25,7 +25,11 @@ same-length c = search needs
 
 -- src/marks.rt:99:9
 returns-2 : tie.Need-returns-2
-returns-2 c = moved-far _ _ _ _ _ _ (c .before .before .before .before .before .before .before .pre .0 .some-width) (c .before .before .before .before .if2 .taken) (c .before .before .drop-first .ensures)
+returns-2 c =
+    let p2 = c .before .before in
+    let p4 = p2 .before .before in
+    let p7 = p4 .before .before .before in
+    moved-far _ _ _ _ _ _ (p7 .pre .0 .some-width) (p4 .if2 .taken) (p2 .drop-first .ensures)
 
 -- src/marks.rt:101:16
 slice-read-past : tie.Need-slice-read-past
@@ -37,13 +41,19 @@ drop-first-requires-2 c κs = search needs
 
 -- src/marks.rt:103:5
 write-requires : tie.Need-write-requires
-write-requires c κs = (only-fits (c .before .before .before .before .before .before .before .before .before .pre .0) (c .before .before .before .drop-first2 .ensures .only), omega arith, omega arith)
+write-requires c κs =
+    let p3 = c .before .before .before in
+    let p9 = p3 .before .before .before .before .before .before in
+    (only-fits (p9 .pre .0) (p3 .drop-first2 .ensures .only), omega arith, omega arith)
 
 -- src/marks.rt:104:5
 write-requires-2 : tie.Need-write-requires-2
 write-requires-2 c κs =
-    let pos = c .before .before .before .before .before .before .before .before .before .before .before .before .before .pre .0 .some-width in
-    (only-fits (c .before .before .before .before .before .before .before .before .before .before .before .before .before .pre .0) (only-trans (c .before .before .before .before .before .before .before .drop-first2 .ensures .only) (written-only pos (c .before .before .before .write .ensures))), omega arith, omega arith)
+    let p3 = c .before .before .before in
+    let p7 = p3 .before .before .before .before in
+    let p13 = p7 .before .before .before .before .before .before in
+    let only = only-trans (p7 .drop-first2 .ensures .only) (written-only (p13 .pre .0 .some-width) (p3 .write .ensures)) in
+    (only-fits (p13 .pre .0) only, omega arith, omega arith)
 
 -- src/marks.rt:89:1
 same-length-2 : tie.Need-same-length-2
@@ -52,8 +62,11 @@ same-length-2 c = search needs
 -- src/marks.rt:89:1
 returns-3 : tie.Need-returns-3
 returns-3 c =
-    moved-near _ _ _ _ _ _ _ _ _ (omega arith) (c .before .before .before .before .before .before .before .before .before .before .before .before .before .if2 .left) refl (c .before .before .before .before .before .before .before .before .before .before .drop-first2 .ensures) (c .before .before .before .before .before .before .write .ensures)
-    (c .before .before .write2 .ensures)
+    let p2 = c .before .before in
+    let p6 = p2 .before .before .before .before in
+    let p10 = p6 .before .before .before .before in
+    let p13 = p10 .before .before .before in
+    moved-near _ _ _ _ _ _ _ _ _ (omega arith) (p13 .if2 .left) refl (p10 .drop-first2 .ensures) (p6 .write .ensures) (p2 .write2 .ensures)
 
 pub move-on-spec : {M : Type 1} → statement M
 move-on-spec =

@@ -15,7 +15,10 @@ same-length c = c .before .before .write .ensures .size
 
 -- src/marks.rt:72:1
 returns : tie.Need-returns
-returns c = let s = c .before .before .before .before .before in added _ _ _ (s .args .i) _ _ (s .pre .0 .some-width) (omega arith) (c .before .before .write .ensures)
+returns c =
+    let p2 = c .before .before in
+    let p5 = p2 .before .before .before in
+    added _ _ _ (p5 .args .i) _ _ (p5 .pre .0 .some-width) (omega arith) (p2 .write .ensures)
 
 pub set-spec : {M : Type 1} → statement M
 set-spec = tie.close (tie.spec write-requires same-length returns)

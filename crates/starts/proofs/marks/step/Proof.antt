@@ -1,8 +1,6 @@
 -- `starts::marks::step` meets its contract.
 use native.Mathlib.Omega.{arith}
-use mathlib.Core.Path.{sym, ap, _∙_}
 use borrow.Author.Tests.{not-true, not-false}
-use Rattle.wire.specs.Packets.{symbolCount}
 use Rattle.starts.proofs.Passing.{step-unmarked, step-unknown, step-near, step-far}
 use borrow.Author.Needs.{needs}
 use Rattle.starts.proofs.marks.step.Statement.{statement}
@@ -18,7 +16,10 @@ same-length c = search needs
 
 -- src/marks.rt:113:9
 returns : tie.Need-returns
-returns c = step-unmarked _ _ _ (c .before .before .before .before .args .i) _ (omega arith) (sym (c .before .is-marked .ensures) ∙ not-true (c .before .is-marked .result) (c .if1 .taken))
+returns c =
+    let p1 = c .before in
+    let p4 = p1 .before .before .before in
+    step-unmarked _ _ _ (p4 .args .i) _ (omega arith) (p1 .is-marked .result) (p1 .is-marked .ensures) (not-true (p1 .is-marked .result) (c .if1 .taken))
 
 -- src/marks.rt:116:9
 row-of-requires : tie.Need-row-of-requires
@@ -35,9 +36,11 @@ same-length-2 c = search needs
 -- src/marks.rt:118:9
 returns-2 : tie.Need-returns-2
 returns-2 c =
-    let a = c .before .before .before .before .before .before .before .before .args in
-    step-unknown _ _ _ (a .i) _ _ (omega arith) (c .before .before .before .row-of .ensures .0) (c .before .is-known .result)
-    (not-true (c .before .is-known .result) (c .if2 .taken)) (c .before .is-known .ensures)
+    let p1 = c .before in
+    let p3 = p1 .before .before in
+    let p8 = p3 .before .before .before .before .before in
+    step-unknown _ _ _ (p8 .args .i) _ _ (omega arith) (p3 .row-of .ensures .0) (p1 .is-known .result)
+    (not-true (p1 .is-known .result) (c .if2 .taken)) (p1 .is-known .ensures)
 
 -- src/marks.rt:120:9
 symbol-at-requires : tie.Need-symbol-at-requires
@@ -78,11 +81,21 @@ same-length-3 c = search needs
 -- src/marks.rt:108:1
 returns-3 : tie.Need-returns-3
 returns-3 c =
-    let s = c .before .before .before .before .before .before .before .before .before .before .before .before .before .before .before .before .before in
-    step-near _ _ _ (s .args .i) _ _ (omega arith) (c .before .before .before .before .before .before .before .before .before .before .before .before .row-of .ensures .0) _ _ (s .pre .0) (λ i. c .before .before .before .before .before .before .before .before .before .before .before .before .before .before .before .before .slice-known .given i .fits)
-    (c .before .before .before .before .before .before .before .before .symbol-at .ensures .0) (c .before .before .before .before .before .before .before .before .before .before .is-known .result) (not-false (c .before .before .before .before .before .before .before .before .before .before .is-known .result) (c .before .before .before .before .before .before .before .before .before .if2 .left)) (c .before .before .before .before .before .before .before .before .before .before .is-known .ensures)
-    (c .before .before .before .before .before .symbol-count .ensures ∙ ap (λ x. symbolCount (s .args .shape .size) x) (c .before .before .before .before .before .before .load-u16 .ensures))
-    (sym (c .before .before .before .before .before .before .before .before .before .before .before .before .before .before .is-marked .ensures) ∙ not-false (c .before .before .before .before .before .before .before .before .before .before .before .before .before .before .is-marked .result) (c .before .before .before .before .before .before .before .before .before .before .before .before .before .if1 .left)) _ (c .before .before .set .ensures)
+    let p2 = c .before .before in
+    let p5 = p2 .before .before .before in
+    let p6 = p5 .before in
+    let p8 = p6 .before .before in
+    let p9 = p8 .before in
+    let p10 = p9 .before in
+    let p12 = p10 .before .before in
+    let p13 = p12 .before in
+    let p14 = p13 .before in
+    let p16 = p14 .before .before in
+    let p17 = p16 .before in
+    step-near _ _ _ (p17 .args .i) _ _ (omega arith) (p12 .row-of .ensures .0) _ _ _ (p17 .pre .0) (λ i. p16 .slice-known .given i .fits)
+    (p8 .symbol-at .ensures .0) (p10 .is-known .result) (not-false (p10 .is-known .result) (p9 .if2 .left)) (p10 .is-known .ensures)
+    (p6 .load-u16 .ensures) (p5 .symbol-count .ensures)
+    (p14 .is-marked .result) (p14 .is-marked .ensures) (not-false (p14 .is-marked .result) (p13 .if1 .left)) _ (p2 .set .ensures)
 
 -- src/marks.rt:108:1
 same-length-4 : tie.Need-same-length-4
@@ -91,11 +104,20 @@ same-length-4 c = search needs
 -- src/marks.rt:108:1
 returns-4 : tie.Need-returns-4
 returns-4 c =
-    let s = c .before .before .before .before .before .before .before .before .before .before .before .before .before in
-    step-far _ _ _ (s .args .i) _ _ (omega arith) (c .before .before .before .before .before .before .before .before .row-of .ensures .0) _ _ (s .pre .0) (λ i. c .before .before .before .before .before .before .before .before .before .before .before .before .slice-known .given i .fits)
-    (c .before .before .before .before .symbol-at .ensures .0) (c .before .before .before .before .before .before .is-known .result) (not-false (c .before .before .before .before .before .before .is-known .result) (c .before .before .before .before .before .if2 .left)) (c .before .before .before .before .before .before .is-known .ensures)
-    (c .before .symbol-count .ensures ∙ ap (λ x. symbolCount (s .args .shape .size) x) (c .before .before .load-u16 .ensures))
-    (sym (c .before .before .before .before .before .before .before .before .before .before .is-marked .ensures) ∙ not-false (c .before .before .before .before .before .before .before .before .before .before .is-marked .result) (c .before .before .before .before .before .before .before .before .before .if1 .left)) (c .if3 .left)
+    let p1 = c .before in
+    let p2 = p1 .before in
+    let p4 = p2 .before .before in
+    let p5 = p4 .before in
+    let p6 = p5 .before in
+    let p8 = p6 .before .before in
+    let p9 = p8 .before in
+    let p10 = p9 .before in
+    let p12 = p10 .before .before in
+    let p13 = p12 .before in
+    step-far _ _ _ (p13 .args .i) _ _ (omega arith) (p8 .row-of .ensures .0) _ _ _ (p13 .pre .0) (λ i. p12 .slice-known .given i .fits)
+    (p4 .symbol-at .ensures .0) (p6 .is-known .result) (not-false (p6 .is-known .result) (p5 .if2 .left)) (p6 .is-known .ensures)
+    (p2 .load-u16 .ensures) (p1 .symbol-count .ensures)
+    (p10 .is-marked .result) (p10 .is-marked .ensures) (not-false (p10 .is-marked .result) (p9 .if1 .left)) (c .if3 .left)
 
 pub step-spec : {M : Type 1} → statement M
 step-spec =
