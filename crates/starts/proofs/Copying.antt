@@ -16,15 +16,16 @@ use Rattle.elimination.specs.Window.{stride, place, Fits}
 use Rattle.elimination.specs.RowSteps.{Zero-from}
 use Rattle.starts.specs.Adu.{allZero}
 use Rattle.starts.specs.HandSteps.{symbolPlace, text, SymbolAt, Spans}
-use Rattle.starts.proofs.Marking.{row-area}
+use Rattle.starts.proofs.Only.{row-area}
 use Rattle.starts.proofs.Texts.{text-length, text-place, text-rest, zero-test, symbol-ends}
 
 -- Where the code finds a symbol.
-pub symbol-found : (w E base i r : ℕ) → r < w → (w ≤ 255) × (E ≤ 1500) → r ≡ (base + i) % w → SymbolAt w E base i (64 + r * (w + E + 4) + w)
-symbol-found w E base i r h k e = record {
-  start = ap (λ x. place w E x + w) e;
-  end = omega (arith, row-fits w (stride w E) r h);
-  small = omega (arith, row-area w E r (omega arith) (omega arith) (omega arith));
+pub symbol-found : (w E base i r at : ℕ) → (w ≤ 255) × (E ≤ 1500) → r ≡ (base + i) % w → (at ≡ place w E r + w) × (at + E ≤ place w E w)
+    → SymbolAt w E base i at
+symbol-found w E base i r at h e k = record {
+  start = k .0 ∙ ap (λ x. place w E x + w) e;
+  end = k .1;
+  small = omega (arith, row-area w E w (omega arith) (omega arith) (omega arith));
 }
 
 module _ (w E d n L : ℕ) (z : 4 ≤ E) (s : Spans w E d n L) where

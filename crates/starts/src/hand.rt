@@ -13,14 +13,13 @@ use elimination::Shape;
 use elimination::place;
 use wire::Refusal;
 
-// Where the symbol of the i-th position of the window begins: after the coefficients of its row.
-fn symbol_at(shape: Shape, i: usize) -> usize
+// Where the symbol of the i-th position of the window begins.
+fn symbol_of(shape: Shape, i: usize) -> usize
     requires { ⌜ (shape .base < shape .width) × (i < shape .width) × (shape .width ≤ 255) × (shape .size ≤ 1500) ⌝ }
     ensures { λ at. ⌜ SymbolAt (shape .width) (shape .size) (shape .base) i at ⌝ }
 {
-    let w = shape.width;
     let r = marks::row_of(shape, i);
-    64 + r * (w + shape.size + 4) + w
+    marks::symbol_at(shape, r)
 }
 
 // Whether the `n` positions from the d-th on are all known. None past the window is.
@@ -46,7 +45,7 @@ fn is_padded(mem: &[u8], shape: Shape, d: usize, n: usize, len: usize) -> bool
     ensures { λ t. ⌜ t ≡ allZero (drop (3 + len) (text (shape .width) (shape .size) (shape .base) (now (mem .entry)) d n)) ⌝ }
 {
     let before = (n - 1) * shape.size;
-    let last = symbol_at(shape, d + (n - 1));
+    let last = symbol_of(shape, d + (n - 1));
     elimination::or_all(mem, last + (3 + len - before), last + shape.size) == 0
 }
 
@@ -69,7 +68,7 @@ fn copy_adu(mem: &[u8], shape: Shape, d: usize, n: usize, len: usize, out: &mut 
     let mut skip: usize = 3;
     for i in 0..n {
         let k = least(shape.size - skip, len - at);
-        let from = symbol_at(shape, d + i);
+        let from = symbol_of(shape, d + i);
         memory::copy_part(out, at, mem, from + skip, k);
         at = at + k;
         skip = 0;
@@ -88,7 +87,7 @@ pub fn hand_out(mem: &[u8], shape: Shape, d: usize, out: &mut [u8]) -> Handed
     if !place::is_known(mem, shape, r) {
         return Handed::Withheld(Refusal::Unknown);
     }
-    let at = symbol_at(shape, d);
+    let at = symbol_of(shape, d);
     let len = memory::load_u16(mem, at + 1) as usize;
     let n = wire::symbol_count(shape.size, len);
     if shape.width < n {

@@ -32,7 +32,7 @@ fn mark_at(shape: Shape, i: usize) -> usize
 }
 
 // Where the symbol of the row `r` begins.
-fn symbol_at(shape: Shape, r: usize) -> usize
+pub fn symbol_at(shape: Shape, r: usize) -> usize
     requires { ⌜ (r < shape .width) × (shape .width ≤ 255) × (shape .size ≤ 1500) ⌝ }
     ensures { λ at. ⌜ (at ≡ place (shape .width) (shape .size) r + shape .width)
         × (at + shape .size ≤ place (shape .width) (shape .size) (shape .width)) ⌝ }

@@ -35,11 +35,11 @@ sub-least-2 c = omega (arith, c .before .before .loop .inv .1 .most)
 least-requires : tie.Need-least-requires Inv-loop μ-loop
 least-requires c κs = search needs
 
-add-symbol-at : tie.Need-add-symbol-at Inv-loop μ-loop
-add-symbol-at c = search needs
+add-symbol-of : tie.Need-add-symbol-of Inv-loop μ-loop
+add-symbol-of c = search needs
 
-symbol-at-requires : tie.Need-symbol-at-requires Inv-loop μ-loop
-symbol-at-requires c κs =
+symbol-of-requires : tie.Need-symbol-of-requires Inv-loop μ-loop
+symbol-of-requires c κs =
     let a = c .before .before .before .before .before .before .args in
     let s = a .shape in
     let z = c .before .before .before .before .before .before .pre .0 .some-symbol in
@@ -47,7 +47,7 @@ symbol-at-requires c κs =
     (search needs, omega (arith, k .within), search needs, search needs)
 
 add-copy-part : tie.Need-add-copy-part Inv-loop μ-loop
-add-copy-part c = omega (arith, c .before .symbol-at .ensures .small, c .before .before .before .before .before .loop .inv .1 .skips)
+add-copy-part c = omega (arith, c .before .symbol-of .ensures .small, c .before .before .before .before .before .loop .inv .1 .skips)
 
 copy-part-requires : tie.Need-copy-part-requires Inv-loop μ-loop
 copy-part-requires c κs =
@@ -62,7 +62,7 @@ copy-part-requires c κs =
         c .before .before .least .ensures,
         c .before .before .before .before .before .loop .inv .1 .most,
       ),
-      omega (arith, c .before .symbol-at .ensures .end, c .before .before .before .before .before .before .before .before .pre .0 .room, c .before .before .least .ensures, c .before .before .before .before .before .loop .inv .1 .skips),
+      omega (arith, c .before .symbol-of .ensures .end, c .before .before .before .before .before .before .before .before .pre .0 .room, c .before .before .least .ensures, c .before .before .before .before .before .loop .inv .1 .skips),
     )
 
 add-at : tie.Need-add-at Inv-loop μ-loop
@@ -82,7 +82,7 @@ loop-again c =
     let k = c .before .before .before .before .before .before .before .before .before .before .before .pre .2 in (
       search needs,
       copied-more (s .width) (s .size) (s .base) (a .d) (a .n) (a .len) (c .before .before .before .before .before .before .before .before .loop .i) (c .before .before .before .before .before .before .before .before .loop .at) (c .before .before .before .before .before .before .before .before .loop .skip) (a .mem .now) (a .out .now) (c .before .before .before .before .before .before .before .before .loop .out)
-          (c .before .before .before .before .before .before .before .before .before .before .before .pre .0) k (c .before .before .before .before .before .before .before .before .before .before .before .pre .3) (c .before .before .before .before .before .before .before .before .loop .inv .1) (omega arith) (c .before .before .before .before .before .least .result) (c .before .before .before .before .before .least .ensures) (c .before .before .before .before .symbol-at .result) (c .before .before .before .before .symbol-at .ensures .start) _ (c .before .before .copy-part .ensures),
+          (c .before .before .before .before .before .before .before .before .before .before .before .pre .0) k (c .before .before .before .before .before .before .before .before .before .before .before .pre .3) (c .before .before .before .before .before .before .before .before .loop .inv .1) (omega arith) (c .before .before .before .before .before .least .result) (c .before .before .before .before .before .least .ensures) (c .before .before .before .before .symbol-of .result) (c .before .before .before .before .symbol-of .ensures .start) _ (c .before .before .copy-part .ensures),
     )
 
 same-length : tie.Need-same-length Inv-loop μ-loop
@@ -113,8 +113,8 @@ copy-adu-spec =
     sub-least
     sub-least-2
     least-requires
-    add-symbol-at
-    symbol-at-requires
+    add-symbol-of
+    symbol-of-requires
     add-copy-part
     copy-part-requires
     add-at

@@ -22,19 +22,19 @@ mul-before c =
     let k = c .before .before .pre .2 in
     omega (arith, span-start (s .width) (s .size) (a .d) (a .n) (a .len) z k (a .n - 1) (omega (arith, span-some (s .width) (s .size) (a .d) (a .n) (a .len) z k)), k .short)
 
-sub-symbol-at : tie.Need-sub-symbol-at
-sub-symbol-at c =
+sub-symbol-of : tie.Need-sub-symbol-of
+sub-symbol-of c =
     let a = c .before .before .args in
     let s = a .shape in
     let z = c .before .before .pre .0 .some-symbol in
     let k = c .before .before .pre .2 in
     omega (arith, span-some (s .width) (s .size) (a .d) (a .n) (a .len) z k)
 
-add-symbol-at : tie.Need-add-symbol-at
-add-symbol-at c = search needs
+add-symbol-of : tie.Need-add-symbol-of
+add-symbol-of c = search needs
 
-symbol-at-requires : tie.Need-symbol-at-requires
-symbol-at-requires c κs =
+symbol-of-requires : tie.Need-symbol-of-requires
+symbol-of-requires c κs =
     let a = c .before .before .args in
     let s = a .shape in
     let z = c .before .before .pre .0 .some-symbol in
@@ -64,7 +64,7 @@ or-all-requires c κs =
     let s = a .shape in
     let z = c .before .before .before .before .pre .0 .some-symbol in
     let k = c .before .before .before .before .pre .2 in
-    (omega (arith, span-last (s .width) (s .size) (a .d) (a .n) (a .len) z k), omega (arith, c .before .symbol-at .ensures .end, c .before .before .before .before .pre .0 .room))
+    (omega (arith, span-last (s .width) (s .size) (a .d) (a .n) (a .len) z k), omega (arith, c .before .symbol-of .ensures .end, c .before .before .before .before .pre .0 .room))
 
 returns : tie.Need-returns
 returns c =
@@ -72,8 +72,8 @@ returns c =
     let s = a .shape in
     let z = c .before .before .before .before .before .pre .0 .some-symbol in
     let k = c .before .before .before .before .before .pre .2 in
-    padding-test (s .width) (s .size) (s .base) (a .d) (a .n) (a .len) (a .mem .now) (c .before .before .before .before .before .pre .0) k (c .before .before .symbol-at .result) (c .or-all .result)
-    (c .before .before .symbol-at .ensures .start) (c .or-all .ensures)
+    padding-test (s .width) (s .size) (s .base) (a .d) (a .n) (a .len) (a .mem .now) (c .before .before .before .before .before .pre .0) k (c .before .before .symbol-of .result) (c .or-all .result)
+    (c .before .before .symbol-of .ensures .start) (c .or-all .ensures)
 
 pub is-padded-spec : {M : Type 1} → statement M
 is-padded-spec =
@@ -81,9 +81,9 @@ is-padded-spec =
     (tie.spec
     sub-before
     mul-before
-    sub-symbol-at
-    add-symbol-at
-    symbol-at-requires
+    sub-symbol-of
+    add-symbol-of
+    symbol-of-requires
     add-or-all
     sub-or-all
     add-or-all-2
