@@ -28,7 +28,7 @@ sub-least : tie.Need-sub-least Inv-loop μ-loop
 sub-least c = omega (arith, c .before .before .loop .inv .1 .skips, c .before .before .before .before .before .pre .0 .some-symbol)
 
 sub-least-2 : tie.Need-sub-least-2 Inv-loop μ-loop
-sub-least-2 c = omega (arith, c .before .before .loop .inv .1 .most)
+sub-least-2 c = omega (arith, c .before .before .loop .inv .1 .most, same (c .before .before), c .before .before .before .before .before .pre .3)
 
 symbol-of-requires : tie.Need-symbol-of-requires Inv-loop μ-loop
 symbol-of-requires c κs = (search needs, omega (arith, c .before .before .before .before .before .before .pre .2 .within), search needs, search needs)
