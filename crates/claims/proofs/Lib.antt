@@ -1,6 +1,7 @@
 -- The modules of the proofs.
 pub mod Symbols
 pub mod Sending
+pub mod Adus
 pub mod Carrying
 pub mod Demand
 pub mod Reading
