@@ -1,8 +1,8 @@
 -- The symbols of an ADU give its flow and the ADU; its first symbol gives its length.
 use mathlib.Core.Path.{_≡_, refl, sym, ap, _∙_}
 use mathlib.Core.List.{List, [], _∷_, _++_}
-use Prim.Native.Nat.{ℕ, zero, suc, _+_, _-_, _*_, _≤_, _<_}
-use native.Mathlib.Nat.{le-of-eq, suc-mul, zero-mul}
+use Prim.Native.Nat.{ℕ, zero, suc, _+_, _*_, _≤_, _<_}
+use native.Mathlib.Nat.{suc-mul, zero-mul}
 use native.Mathlib.Omega.{arith}
 use lib.ListN.{length, take, drop, getD, length-drop, take-append-drop}
 use lib.Seq.{take-append-seam}
@@ -10,7 +10,7 @@ use Rattle.memory.specs.Part.{part}
 use Rattle.memory.proofs.Number.{number-bytes}
 use Rattle.wire.specs.Packets.{joined, chunks, symbolCount, adui, sourceSymbols}
 use Rattle.wire.proofs.Adui.{room, length-adui, symbol-first, symbol-at}
-use Rattle.starts.specs.Adu.{lengthIn, needs}
+use Rattle.starts.specs.Adu.{lengthIn}
 
 joined-chunks : (n E : ℕ) (m : List ℕ) → length m ≡ n * E → joined (chunks n E m) ≡ m
 joined-chunks zero E [] e = refl

@@ -6,6 +6,7 @@ pub mod Carrying
 pub mod Demand
 pub mod Reading
 pub mod Sent
+pub mod SentAdus
 pub mod NotEmpty
 pub mod ReceiverUnopened
 pub mod Receiver

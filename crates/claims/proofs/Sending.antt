@@ -202,13 +202,14 @@ opened-holds t m m′ r (done p s) e f a = go (settingOf (schemeNumber (t .schem
         let g : fresh t ≡ s = cc in
         rw g (f .holds)
 
-pub sender-symbols : Sender-symbols
-sender-symbols t l r =
-    let h = opened-holds t (r .before) (r .after) (r .answer) _ refl (r .opened) (r .answered) in
-    are-symbols (t .size) (omega (arith, opened (r .after) (headerOf (fresh t)) (h .header) .valid .size-least)) (r .after) l (r .calls)
-
 run-holds : (t : Setting) (l : List SenderCall) (r : SenderRun t l) → Holds (r .after) (fresh t)
 run-holds t l r = opened-holds t (r .before) (r .after) (r .answer) _ refl (r .opened) (r .answered)
+
+pub run-size : (t : Setting) (l : List SenderCall) → SenderRun t l → 4 ≤ t .size
+run-size t l r = opened (r .after) (headerOf (fresh t)) (run-holds t l r .header) .valid .size-least
+
+pub sender-symbols : Sender-symbols
+sender-symbols t l r = are-symbols (t .size) (omega (arith, run-size t l r)) (r .after) l (r .calls)
 
 pub sender-sends : Sender-sends
 sender-sends t l r = sends t l [] l (r .after) refl (run-holds t l r) (r .calls)

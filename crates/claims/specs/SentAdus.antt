@@ -1,12 +1,12 @@
 -- A sender's ADUs at the receiver: what is handed out at the start of one, and that packets of the sender's alone mark no other position.
 use mathlib.Core.Path.{_≡_}
 use mathlib.Core.List.{List, [], _∷_, _++_}
-use Prim.Native.Nat.{ℕ, _+_, _%_, _^_}
-use lib.ListN.{length}
+use Prim.Native.Nat.{ℕ, _+_, _%_, _^_, _≤_}
+use lib.ListN.{length, take, drop}
 use Rattle.wire.specs.declared.Scheme.{Scheme}
 use Rattle.wire.specs.declared.Setting.{Setting}
 use Rattle.wire.specs.Settings.{Valid}
-use Rattle.wire.specs.Packets.{sourcePacket}
+use Rattle.wire.specs.Packets.{symbolCount, sourceSymbols, sourcePacket}
 use Rattle.sender.specs.declared.Answer.the-variants.{Done}
 use Rattle.receiver.specs.History.{Filling, Located, All, Log, fresh, baseOf, IsValue, logged, Start}
 use Rattle.receiver.specs.Promises.{said}
@@ -55,6 +55,14 @@ Start-gives =
     → Carries (s .size) offset (symbolsOf (s .size) l) f
     → (p flow : ℕ) (adu : List ℕ) → HoldsAdu s qs base p flow adu
     → (flow′ : ℕ) (adu′ : List ℕ) → Begins (s .size) l (p + offset) flow′ adu′ → (flow ≡ flow′) × (adu ≡ adu′)
+
+-- At any other position too, what is handed out is the sender's symbols that lie there. So where a chain of starts began on other bytes than a sender's
+-- ADU, it can give the sender's bytes cut at a wrong place, with the flow and length that they happen to spell there; it can't give any other bytes.
+abbrev pub Junk-gives : Type 0
+Junk-gives =
+    (s : Setting) (qs : List Located) (base offset : ℕ) (all : List (List ℕ)) (f : Filling (s .size)) → All (s .size) qs f → Carries (s .size) offset all f
+    → (p flow : ℕ) (adu : List ℕ) → HoldsAdu s qs base p flow adu → p + offset + symbolCount (s .size) (length adu) ≤ length all
+    → sourceSymbols flow adu (s .size) ≡ take (symbolCount (s .size) (length adu)) (drop (p + offset) all)
 
 -- All packets that the list accepts are this sender's, and stood less than 2^31 positions from base on arrival.
 module _ (s : Setting) (l : List SenderCall) where
