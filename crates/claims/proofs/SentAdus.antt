@@ -37,12 +37,16 @@ use Rattle.claims.proofs.Sent.{found-again, written-satisfied, peer-siz
 pub junk-gives : Junk-gives
 junk-gives s qs base offset all f a c p flow adu h n = sym (h .held f a) ∙ carried-stretch (s .size) offset all f c p (symbolCount (s .size) (length adu)) n
 
--- The symbol at a position from which a filling holds an ADU has the ADU's length.
+-- Where a filling holds an ADU from a position on, its first symbol stands there, and says its length.
+first-here : (E : ℕ) → 0 < E → (f : Filling E) (p flow : ℕ) (adu : List ℕ)
+    → symbolsAt E f p (symbolCount E (length adu)) ≡ sourceSymbols flow adu E → bytesOf E (f p) ≡ getD (sourceSymbols flow adu E) 0 []
+first-here E z f p flow adu e =
+    ap (λ q. bytesOf E (f q)) (sym (add-zero p)) ∙ sym (getD-at E f p (symbolCount E (length adu)) 0 (some-symbol E (length adu) z))
+    ∙ ap (λ (l : List (List ℕ)). getD l 0 []) e
+
 length-here : (E : ℕ) → 4 ≤ E → (f : Filling E) (p flow : ℕ) (adu : List ℕ) → length adu ≤ 65535
     → symbolsAt E f p (symbolCount E (length adu)) ≡ sourceSymbols flow adu E → lengthIn (bytesOf E (f p)) ≡ length adu
-length-here E z f p flow adu h e =
-    let first = getD-at E f p (symbolCount E (length adu)) 0 (some-symbol E (length adu) (omega arith)) in
-    ap lengthIn (ap (λ q. bytesOf E (f q)) (sym (add-zero p)) ∙ sym first ∙ ap (λ (l : List (List ℕ)). getD l 0 []) e) ∙ length-first flow adu E z h
+length-here E z f p flow adu h e = ap lengthIn (first-here E (omega arith) f p flow adu e) ∙ length-first flow adu E z h
 
 -- A filling that holds two ADUs from one position on holds one.
 one-adu : (E : ℕ) → 4 ≤ E → (f : Filling E) (p flow flow′ : ℕ) (adu adu′ : List ℕ) → length adu ≤ 65535 → length adu′ ≤ 65535
@@ -150,3 +154,81 @@ module _ (t s : Setting) (l : List SenderCall) (k : Peers t s l) where
     reached : (Already : ℕ → Type 0) → ((x : ℕ) → Already x → Boundary E l x) → (p : ℕ) → Reached s qs Already p → Boundary E l p
     reached Already h p (already a m) = h p a
     reached Already h p (later {p = q} r w known f a m) = next q (reached Already h q r) known f a
+
+    -- An ADU that every filling holds from a boundary on begins there.
+    held-begins : (p : ℕ) → Boundary E l p → (base flow : ℕ) (adu : List ℕ) → HoldsAdu s qs base p flow adu → Begins E l p flow adu
+    held-begins p b base flow adu h = go (begins-or-ends E l p (b .before) (b .after) (b .split) (b .place))
+      where
+        bytes : (f : Filling E) → All E qs f → bytesOf E (f p) ≡ getD (sourceSymbols flow adu E) 0 []
+        bytes f a = first-here E (omega (arith, peer-size t s l k)) f p flow adu (h .held f a)
+
+        go : ((flow′ : ℕ) × (adu′ : List ℕ) × Begins E l p flow′ adu′) ⊎ (p ≡ length all) → Begins E l p flow adu
+        go (inr e) =
+            absurd (end-unknown p e (λ f g a c. sym (symbol-bytes E (f p)) ∙ ap (symbolOf E) (bytes f a ∙ sym (bytes g c)) ∙ symbol-bytes E (g p)))
+        go (inl (flow′, adu′, g)) =
+            let c = ends .one in
+            let here = begun-held E l 0 c (ends .one-carries) p flow′ adu′ (subst (λ i. Begins E l i flow′ adu′) (sym (add-zero p)) g) in
+            let (e, d) = one-adu E (peer-size t s l k) c p flow flow′ adu adu′ (h .long) (short p flow′ adu′ g) (h .held c (filled c (ends .one-carries))) here in
+            rw (e, d) g
+
+  -- ---- The list
+
+  -- A packet that the sender's symbols satisfy and that names boundaries only.
+  record Keeps (q : Located) : Type 0 where
+    satisfied : (f : Filling E) → Carries E 0 all f → Satisfied E q f
+    names : (p : ℕ) → Named s q p → Boundary E l p
+
+  -- Of a log whose packets are all so: they are satisfied, and every start is a boundary.
+  record Kept (g : Log) : Type 0 where
+    filled : (f : Filling E) → Carries E 0 all f → All E (g .accepted) f
+    starts : (p : ℕ) → Start s (g .accepted) p → Boundary E l p
+
+  sent-names : (x : Packet) (p : ℕ) → Sent scheme E l x p → (base : ℕ) → Near p base → (q : Located) → readPacket s base (callOf x) ≡ located q
+      → (i : ℕ) → Named s q i → Boundary E l i
+  sent-names x p (sent-source {flow = flow} {adu = adu} b) base near q h i =
+      let r = source-read s base flow _ q h in
+      let esi-is = source-esi adu (p % 2 ^ 32) (mod-lt p (lit< tt)) in
+      let here = found-again p base (near .ahead) (near .behind) (rw esi-is at (r .near)) in
+      subst (λ y. Named s y i → Boundary E l i) (r .says)
+      (rw (esi-is, source-adu adu (p % 2 ^ 32), here) (λ n. go n))
+    where
+      go : (i ≡ p) ⊎ (i ≡ p + length (sourceSymbols flow adu E)) → Boundary E l i
+      go (inl e) = subst (Boundary E l) (sym e) (begun-boundary E l p flow adu b)
+      go (inr e) = subst (Boundary E l) (sym (e ∙ ap (λ (n : ℕ). p + n) (symbols-count flow adu E))) (end-boundary E l p flow adu b)
+  sent-names x p (sent-repair w) base near q h i = subst (λ y. Named s y i → Boundary E l i) (repair-read s base _ q h .says) (λ n. absurd n)
+
+  logged-kept : (g : Log) (r : Reading) (a : Said) → ((q : Located) → r ≡ located q → IsValue a → Keeps q) → Kept g → Kept (logged s g r a)
+  logged-kept g (fails m) a h w = w
+  logged-kept g (located q) (refusal m) h w = w
+  logged-kept g (located q) (value n) h w =
+      let y = h q refl tt in
+      let z : (f : Filling E) → Carries E 0 all f → All E (q ∷ g .accepted) f = λ f c. (y .satisfied f c, w .filled f c) in
+      record { filled = z; starts = reached (q ∷ g .accepted) z (λ x. Start s (g .accepted) x ⊎ Named s q x) go }
+    where
+      go : (x : ℕ) → Start s (g .accepted) x ⊎ Named s q x → Boundary E l x
+      go x (inl d) = w .starts x d
+      go x (inr d) = h q refl tt .names x d
+
+  kept : (ts : List Step) (g : Log) → AsSent s l g ts → Kept g → Kept (goes-on s g ts)
+  kept [] g a w = w
+  kept (x ∷ xs) g a w =
+      kept xs _ (a .1)
+      (logged-kept g (read s g x) (said (x .answer))
+      (λ q e v.
+      let (y, p, i, o, near) = a .0 v in
+      let h = ap (readPacket s (baseOf g)) i ∙ reading-passed s (baseOf g) (length (x .working)) (x .call) q e in
+      record {
+        satisfied = λ f c. written-satisfied s (omega (arith, peer-size t s l k)) all y p (wrote y p o) (baseOf g) near q h f c;
+        names = sent-names y p o (baseOf g) near q h;
+      }) w)
+
+  fresh-kept : Kept fresh
+  fresh-kept = record { filled = λ f c. tt; starts = λ p e. record { before = []; after = l; split = refl; place = e } }
+
+pub sent-starts : Sent-starts
+sent-starts t s l k v ts a = kept t s l k ts fresh a (fresh-kept t s l k) .starts
+
+pub sent-handed : Sent-handed
+sent-handed t s l k v ts a p flow adu start h =
+    let w = kept t s l k ts fresh a (fresh-kept t s l k) in
+    held-begins t s l k (history s ts .accepted) (w .filled) p (w .starts p start) (baseOf (history s ts)) flow adu h
