@@ -1,11 +1,11 @@
 -- A filling that carries a list of symbols holds every stretch of them; and there is one.
-use mathlib.Core.Path.{_≡_, refl, sym, ap, ap₂, _∙_, subst}
+use mathlib.Core.Path.{_≡_, sym, ap, _∙_, subst}
 use mathlib.Core.List.{List, [], _∷_, _++_, append-nil}
-use Prim.Native.Nat.{ℕ, zero, suc, _+_, _-_, _≤_, _<_}
-use native.Mathlib.Nat.{add-zero, add-suc, suc-add, zero-add, add-comm}
+use Prim.Native.Nat.{ℕ, zero, suc, _+_, _≤_, _<_}
+use native.Mathlib.Nat.{zero-add, add-comm}
 use native.Mathlib.Omega.{arith}
-use lib.ListN.{length, getD, take, drop, length-take, length-drop, List·getD-append}
-use lib.Seq.{getD-take, getD-drop, getD-append-seam, ext-getD}
+use lib.ListN.{length, getD, take, drop, length-append, length-take, length-drop, List·getD-append}
+use lib.Seq.{take-append-seam, drop-at, getD-take, getD-drop, getD-append-seam, ext-getD}
 use Rattle.receiver.specs.Symbol.{bytesOf, symbolOf}
 use Rattle.receiver.specs.History.{Filling, symbolsAt}
 use Rattle.receiver.proofs.Says.{Wholes, length-at, getD-at, holds}
@@ -29,31 +29,13 @@ carried-stretch E offset all f c p n h =
     getD-at E f p n i (omega arith) ∙ carried E offset all f c (p + i) (omega arith)
     ∙ sym (getD-take n (drop (p + offset) all) i [] (omega arith) ∙ getD-drop (p + offset) all i [] ∙ ap (λ j. getD all j []) (omega arith)))
 
-abbrev head : List (List ℕ) → List ℕ
-head [] = []
-head (v ∷ vs) = v
-
-abbrev rest : List (List ℕ) → List (List ℕ)
-rest [] = []
-rest (v ∷ vs) = vs
-
-module _ (E : ℕ) (f : Filling E) where
-  later : (before ys : List (List ℕ)) (p : ℕ) → symbolsAt E f p (length (before ++ ys)) ≡ before ++ ys
-      → symbolsAt E f (p + length before) (length ys) ≡ ys
-  later [] ys p h = ap (λ q. symbolsAt E f q (length ys)) (add-zero p) ∙ h
-  later (x ∷ before) ys p h =
-      ap (λ q. symbolsAt E f q (length ys)) (add-suc p (length before) ∙ sym (suc-add p (length before))) ∙ later before ys (suc p) (ap rest h)
-
-  front : (ys after : List (List ℕ)) (p : ℕ) → symbolsAt E f p (length (ys ++ after)) ≡ ys ++ after → symbolsAt E f p (length ys) ≡ ys
-  front [] after p h = refl
-  front (y ∷ ys) after p h = ap₂ (λ (x : List ℕ) (l : List (List ℕ)). x ∷ l) (ap head h) (front ys after (suc p) (ap rest h))
-
-  -- A stretch of the symbols, at its positions.
-  pub stretch : (before ys after all : List (List ℕ)) → all ≡ before ++ (ys ++ after) → Carries E 0 all f
-      → symbolsAt E f (length before) (length ys) ≡ ys
-  stretch before ys after all e c =
-      let whole : symbolsAt E f 0 (length (before ++ (ys ++ after))) ≡ before ++ (ys ++ after) = subst (λ l. symbolsAt E f 0 (length l) ≡ l) e c in
-      front ys after (length before) (subst (λ q. symbolsAt E f q (length (ys ++ after)) ≡ ys ++ after) (zero-add (length before)) (later before (ys ++ after) 0 whole))
+pub stretch : (E offset : ℕ) (f : Filling E) (before ys after all : List (List ℕ)) → all ≡ before ++ (ys ++ after) → Carries E offset all f
+    → (p : ℕ) → p + offset ≡ length before → symbolsAt E f p (length ys) ≡ ys
+stretch E offset f before ys after all e c p o =
+    let n : length all ≡ length before + (length ys + length after)
+    = ap length e ∙ length-append before (ys ++ after) ∙ ap (λ (i : ℕ). length before + i) (length-append ys after) in
+    carried-stretch E offset all f c p (length ys) (omega arith)
+    ∙ rw (e, drop-at before (ys ++ after) (p + offset) (sym o), take-append-seam ys after)
 
 -- The filling of a list of symbols.
 abbrev pub filler : (E : ℕ) → List (List ℕ) → Filling E

@@ -92,7 +92,8 @@ module _ (t : Setting) where
         holds = rw r (f .holds);
       }
 
-  added-refused : (xs : List (List ℕ)) (m out m′ out′ : List ℕ) (k : _) (o : Outcome) → Follows o m out (Refused k) m′ out′ → Holds m (holding xs) → Holds m′ (holding xs)
+  added-refused : (xs : List (List ℕ)) (m out m′ out′ : List ℕ) (k : _) (o : Outcome) → Follows o m out (Refused k) m′ out′ → Holds m (holding xs)
+      → Holds m′ (holding xs)
   added-refused xs m out m′ out′ k (refused j) f h = rw (f .memory) h
   added-refused xs m out m′ out′ k (done p s) f h = absurd (impossible (length p) _ (sym (f .answer)))
 
@@ -118,10 +119,12 @@ module _ (t : Setting) where
       let most : length (window x) ≤ 255 = simp length-drop (omega (arith, v .width-most)) in
       let start : length (take (windowStart x) xs) ≡ windowStart x = simp length-take (omega arith) in
       let packet : repairOf x written dt count ≡ take n out′ = q ∙ sym (front n p out out′ (f .answer) (f .output)) in
-      let from : ℕ → List ℕ = λ k. repairPacket written dt (length (window x)) (k % 2 ^ 32) (map (repairSymbol (t .scheme) dt (t .size) (window x)) (keys written count)) in
+      let symbols = map (repairSymbol (t .scheme) dt (t .size) (window x)) (keys written count) in
+      let from : ℕ → List ℕ = λ k. repairPacket written dt (length (window x)) (k % 2 ^ 32) symbols in
       let packet′ : from (length (take (windowStart x) xs)) ≡ take n out′ = ap from start ∙ packet in
       rw (← packet′)
-      (wrote-repair (take (windowStart x) xs) (window x) more written dt count (written-small (t .scheme) key dt h) (ltb-false 15 dt (r .0)) (omega arith) most (w .0) (w .1)
+      (wrote-repair (take (windowStart x) xs) (window x) more written dt count (written-small (t .scheme) key dt h) (ltb-false 15 dt (r .0))
+      (omega arith) most (w .0) (w .1)
       (not-false (allOk (t .scheme) dt (length (window x)) (keys written count)) (d .0))
       (rw (← append-assoc, take-append-drop)))
 
@@ -181,8 +184,8 @@ module _ (t : Setting) where
 
 -- ---- the opening
 
-opened-holds : (t : Setting) (m m′ : List ℕ) (r : Answer) (o : Outcome) → opening (schemeNumber (t .scheme)) (t .size) (t .width) (length m) ≡ o → Follows o m [] r m′ []
-    → said r ≡ bytes 0 → Holds m′ (fresh t)
+opened-holds : (t : Setting) (m m′ : List ℕ) (r : Answer) (o : Outcome) → opening (schemeNumber (t .scheme)) (t .size) (t .width) (length m) ≡ o
+    → Follows o m [] r m′ [] → said r ≡ bytes 0 → Holds m′ (fresh t)
 unfolding opening
 opened-holds t m m′ r (refused k) e f a = absurd (impossible 0 k (sym a ∙ f .answer))
 opened-holds t m m′ r (done p s) e f a = go (settingOf (schemeNumber (t .scheme)) (t .size) (t .width)) refl

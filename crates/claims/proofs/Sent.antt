@@ -72,7 +72,7 @@ module _ (s : Setting) (z : 0 < s .size) (all : List (List ℕ)) where
       let esi-is = source-esi adu (p % 2 ^ 32) (mod-lt p (lit< tt)) in
       let here = found-again p base (n .ahead) (n .behind) (rw esi-is at (r .near)) in
       subst (λ x. Satisfied E x f) (r .says)
-      (rw (esi-is, source-adu adu (p % 2 ^ 32), here) (stretch E f before (sourceSymbols flow adu E) after all e c))
+      (rw (esi-is, source-adu adu (p % 2 ^ 32), here) (stretch E 0 f before (sourceSymbols flow adu E) after all e c p (add-zero p)))
 
   repair-satisfied : (before window after : List (List ℕ)) (key dt count : ℕ) → key < 2 ^ 16 → dt ≤ 15 → length window ≤ 255
       → all ≡ before ++ (window ++ after) → (base : ℕ) → Near (length before) base → (q : Located)
@@ -95,7 +95,8 @@ module _ (s : Setting) (z : 0 < s .size) (all : List (List ℕ)) where
         repair-symbols key dt m (p % 2 ^ 32) E xs (repairs-sized window key dt count) z,
         repairs-count window key dt count,
       )
-      (ap (λ (x : List (List ℕ)). map (λ (l : List ℕ). combination E l x) (listsOf scheme dt m (keys key count))) (stretch E f before window after all e c)
+      (ap (λ (x : List (List ℕ)). map (λ (l : List ℕ). combination E l x) (listsOf scheme dt m (keys key count)))
+      (stretch E 0 f before window after all e c p (add-zero p))
       ∙ repairs-combine window dt (keys key count)))
 
   pub written-satisfied : (x : Packet) (p : ℕ) → Wrote scheme E all x p → (base : ℕ) → Near p base → (q : Located) → readPacket s base (callOf x) ≡ located q
@@ -140,7 +141,8 @@ module _ (s : Setting) (z : 0 < s .size) (all : List (List ℕ)) where
       let n = protected-count key dt m (length before % 2 ^ 32) xs (omega arith) (omega arith) in
       let g = reads s w base room d enough (omega arith) .repairs key dt m xs i j u (omega (arith, n)) (repairs-sized window key dt count)
       (omega (arith, many)) (omega (arith, many)) (rw many ok) .taken (omega arith) (omega (arith, n)) in
-      (_, subst (λ y. reading s base room (repair-call (repairPacket key dt m (y % 2 ^ 32) xs)) ≡ located (repair y m (listsOf scheme dt m (keys key (length xs))) xs)) here g)
+      let lists = listsOf scheme dt m (keys key (length xs)) in
+      (_, subst (λ y. reading s base room (repair-call (repairPacket key dt m (y % 2 ^ 32) xs)) ≡ located (repair y m lists xs)) here g)
 
 pub sender-fills : Sender-fills
 sender-fills s v all ts w f c = filled s (omega (arith, v .size-least)) all ts fresh w f c tt
@@ -173,8 +175,9 @@ sent-accepted t s l k v ts w x p o a b c room enough r j =
     let base = baseOf (history s ts) in
     let (q, e) = read-ahead s z (all t s l k) x p o base a b c v room enough in
     let near : Near p base = record { ahead = omega arith; behind = omega arith } in
-    j .accepted .1
-    (q, e, (f t s l k, (written-satisfied s z (all t s l k) x p o base near q (reading-passed s base room (callOf x) q e) (f t s l k) (carries t s l k), accepted t s l k ts w)))
+    let h = reading-passed s base room (callOf x) q e in
+    let sat = written-satisfied s z (all t s l k) x p o base near q h (f t s l k) (carries t s l k) in
+    j .accepted .1 (q, e, (f t s l k, (sat, accepted t s l k ts w)))
 
 pub sent-shown : (L : Layout) → Sent-shown L
 sent-shown L t s l k ts m d w i h n a p e memory part g q =

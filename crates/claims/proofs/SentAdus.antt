@@ -2,34 +2,34 @@
 use mathlib.Core.Path.{_≡_, refl, sym, ap, _∙_, subst}
 use mathlib.Core.Logic.{_⊎_, inl, inr}
 use mathlib.Core.List.{List, [], _∷_, _++_, append-nil}
-use Prim.Native.Nat.{ℕ, zero, suc, _+_, _%_, _^_, _≤_, _<_}
+use Prim.Native.Nat.{ℕ, _+_, _%_, _^_, _≤_, _<_}
 use native.Mathlib.Nat.{add-zero, mod-lt}
 use native.Mathlib.Omega.{arith}
 use lib.Dec.{lit<}
-use lib.ListN.{length, take, drop, getD, length-append}
-use lib.Seq.{append-snoc, take-append-seam, drop-at}
+use lib.ListN.{length, getD, length-append}
+use lib.Seq.{append-snoc}
 use Rattle.wire.specs.declared.Setting.{Setting}
-use Rattle.wire.specs.Settings.{Valid}
-use Rattle.wire.specs.Packets.{symbolCount, sourceSymbols, sourcePacket}
+use Rattle.wire.specs.Packets.{symbolCount, sourceSymbols}
 use Rattle.wire.proofs.Adui.{symbols-count}
 use Rattle.wire.proofs.Reading.{source-adu, source-esi}
 use Rattle.starts.specs.Adu.{lengthIn, needs}
 use Rattle.sender.specs.declared.Answer.the-variants.{Done, Refused}
 use Rattle.receiver.specs.Symbol.{bytesOf, symbolOf}
-use Rattle.receiver.specs.History.{Filling, symbolsAt, Located, Satisfied, All, Known, source-call, Reading, fails, located, readPacket}
+use Rattle.receiver.specs.History.{Filling, symbolsAt, Located, Satisfied, All, Known, Reading, fails, located, readPacket}
 use Rattle.receiver.specs.History.{Log, fresh, baseOf, Said, value, refusal, IsValue, logged, Named, Reached, already, later, Start}
 use Rattle.receiver.specs.Promises.{said}
 use Rattle.receiver.proofs.Says.{symbol-bytes, getD-at}
 use Rattle.receiver.proofs.Readings.{source-read, repair-read, reading-passed}
-use Rattle.claims.specs.SenderRun.{SenderCall, added, repaired, symbolsOf, AreSymbols, Packet, source, repair, Wrote}
+use Rattle.claims.specs.SenderRun.{SenderCall, added, repaired, symbolsOf, Packet, Wrote}
 use Rattle.claims.specs.Run.{Step, read, goes-on, history}
 use Rattle.claims.specs.Carrying.{Carries}
 use Rattle.claims.specs.Handing.{HoldsAdu}
 use Rattle.claims.specs.Sent.{callOf, Near, AsWritten, Peers}
-use Rattle.claims.specs.SentAdus.{Begins, Boundary, Sent, sent-source, sent-repair, AsSent, Start-gives, Junk-gives, Sent-starts, Sent-handed}
+use Rattle.claims.specs.SentAdus.{Begins, Boundary, Sent, sent-source, sent-repair, AsSent}
+use Rattle.claims.specs.SentAdus.{Start-gives, Junk-gives, Sent-written, Sent-starts, Sent-handed}
 use Rattle.claims.proofs.Sending.{symbols-append, begun, begun-symbols, sent-wrote}
 use Rattle.claims.proofs.Adus.{some-symbol, length-first, same-adu}
-use Rattle.claims.proofs.Carrying.{carried-stretch, Differ, differ}
+use Rattle.claims.proofs.Carrying.{carried-stretch, stretch, Differ, differ}
 use Rattle.claims.proofs.Sent.{found-again, written-satisfied, peer-size, peer-symbols}
 
 -- ---- What is handed out at a position
@@ -60,22 +60,9 @@ one-adu E z f p flow flow′ adu adu′ h h′ e e′ =
 begun-held : (E : ℕ) (l : List SenderCall) (offset : ℕ) (f : Filling E) → Carries E offset (symbolsOf E l) f
     → (p flow : ℕ) (adu : List ℕ) → Begins E l (p + offset) flow adu → symbolsAt E f p (symbolCount E (length adu)) ≡ sourceSymbols flow adu E
 begun-held E l offset f c p flow adu b =
-    let xs = symbolsOf E (b .before) in
     let ys = sourceSymbols flow adu E in
-    let zs = symbolsOf E (b .after) in
-    let e : symbolsOf E l ≡ xs ++ (ys ++ zs) = begun-symbols E l (p + offset) flow adu b in
-    let n : length ys ≡ symbolCount E (length adu) = symbols-count flow adu E in
-    let o : p + offset ≡ length xs = b .place in
-    let k : length (symbolsOf E l) ≡ length xs + (length ys + length zs)
-    = ap length e ∙ length-append xs (ys ++ zs) ∙ ap (λ (i : ℕ). length xs + i) (length-append ys zs) in
-    ap (symbolsAt E f p) (sym n) ∙ carried-stretch E offset (symbolsOf E l) f c p (length ys) (omega arith)
-    ∙ rw (e, drop-at xs (ys ++ zs) (p + offset) (sym o), take-append-seam ys zs)
-
-pub start-gives : Start-gives
-start-gives t s l k qs base offset f a c p flow adu h flow′ adu′ b =
-    let E = s .size in
-    let g = begun t l (k .run) (p + offset) flow′ adu′ (subst (λ n. Begins n l (p + offset) flow′ adu′) (sym (k .size)) b) in
-    one-adu E (peer-size t s l k) f p flow flow′ adu adu′ (h .long) (g .short) (h .held f a) (begun-held E l offset f c p flow′ adu′ b)
+    ap (symbolsAt E f p) (sym (symbols-count flow adu E))
+    ∙ stretch E offset f (symbolsOf E (b .before)) ys (symbolsOf E (b .after)) (symbolsOf E l) (begun-symbols E l (p + offset) flow adu b) c p (b .place)
 
 -- ---- Boundaries
 
@@ -96,6 +83,11 @@ module _ (E : ℕ) (l : List SenderCall) where
         place = omega (arith, n, b .place, symbols-count flow adu E);
       }
 
+  -- A call without symbols is passed over.
+  pass : (p : ℕ) (before : List SenderCall) (x : SenderCall) → symbolsOf E (x ∷ []) ≡ [] → p ≡ length (symbolsOf E before)
+      → p ≡ length (symbolsOf E (before ++ (x ∷ [])))
+  pass p before x e h = rw (symbols-append E before (x ∷ []), e, append-nil (symbolsOf E before)) h
+
   -- At a boundary an ADU begins, or all symbols end.
   begins-or-ends : (p : ℕ) (before after : List SenderCall) → l ≡ before ++ after → p ≡ length (symbolsOf E before)
       → ((flow : ℕ) × (adu : List ℕ) × Begins E l p flow adu) ⊎ (p ≡ length (symbolsOf E l))
@@ -104,12 +96,10 @@ module _ (E : ℕ) (l : List SenderCall) where
       inl (flow, adu, record { before = before; after = after; out = out; answer = n; m′ = m′; out′ = out′; split = e; place = h })
   begins-or-ends p before (added flow adu out (Refused n) m′ out′ ∷ after) e h =
       let x = added flow adu out (Refused n) m′ out′ in
-      begins-or-ends p (before ++ (x ∷ [])) after (e ∙ sym (append-snoc before x after))
-      (h ∙ ap length (sym (symbols-append E before (x ∷ []) ∙ append-nil (symbolsOf E before))))
+      begins-or-ends p (before ++ (x ∷ [])) after (e ∙ sym (append-snoc before x after)) (pass p before x refl h)
   begins-or-ends p before (repaired key dt count out r out′ ∷ after) e h =
       let x = repaired key dt count out r out′ in
-      begins-or-ends p (before ++ (x ∷ [])) after (e ∙ sym (append-snoc before x after))
-      (h ∙ ap length (sym (symbols-append E before (x ∷ []) ∙ append-nil (symbolsOf E before))))
+      begins-or-ends p (before ++ (x ∷ [])) after (e ∙ sym (append-snoc before x after)) (pass p before x refl h)
 
 -- ---- The sender's packets alone
 
@@ -127,15 +117,22 @@ module _ (t s : Setting) (l : List SenderCall) (k : Peers t s l) where
   short : (p flow : ℕ) (adu : List ℕ) → Begins E l p flow adu → length adu ≤ 65535
   short p flow adu b = begun t l (k .run) p flow adu (subst (λ n. Begins n l p flow adu) (sym (k .size)) b) .short
 
+  gives : (qs : List Located) (base offset : ℕ) (f : Filling E) → All E qs f → Carries E offset all f → (p flow : ℕ) (adu : List ℕ)
+      → HoldsAdu s qs base p flow adu → (flow′ : ℕ) (adu′ : List ℕ) → Begins E l (p + offset) flow′ adu′ → (flow ≡ flow′) × (adu ≡ adu′)
+  gives qs base offset f a c p flow adu h flow′ adu′ b =
+      one-adu E (peer-size t s l k) f p flow flow′ adu adu′ (h .long) (short (p + offset) flow′ adu′ b) (h .held f a)
+      (begun-held E l offset f c p flow′ adu′ b)
+
   -- Packets that every filling that carries the sender's symbols satisfies.
   module _ (qs : List Located) (filled : (f : Filling E) → Carries E 0 all f → All E qs f) where
     abbrev ends : Differ E all
     ends = differ E (omega (arith, peer-size t s l k)) all (peer-symbols t s l k)
 
     -- The position after the symbols is not known.
-    end-unknown : (p : ℕ) → p ≡ length all → ((f g : Filling E) → All E qs f → All E qs g → f p ≡ g p) → ⊥
-    end-unknown p e h =
-        ends .apart (subst (λ i. ends .one i ≡ ends .other i) e (h (ends .one) (ends .other) (filled _ (ends .one-carries)) (filled _ (ends .other-carries))))
+    end-unknown : (p : ℕ) → p ≡ length all → Known E qs p → ⊥
+    end-unknown p e known =
+        let here = known (ends .one) (ends .other) (filled _ (ends .one-carries)) (filled _ (ends .other-carries)) in
+        ends .apart (subst (λ i. ends .one i ≡ ends .other i) e here)
 
     -- A chain goes from a boundary to a boundary.
     next : (p : ℕ) → Boundary E l p → Known E qs p → (f : Filling E) → All E qs f → Boundary E l (p + needs E (bytesOf E (f p)))
@@ -146,10 +143,9 @@ module _ (t s : Setting) (l : List SenderCall) (k : Peers t s l) where
         go (inl (flow, adu, g)) =
             let c = ends .one in
             let same : bytesOf E (f p) ≡ bytesOf E (c p) = ap (bytesOf E) (known f c a (filled c (ends .one-carries))) in
-            let here = begun-held E l 0 c (ends .one-carries) p flow adu (subst (λ i. Begins E l i flow adu) (sym (add-zero p)) g) in
-            let n : lengthIn (bytesOf E (f p)) ≡ length adu
-            = ap lengthIn same ∙ length-here E (peer-size t s l k) c p flow adu (short p flow adu g) here in
-            subst (λ (i : ℕ). Boundary E l (p + symbolCount E i)) (sym n) (end-boundary E l p flow adu g)
+            let here = begun-held E l 0 c (ends .one-carries) p flow adu (rw (add-zero p) g) in
+            let n = length-here E (peer-size t s l k) c p flow adu (short p flow adu g) here in
+            subst (λ (i : ℕ). Boundary E l (p + symbolCount E i)) (sym (ap lengthIn same ∙ n)) (end-boundary E l p flow adu g)
 
     reached : (Already : ℕ → Type 0) → ((x : ℕ) → Already x → Boundary E l x) → (p : ℕ) → Reached s qs Already p → Boundary E l p
     reached Already h p (already a m) = h p a
@@ -167,8 +163,7 @@ module _ (t s : Setting) (l : List SenderCall) (k : Peers t s l) where
             absurd (end-unknown p e (λ f g a c. sym (symbol-bytes E (f p)) ∙ ap (symbolOf E) (bytes f a ∙ sym (bytes g c)) ∙ symbol-bytes E (g p)))
         go (inl (flow′, adu′, g)) =
             let c = ends .one in
-            let here = begun-held E l 0 c (ends .one-carries) p flow′ adu′ (subst (λ i. Begins E l i flow′ adu′) (sym (add-zero p)) g) in
-            let (e, d) = one-adu E (peer-size t s l k) c p flow flow′ adu adu′ (h .long) (short p flow′ adu′ g) (h .held c (filled c (ends .one-carries))) here in
+            let (e, d) = gives qs base 0 c (filled c (ends .one-carries)) (ends .one-carries) p flow adu h flow′ adu′ (rw (add-zero p) g) in
             rw (e, d) g
 
   -- ---- The list
@@ -222,13 +217,23 @@ module _ (t s : Setting) (l : List SenderCall) (k : Peers t s l) where
         names = sent-names y p o (baseOf g) near q h;
       }) w)
 
+  as-written : (ts : List Step) (g : Log) → AsSent s l g ts → AsWritten s all g ts
+  as-written [] g a = tt
+  as-written (x ∷ xs) g a = ((λ v. let (y, p, i, o, near) = a .0 v in (y, p, i, wrote y p o, near)), as-written xs _ (a .1))
+
   fresh-kept : Kept fresh
   fresh-kept = record { filled = λ f c. tt; starts = λ p e. record { before = []; after = l; split = refl; place = e } }
 
+pub start-gives : Start-gives
+start-gives = gives
+
+pub sent-written : Sent-written
+sent-written t s l k ts a = as-written t s l k ts fresh a
+
 pub sent-starts : Sent-starts
-sent-starts t s l k v ts a = kept t s l k ts fresh a (fresh-kept t s l k) .starts
+sent-starts t s l k ts a = kept t s l k ts fresh a (fresh-kept t s l k) .starts
 
 pub sent-handed : Sent-handed
-sent-handed t s l k v ts a p flow adu start h =
+sent-handed t s l k ts a p flow adu start h =
     let w = kept t s l k ts fresh a (fresh-kept t s l k) in
     held-begins t s l k (history s ts .accepted) (w .filled) p (w .starts p start) (baseOf (history s ts)) flow adu h

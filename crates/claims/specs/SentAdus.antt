@@ -5,7 +5,6 @@ use Prim.Native.Nat.{ℕ, _+_, _%_, _^_, _≤_}
 use lib.ListN.{length, take, drop}
 use Rattle.wire.specs.declared.Scheme.{Scheme}
 use Rattle.wire.specs.declared.Setting.{Setting}
-use Rattle.wire.specs.Settings.{Valid}
 use Rattle.wire.specs.Packets.{symbolCount, sourceSymbols, sourcePacket}
 use Rattle.sender.specs.declared.Answer.the-variants.{Done}
 use Rattle.receiver.specs.History.{Filling, Located, All, Log, fresh, baseOf, IsValue, logged, Start}
@@ -13,7 +12,7 @@ use Rattle.receiver.specs.Promises.{said}
 use Rattle.claims.specs.SenderRun.{SenderCall, added, SenderRun, symbolsOf, Packet, source, repair, packetsOf, Wrote}
 use Rattle.claims.specs.Run.{Step, read, history}
 use Rattle.claims.specs.Carrying.{Carries}
-use Rattle.claims.specs.Sent.{callOf, Near, Peers}
+use Rattle.claims.specs.Sent.{callOf, Near, AsWritten, Peers}
 use Rattle.claims.specs.Handing.{HoldsAdu}
 
 module _ (E : ℕ) (l : List SenderCall) where
@@ -72,15 +71,20 @@ module _ (s : Setting) (l : List SenderCall) where
       (IsValue (said (t .answer)) → (x : Packet) × (p : ℕ) × (callOf x ≡ t .call) × Sent (s .scheme) (s .size) l x p × Near p (baseOf log))
       × AsSent (logged s log (read s log t) (said (t .answer))) ts
 
+-- Then all of them are as it wrote them: what is claimed of such packets is claimed of these.
+abbrev pub Sent-written : Type 0
+Sent-written =
+    (t s : Setting) (l : List SenderCall) → Peers t s l → (ts : List Step) → AsSent s l fresh ts → AsWritten s (symbolsOf (s .size) l) fresh ts
+
 -- Then every start is the first symbol of one of its ADUs, or the end of all.
 abbrev pub Sent-starts : Type 0
 Sent-starts =
-    (t s : Setting) (l : List SenderCall) → Peers t s l → Valid s → (ts : List Step) → AsSent s l fresh ts
+    (t s : Setting) (l : List SenderCall) → Peers t s l → (ts : List Step) → AsSent s l fresh ts
     → (p : ℕ) → Start s (history s ts .accepted) p → Boundary (s .size) l p
 
 -- And what is handed out is an ADU that it took, with its flow.
 abbrev pub Sent-handed : Type 0
 Sent-handed =
-    (t s : Setting) (l : List SenderCall) → Peers t s l → Valid s → (ts : List Step) → AsSent s l fresh ts
+    (t s : Setting) (l : List SenderCall) → Peers t s l → (ts : List Step) → AsSent s l fresh ts
     → (p flow : ℕ) (adu : List ℕ) → Start s (history s ts .accepted) p → HoldsAdu s (history s ts .accepted) (baseOf (history s ts)) p flow adu
     → Begins (s .size) l p flow adu
