@@ -109,6 +109,7 @@ module _ (t s : Setting) (l : List SenderCall) (k : Peers t s l) where
   abbrev all : List (List ℕ)
   all = symbolsOf E l
 
+  -- Its packets are of its symbols, and its ADUs are short.
   wrote : (x : Packet) (p : ℕ) → Sent scheme E l x p → Wrote scheme E all x p
   wrote x p =
       subst (λ c. Sent c E l x p → Wrote c E all x p) (k .scheme)
@@ -117,6 +118,7 @@ module _ (t s : Setting) (l : List SenderCall) (k : Peers t s l) where
   short : (p flow : ℕ) (adu : List ℕ) → Begins E l p flow adu → length adu ≤ 65535
   short p flow adu b = begun t l (k .run) p flow adu (subst (λ n. Begins n l p flow adu) (sym (k .size)) b) .short
 
+  -- Only the ADU that begins at a position is handed out there.
   gives : (qs : List Located) (base offset : ℕ) (f : Filling E) → All E qs f → Carries E offset all f → (p flow : ℕ) (adu : List ℕ)
       → HoldsAdu s qs base p flow adu → (flow′ : ℕ) (adu′ : List ℕ) → Begins E l (p + offset) flow′ adu′ → (flow ≡ flow′) × (adu ≡ adu′)
   gives qs base offset f a c p flow adu h flow′ adu′ b =
@@ -147,6 +149,7 @@ module _ (t s : Setting) (l : List SenderCall) (k : Peers t s l) where
             let n = length-here E (peer-size t s l k) c p flow adu (short p flow adu g) here in
             subst (λ (i : ℕ). Boundary E l (p + symbolCount E i)) (sym (ap lengthIn same ∙ n)) (end-boundary E l p flow adu g)
 
+    -- So all that it reaches from boundaries are boundaries.
     reached : (Already : ℕ → Type 0) → ((x : ℕ) → Already x → Boundary E l x) → (p : ℕ) → Reached s qs Already p → Boundary E l p
     reached Already h p (already a m) = h p a
     reached Already h p (later {p = q} r w known f a m) = next q (reached Already h q r) known f a
@@ -178,6 +181,7 @@ module _ (t s : Setting) (l : List SenderCall) (k : Peers t s l) where
     filled : (f : Filling E) → Carries E 0 all f → All E (g .accepted) f
     starts : (p : ℕ) → Start s (g .accepted) p → Boundary E l p
 
+  -- A packet of the sender's near the base names boundaries only.
   sent-names : (x : Packet) (p : ℕ) → Sent scheme E l x p → (base : ℕ) → Near p base → (q : Located) → readPacket s base (callOf x) ≡ located q
       → (i : ℕ) → Named s q i → Boundary E l i
   sent-names x p (sent-source {flow = flow} {adu = adu} b) base near q h i =
@@ -204,6 +208,9 @@ module _ (t s : Setting) (l : List SenderCall) (k : Peers t s l) where
       go x (inl d) = w .starts x d
       go x (inr d) = h q refl tt .names x d
 
+  fresh-kept : Kept fresh
+  fresh-kept = record { filled = λ f c. tt; starts = λ p e. record { before = []; after = l; split = refl; place = e } }
+
   kept : (ts : List Step) (g : Log) → AsSent s l g ts → Kept g → Kept (goes-on s g ts)
   kept [] g a w = w
   kept (x ∷ xs) g a w =
@@ -220,9 +227,6 @@ module _ (t s : Setting) (l : List SenderCall) (k : Peers t s l) where
   as-written : (ts : List Step) (g : Log) → AsSent s l g ts → AsWritten s all g ts
   as-written [] g a = tt
   as-written (x ∷ xs) g a = ((λ v. let (y, p, i, o, near) = a .0 v in (y, p, i, wrote y p o, near)), as-written xs _ (a .1))
-
-  fresh-kept : Kept fresh
-  fresh-kept = record { filled = λ f c. tt; starts = λ p e. record { before = []; after = l; split = refl; place = e } }
 
 pub start-gives : Start-gives
 start-gives = gives

@@ -55,8 +55,8 @@ Start-gives =
     → (p flow : ℕ) (adu : List ℕ) → HoldsAdu s qs base p flow adu
     → (flow′ : ℕ) (adu′ : List ℕ) → Begins (s .size) l (p + offset) flow′ adu′ → (flow ≡ flow′) × (adu ≡ adu′)
 
--- At any other position too, what is handed out is the sender's symbols that lie there. So where a chain of starts began on other bytes than a sender's
--- ADU, it can give the sender's bytes cut at a wrong place, with the flow and length that they happen to spell there; it can't give any other bytes.
+-- At any other position too, where the sender has symbols there, what is handed out is those symbols. So a chain of starts that began on bytes that are no
+-- ADU's first can give the sender's bytes cut at a wrong place, with the flow and length that they happen to spell there; it can't give other bytes.
 abbrev pub Junk-gives : Type 0
 Junk-gives =
     (s : Setting) (qs : List Located) (base offset : ℕ) (all : List (List ℕ)) (f : Filling (s .size)) → All (s .size) qs f → Carries (s .size) offset all f
