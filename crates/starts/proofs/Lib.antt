@@ -1,0 +1,9 @@
+-- The modules of the proofs.
+pub mod Tests
+pub mod Chaining
+pub mod Only
+pub mod Marking
+pub mod Texts
+pub mod Copying
+pub mod Giving
+pub mod Passing
