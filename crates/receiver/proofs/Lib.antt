@@ -18,3 +18,4 @@ pub mod Sourcing
 pub mod SourceCall
 pub mod Repairing
 pub mod RepairCall
+pub mod Giving

@@ -99,130 +99,149 @@ module _ (w E base : ℕ) (m : List ℕ) (fits : Fits w E m) (f : Bytes m) where
   pub known-beyond : (d n : ℕ) → d < w → w - d < n → AllKnown w E base d n false m
   known-beyond d n l h = λ b S e v. joint-none (seen E w S) d n w (omega arith) (omega arith) (see-past b S e v w (omega arith))
 
--- The same with the test as the code has it.
-pub all-is : (w E base d n : ℕ) (m : List ℕ) (t t′ : Bool) → t ≡ t′ → AllKnown w E base d n t m → AllKnown w E base d n t′ m
-all-is w E base d n m t t′ q a = subst (λ x. AllKnown w E base d n x m) q a
-
-pub spans : (w E base d n L : ℕ) (m : List ℕ) → AllKnown w E base d n true m → n ≡ symbolCount E L → L ≤ 65535 → Spans w E d n L
-spans w E base d n L m a e h = record { within = a .0; count = e; short = h }
-
 -- ---- The answers
+
+-- What the code has read when it knows the first symbol: L stands in it, at `at`, and needs n symbols.
+pub record Read (w E base d : ℕ) (m : List ℕ) (at L n : ℕ) : Type 0 where
+  pub fits : Fits w E m
+  pub bytes : Bytes m
+  pub inside : d < w
+  pub start : marked w E base m d ≡ true
+  pub first : KnownAt w E base m d true
+  pub here : at ≡ symbolPlace w E base d
+  pub size : L ≡ number (part (at + 1) 2 m)
+  pub short : L ≤ 65535
+  pub count : n ≡ symbolCount E L
+
+-- And when it knows all of them.
+pub record Whole (w E base d : ℕ) (m : List ℕ) (at L n : ℕ) : Type 0 where
+  pub read : Read w E base d m at L n
+  pub few : n ≤ w
+  pub all : AllKnown w E base d n true m
+
+pub whole-is : {w E base d at L n : ℕ} {m : List ℕ} → Read w E base d m at L n → n ≤ w → (t : Bool) → t ≡ true → AllKnown w E base d n t m
+    → Whole w E base d m at L n
+whole-is {w} {E} {base} {d} {n = n} {m} r few t q a = record { read = r; few = few; all = subst (λ x. AllKnown w E base d n x m) q a }
+
+pub spans : {w E base d at L n : ℕ} {m : List ℕ} → Whole w E base d m at L n → Spans w E d n L
+spans k = record { within = k .all .0; count = k .read .count; short = k .read .short }
 
 -- The number of a refusal, 0 of an ADU.
 abbrev reason : Handed → ℕ
 reason (Adu flow L) = 0
 reason (Withheld x) = numberOf x
 
-module _ (w E base d : ℕ) (m out : List ℕ) (fits : Fits w E m) (f : Bytes m) (inside : d < w) where
-  -- What the call comes to, by what the memory holds.
-  abbrev Comes : Handing → Type 0
-  Comes h = (b : ℕ) (S : State (Coded E) w) (M : Starts) → b % w ≡ base → Window w E m b S → Marks w E base m M
-      → handing E w (length out) M (seen E w S) d ≡ h
+-- What the call comes to, by what the memory holds.
+abbrev Comes : (w E base d : ℕ) (m : List ℕ) (room : ℕ) → Handing → Type 0
+Comes w E base d m room h = (b : ℕ) (S : State (Coded E) w) (M : Starts) → b % w ≡ base → Window w E m b S → Marks w E base m M
+    → handing E w room M (seen E w S) d ≡ h
 
-  refused : (x : Refusal) → numberOf x ≢ 3 → Comes (withholds (numberOf x)) → HandedOut w E base d m out out (Withheld x)
-  refused x n c = record {
-    opened = λ q. n (ap reason q);
-    leaves = refl;
-    told = λ b S M e v k. subst (λ h. HandedAs h out out (Withheld x)) (sym (c b S M e v k)) (refl, refl);
-  }
+refused : (w E base d : ℕ) (m out : List ℕ) (x : Refusal) → numberOf x ≢ 3 → Comes w E base d m (length out) (withholds (numberOf x))
+    → HandedOut w E base d m out out (Withheld x)
+refused w E base d m out x n c = record {
+  opened = λ q. n (ap reason q);
+  leaves = refl;
+  told = λ b S M e v k. subst (λ h. HandedAs h out out (Withheld x)) (sym (c b S M e v k)) (refl, refl);
+}
 
-  pub no-start : marked w E base m d ≡ false → HandedOut w E base d m out out (Withheld NoStart)
+module _ (w E base d : ℕ) (m out : List ℕ) where
+  pub no-start : d < w → marked w E base m d ≡ false → HandedOut w E base d m out out (Withheld NoStart)
   unfolding handing need
-  no-start t = refused NoStart (λ q. absurd (omega (arith, q))) (λ b S M e v k.
-      ap (λ x. need x 13 (begin E w (length out) (seen E w S) d (seen E w S d))) (sym (k d (omega arith)) ∙ t))
+  no-start h t =
+      refused w E base d m out NoStart (λ q. absurd (omega (arith, q)))
+      (λ b S M e v k. ap (λ x. need x 13 (begin E w (length out) (seen E w S) d (seen E w S d))) (sym (k d (omega arith)) ∙ t))
 
-  module _ (start : marked w E base m d ≡ true) where
-    begun : (b : ℕ) (S : State (Coded E) w) (M : Starts) → Marks w E base m M → (o : Option (List ℕ)) → seen E w S d ≡ o
-        → handing E w (length out) M (seen E w S) d ≡ begin E w (length out) (seen E w S) d o
-    unfolding handing need
-    begun b S M k o x =
-        ap (λ y. need y 13 (begin E w (length out) (seen E w S) d (seen E w S d))) (sym (k d (omega arith)) ∙ start)
-        ∙ ap (begin E w (length out) (seen E w S) d) x
+  begun : d < w → marked w E base m d ≡ true → (b : ℕ) (S : State (Coded E) w) (M : Starts) → Marks w E base m M
+      → (o : Option (List ℕ)) → seen E w S d ≡ o → handing E w (length out) M (seen E w S) d ≡ begin E w (length out) (seen E w S) d o
+  unfolding handing need
+  begun h start b S M k o x =
+      ap (λ y. need y 13 (begin E w (length out) (seen E w S) d (seen E w S d))) (sym (k d (omega arith)) ∙ start)
+      ∙ ap (begin E w (length out) (seen E w S) d) x
 
-    pub first-unknown : KnownAt w E base m d false → HandedOut w E base d m out out (Withheld Unknown)
-    first-unknown u = refused Unknown (λ q. absurd (omega (arith, q))) (λ b S M e v k. begun b S M k none (see-unknown w E base m fits f b S e v d inside u))
+  pub first-unknown : Fits w E m → Bytes m → d < w → marked w E base m d ≡ true → KnownAt w E base m d false
+      → HandedOut w E base d m out out (Withheld Unknown)
+  first-unknown fits f h start u =
+      refused w E base d m out Unknown (λ q. absurd (omega (arith, q)))
+      (λ b S M e v k. begun h start b S M k none (see-unknown w E base m fits f b S e v d h u))
 
-    -- The first symbol is known. The code reads L in it, at `at`, and finds that it needs n symbols.
-    module _ (u : KnownAt w E base m d true) (at L n : ℕ) (here : at ≡ symbolPlace w E base d) (is : L ≡ number (part (at + 1) 2 m))
-        (count : n ≡ symbolCount E L) (short : L ≤ 65535) where
-      size-is : lengthIn (symbolIn w E base m d) ≡ L
-      size-is = symbol-size w E base m fits d ∙ ap (λ x. number (part (x + 1) 2 m)) (sym here) ∙ sym is
+  module _ (at L n : ℕ) (r : Read w E base d m at L n) where
+    size-is : lengthIn (symbolIn w E base m d) ≡ L
+    size-is = symbol-size w E base m (r .fits) d ∙ ap (λ x. number (part (x + 1) 2 m)) (sym (r .here)) ∙ sym (r .size)
 
-      counted : needs E (symbolIn w E base m d) ≡ n
-      counted = ap (symbolCount E) size-is ∙ sym count
+    -- What is left to look at: whether there are too many symbols, and what all of them make up.
+    looked : (b : ℕ) (S : State (Coded E) w) (M : Starts) → b % w ≡ base → Window w E m b S → Marks w E base m M
+        → handing E w (length out) M (seen E w S) d ≡ need (leb n w) 14 (unpack E w (length out) (joint (seen E w S) d n))
+    looked b S M e v k =
+        begun (r .inside) (r .start) b S M k (some (symbolIn w E base m d))
+        (see-known w E base m (r .fits) (r .bytes) b S e v d (r .inside) (r .first))
+        ∙ ap (λ x. need (leb x w) 14 (unpack E w (length out) (joint (seen E w S) d x))) (ap (symbolCount E) size-is ∙ sym (r .count))
 
-      -- What is left to look at, by whether there are too many symbols, and by what all of them make up.
-      looked : (b : ℕ) (S : State (Coded E) w) (M : Starts) → b % w ≡ base → Window w E m b S → Marks w E base m M
-          → handing E w (length out) M (seen E w S) d ≡ need (leb n w) 14 (unpack E w (length out) (joint (seen E w S) d n))
-      looked b S M e v k =
-          begun b S M k (some (symbolIn w E base m d)) (see-known w E base m fits f b S e v d inside u)
-          ∙ ap (λ x. need (leb x w) 14 (unpack E w (length out) (joint (seen E w S) d x))) counted
+    pub too-many : w < n → HandedOut w E base d m out out (Withheld Padding)
+    unfolding need
+    too-many h =
+        refused w E base d m out Padding (λ q. absurd (omega (arith, q)))
+        (λ b S M e v k. looked b S M e v k ∙ ap (λ x. need x 14 (unpack E w (length out) (joint (seen E w S) d n))) (lt-leb n w h))
 
-      pub too-many : w < n → HandedOut w E base d m out out (Withheld Padding)
-      unfolding need
-      too-many h = refused Padding (λ q. absurd (omega (arith, q))) (λ b S M e v k.
-          looked b S M e v k ∙ ap (λ x. need x 14 (unpack E w (length out) (joint (seen E w S) d n))) (lt-leb n w h))
+    unpacked : n ≤ w → (b : ℕ) (S : State (Coded E) w) (M : Starts) → b % w ≡ base → Window w E m b S → Marks w E base m M
+        → (o : Option (List ℕ)) → joint (seen E w S) d n ≡ o → handing E w (length out) M (seen E w S) d ≡ unpack E w (length out) o
+    unfolding need
+    unpacked few b S M e v k o q =
+        looked b S M e v k ∙ ap (λ x. need x 14 (unpack E w (length out) (joint (seen E w S) d n))) (le-leb n w few)
+        ∙ ap (unpack E w (length out)) q
 
-      module _ (few : n ≤ w) where
-        unpacked : (b : ℕ) (S : State (Coded E) w) (M : Starts) → b % w ≡ base → Window w E m b S → Marks w E base m M
-            → (o : Option (List ℕ)) → joint (seen E w S) d n ≡ o → handing E w (length out) M (seen E w S) d ≡ unpack E w (length out) o
-        unfolding need
-        unpacked b S M e v k o q =
-            looked b S M e v k ∙ ap (λ x. need x 14 (unpack E w (length out) (joint (seen E w S) d n))) (le-leb n w few)
-            ∙ ap (unpack E w (length out)) q
+    pub another-unknown : n ≤ w → (t : Bool) → t ≡ false → AllKnown w E base d n t m → HandedOut w E base d m out out (Withheld Unknown)
+    another-unknown few t q a =
+        refused w E base d m out Unknown (λ q. absurd (omega (arith, q)))
+        (λ b S M e v k. unpacked few b S M e v k none (subst (λ x. AllKnown w E base d n x m) q a b S e v))
 
-        pub another-unknown : AllKnown w E base d n false m → HandedOut w E base d m out out (Withheld Unknown)
-        another-unknown a = refused Unknown (λ q. absurd (omega (arith, q))) (λ b S M e v k. unpacked b S M e v k none (a b S e v))
+  module _ (at L n : ℕ) (k : Whole w E base d m at L n) where
+    abbrev x : List ℕ
+    x = text w E base m d n
 
-        -- All of them are known.
-        module _ (a : AllKnown w E base d n true m) where
-          abbrev x : List ℕ
-          x = text w E base m d n
+    abbrev fits : Fits w E m
+    fits = k .read .fits
 
-          fitting : Spans w E d n L
-          fitting = spans w E base d n L m a count short
+    some-symbols : 0 < n
+    some-symbols = span-some w E d n L (fits .some-symbol) (spans k)
 
-          some-symbols : 0 < n
-          some-symbols = span-some w E d n L (fits .some-symbol) fitting
+    opened : Comes w E base d m (length out) (need (allZero (drop (3 + L) x)) 14 (need (leb L (length out)) 2 (hands (flowIn x) (part 3 L x))))
+    opened b S M e v c =
+        unpacked at L n (k .read) (k .few) b S M e v c (some x) (k .all .1 b S e v)
+        ∙ ap (λ l. need (allZero (drop (3 + l) x)) 14 (need (leb l (length out)) 2 (hands (flowIn x) (part 3 l x))))
+        (text-size w E base m fits d n some-symbols ∙ size-is at L n (k .read))
 
-          all-sized : lengthIn x ≡ L
-          all-sized = text-size w E base m fits d n some-symbols ∙ size-is
+    pub not-padded : allZero (drop (3 + L) x) ≡ false → HandedOut w E base d m out out (Withheld Padding)
+    unfolding need
+    not-padded t =
+        refused w E base d m out Padding (λ q. absurd (omega (arith, q)))
+        (λ b S M e v c. opened b S M e v c ∙ ap (λ y. need y 14 (need (leb L (length out)) 2 (hands (flowIn x) (part 3 L x)))) t)
 
-          opened : Comes (need (allZero (drop (3 + L) x)) 14 (need (leb L (length out)) 2 (hands (flowIn x) (part 3 L x))))
-          opened b S M e v k =
-              unpacked b S M e v k (some x) (a .1 b S e v)
-              ∙ ap (λ l. need (allZero (drop (3 + l) x)) 14 (need (leb l (length out)) 2 (hands (flowIn x) (part 3 l x)))) all-sized
+    padded : allZero (drop (3 + L) x) ≡ true → Comes w E base d m (length out) (need (leb L (length out)) 2 (hands (flowIn x) (part 3 L x)))
+    unfolding need
+    padded t b S M e v c = opened b S M e v c ∙ ap (λ y. need y 14 (need (leb L (length out)) 2 (hands (flowIn x) (part 3 L x)))) t
 
-          pub not-padded : allZero (drop (3 + L) x) ≡ false → HandedOut w E base d m out out (Withheld Padding)
-          unfolding need
-          not-padded t = refused Padding (λ q. absurd (omega (arith, q))) (λ b S M e v k.
-              opened b S M e v k ∙ ap (λ y. need y 14 (need (leb L (length out)) 2 (hands (flowIn x) (part 3 L x)))) t)
+    pub no-room : allZero (drop (3 + L) x) ≡ true → length out < L → HandedOut w E base d m out out (Withheld Short)
+    unfolding need
+    no-room t h =
+        refused w E base d m out Short (λ q. absurd (omega (arith, q)))
+        (λ b S M e v c. padded t b S M e v c ∙ ap (λ y. need y 2 (hands (flowIn x) (part 3 L x))) (lt-leb L (length out) h))
 
-          module _ (padded : allZero (drop (3 + L) x) ≡ true) where
-            whole : Comes (need (leb L (length out)) 2 (hands (flowIn x) (part 3 L x)))
-            unfolding need
-            whole b S M e v k =
-                opened b S M e v k ∙ ap (λ y. need y 14 (need (leb L (length out)) 2 (hands (flowIn x) (part 3 L x)))) padded
-
-            pub no-room : length out < L → HandedOut w E base d m out out (Withheld Short)
-            unfolding need
-            no-room h = refused Short (λ q. absurd (omega (arith, q))) (λ b S M e v k. whole b S M e v k ∙ ap (λ y. need y 2 (hands (flowIn x) (part 3 L x))) (lt-leb L (length out) h))
-
-            pub hands-out : L ≤ length out → (out′ : List ℕ) → out′ ≡ splice 0 (part 3 L x) out → HandedOut w E base d m out out′ (Adu (getD m at 0) L)
-            unfolding need splice
-            hands-out h out′ q =
-                let size : length (part 3 L x) ≡ L =
-                length-part 3 L x (omega (arith, text-length w E base m fits d n, span-end w E d n L (fits .some-symbol) fitting)) in
-                let flow : flowIn x ≡ getD m at 0 = text-flow w E base m fits d n some-symbols ∙ ap (λ y. getD m y 0) (sym here) in
-                record {
-                  opened = λ y. absurd (omega (arith, ap reason y));
-                  leaves = (
-                    h,
-                    ap length q ∙ length-splice 0 (part 3 L x) out (omega arith),
-                    ap (drop L) q ∙ past-splice L 0 (part 3 L x) out (omega arith) (omega arith),
-                  );
-                  told = λ b S M e v k.
-                      subst (λ y. HandedAs y out out′ (Adu (getD m at 0) L))
-                      (sym (whole b S M e v k ∙ ap (λ y. need y 2 (hands (flowIn x) (part 3 L x))) (le-leb L (length out) h)))
-                      (ap₂ Adu (sym flow) (sym size), q);
-                }
+    pub hands-out : allZero (drop (3 + L) x) ≡ true → L ≤ length out → (out′ : List ℕ) → out′ ≡ splice 0 (part 3 L x) out
+        → HandedOut w E base d m out out′ (Adu (getD m at 0) L)
+    unfolding need splice
+    hands-out t h out′ q =
+        let size : length (part 3 L x) ≡ L =
+        length-part 3 L x (omega (arith, text-length w E base m fits d n, span-end w E d n L (fits .some-symbol) (spans k))) in
+        let flow : flowIn x ≡ getD m at 0 = text-flow w E base m fits d n some-symbols ∙ ap (λ y. getD m y 0) (sym (k .read .here)) in
+        record {
+          opened = λ y. absurd (omega (arith, ap reason y));
+          leaves = (
+            h,
+            ap length q ∙ length-splice 0 (part 3 L x) out (omega arith),
+            ap (drop L) q ∙ past-splice L 0 (part 3 L x) out (omega arith) (omega arith),
+          );
+          told = λ b S M e v c.
+              subst (λ y. HandedAs y out out′ (Adu (getD m at 0) L))
+              (sym (padded t b S M e v c ∙ ap (λ y. need y 2 (hands (flowIn x) (part 3 L x))) (le-leb L (length out) h)))
+              (ap₂ Adu (sym flow) (sym size), q);
+        }

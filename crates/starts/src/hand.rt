@@ -24,7 +24,7 @@ fn symbol_of(shape: Shape, i: usize) -> usize
 
 // Whether the `n` positions from the d-th on are all known. None past the window is.
 fn all_known(mem: &[u8], shape: Shape, d: usize, n: usize) -> bool
-    requires { ⌜ Fits (shape .width) (shape .size) (now mem) × (shape .base < shape .width) × (d < shape .width) × (n ≤ shape .width) ⌝ }
+    requires { ⌜ Fits (shape .width) (shape .size) (now mem) × (shape .base < shape .width) × (d < shape .width) ⌝ }
     ensures { λ t. ⌜ AllKnown (shape .width) (shape .size) (shape .base) d n t (now (mem .entry)) ⌝ }
 {
     if shape.width - d < n {

@@ -1,6 +1,6 @@
 -- `starts::hand::all_known` meets its contract. The loop: the positions before the i-th from d on are known.
-use Prim.Native.Nat.{_+_, _-_, _≤_}
 use mathlib.Core.Bool.{true, false}
+use Prim.Native.Nat.{_+_, _-_, _≤_}
 use native.Mathlib.Omega.{arith}
 use borrow.Author.Tests.{not-true, not-false}
 use Rattle.starts.proofs.Giving.{KnownFrom, known-is, known-none, known-more, known-all, known-not, known-beyond}
@@ -14,15 +14,8 @@ Inv-loop mem shape d n i₀ i = (i ≤ n) × KnownFrom (shape .width) (shape .si
 abbrev μ-loop : tie.MeasureT-loop
 μ-loop mem shape d n i₀ i = n - i
 
-sub-if1 : tie.Need-sub-if1 Inv-loop μ-loop
-sub-if1 c = search needs
-
 returns : tie.Need-returns Inv-loop μ-loop
-returns c =
-    let a = c .before .before .before .args in
-    let s = a .shape in
-    known-beyond (s .width) (s .size) (s .base) (a .mem .now) (c .before .before .before .pre .0)
-    (λ i. c .before .before .shared-slice-known .given i .fits) (a .d) (a .n) (omega arith) (c .if1 .taken)
+returns c = known-beyond _ _ _ _ (c .before .before .before .pre .0) (λ i. c .before .before .shared-slice-known .given i .fits) _ _ (c .before .before .before .pre .2) (c .if1 .taken)
 
 loop-holds : tie.Need-loop-holds Inv-loop μ-loop
 loop-holds c =
@@ -30,46 +23,29 @@ loop-holds c =
     let s = a .shape in
     (search needs, known-none (s .width) (s .size) (s .base) (a .mem .now) (a .d))
 
-add-row-of : tie.Need-add-row-of Inv-loop μ-loop
-add-row-of c = search needs
-
-row-of-requires : tie.Need-row-of-requires Inv-loop μ-loop
-row-of-requires c κs = search needs
-
-is-known-requires : tie.Need-is-known-requires Inv-loop μ-loop
-is-known-requires c κs = search needs
-
 returns-2 : tie.Need-returns-2 Inv-loop μ-loop
 returns-2 c =
-    let a = c .before .before .before .before .before .before .before .before .args in
-    let s = a .shape in
-    known-not (s .width) (s .size) (s .base) (a .mem .now) (c .before .before .before .before .before .before .before .before .pre .0)
-    (λ i. c .before .before .before .before .before .before .before .shared-slice-known .given i .fits) (a .d) (a .n) (c .before .before .before .before .loop .i) (omega arith) (omega arith)
-    (known-is (s .width) (s .size) (s .base) (a .mem .now) (a .d + c .before .before .before .before .loop .i) (c .before .before .row-of .result) (c .before .is-known .result) false (c .before .before .row-of .ensures .0)
-    (not-true (c .before .is-known .result) (c .if2 .taken)) (c .before .is-known .ensures))
-
-add-i : tie.Need-add-i Inv-loop μ-loop
-add-i c = search needs
-
-loop-less : tie.Need-loop-less Inv-loop μ-loop
-loop-less c = search needs
+    let start = c .before .before .before .before .before .before .before .before in
+    let loop = c .before .before .before .before .loop in
+    let known = c .before .is-known in
+    known-not _ _ _ _ (start .pre .0) (λ i. c .before .before .before .before .before .before .before .shared-slice-known .given i .fits) _ _ (loop .i) (omega arith) (omega arith)
+    (known-is _ _ _ _ (start .args .d + loop .i) _ _ false (c .before .before .row-of .ensures .0) (not-true (known .result) (c .if2 .taken)) (known .ensures))
 
 loop-again : tie.Need-loop-again Inv-loop μ-loop
 loop-again c =
     let a = c .before .before .before .before .before .before .before .before .args in
-    let s = a .shape in (
+    let s = a .shape in
+    let loop = c .before .before .before .before .loop in
+    let known = c .before .is-known in (
       search needs,
-      known-more (s .width) (s .size) (s .base) (a .mem .now) (a .d) (c .before .before .before .before .loop .i) (c .before .before .before .before .loop .inv .1)
-          (known-is (s .width) (s .size) (s .base) (a .mem .now) (a .d + c .before .before .before .before .loop .i) (c .before .before .row-of .result) (c .before .is-known .result) true (c .before .before .row-of .ensures .0)
-          (not-false (c .before .is-known .result) (c .if2 .left)) (c .before .is-known .ensures)),
+      known-more (s .width) (s .size) (s .base) (a .mem .now) (a .d) (loop .i) (loop .inv .1)
+          (known-is _ _ _ _ (a .d + loop .i) _ _ true (c .before .before .row-of .ensures .0) (not-false (known .result) (c .if2 .left)) (known .ensures)),
     )
 
 returns-3 : tie.Need-returns-3 Inv-loop μ-loop
 returns-3 c =
-    let a = c .before .before .before .before .before .args in
-    let s = a .shape in
-    known-all (s .width) (s .size) (s .base) (a .mem .now) (c .before .before .before .before .before .pre .0)
-    (λ i. c .before .before .before .before .shared-slice-known .given i .fits) (a .d) (a .n) (c .before .loop .i) (omega arith) (omega arith) (c .before .loop .inv .1)
+    let loop = c .before .loop in
+    known-all _ _ _ _ (c .before .before .before .before .before .pre .0) (λ i. c .before .before .before .before .shared-slice-known .given i .fits) _ _ (loop .i) (omega arith) (omega arith) (loop .inv .1)
 
 pub all-known-spec : {M : Type 1} → statement M
 all-known-spec =
@@ -77,14 +53,14 @@ all-known-spec =
     (tie.spec
     Inv-loop
     μ-loop
-    sub-if1
+    (λ c. search needs)
     returns
     loop-holds
-    add-row-of
-    row-of-requires
-    is-known-requires
+    (λ c. search needs)
+    (λ c κs. search needs)
+    (λ c κs. search needs)
     returns-2
-    add-i
-    loop-less
+    (λ c. search needs)
+    (λ c. search needs)
     loop-again
     returns-3)
