@@ -13,6 +13,7 @@ pub mod Opening
 pub mod Locating
 pub mod Finishing
 pub mod Gathering
+pub mod Marking
 pub mod Receiving
 pub mod Sourcing
 pub mod SourceCall
