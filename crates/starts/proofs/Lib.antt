@@ -1,0 +1,3 @@
+-- The modules of the proofs.
+pub mod Tests
+pub mod Chaining
