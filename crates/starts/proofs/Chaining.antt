@@ -15,12 +15,15 @@ use Rattle.starts.specs.Starts.{Starts, also, onward, pass}
 use Rattle.starts.proofs.Tests.{also-true}
 
 -- An ADUI takes a symbol at least.
-pub needs-some : (E : ℕ) (x : List ℕ) → 0 < E → 0 < needs E x
-needs-some E x h = go (symbolCount E (lengthIn x)) (room E (lengthIn x) h)
+pub symbols-some : (E L : ℕ) → 0 < E → 0 < symbolCount E L
+symbols-some E L h = go (symbolCount E L) (room E L h)
   where
-    go : (n : ℕ) → 3 + lengthIn x ≤ n * E → 0 < n
+    go : (n : ℕ) → 3 + L ≤ n * E → 0 < n
     go zero k = absurd (omega (arith, k, zero-mul E))
     go (suc n) k = omega arith
+
+pub needs-some : (E : ℕ) (x : List ℕ) → 0 < E → 0 < needs E x
+needs-some E x h = symbols-some E (lengthIn x) h
 
 module _ (E : ℕ) (see : View) where
   pub data Chained (w : ℕ) (M : Starts) : ℕ → Type 0 where
