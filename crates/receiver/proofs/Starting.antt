@@ -4,22 +4,30 @@ use mathlib.Core.Logic.{_↔_, _⊎_, inl, inr}
 use mathlib.Core.Bool.{true}
 use mathlib.Core.Option.{Option, none, some, Option·none-ne-some, Option·some-injective}
 use mathlib.Core.List.{List, [], _∷_}
-use Prim.Native.Nat.{ℕ, _+_, _-_, _≤_, _<_}
-use native.Mathlib.Nat.{add-assoc}
+use Prim.Native.Nat.{ℕ, zero, suc, _+_, _-_, _≤_, _<_}
+use native.Mathlib.Nat.{add-assoc, add-suc, le-of-suc-le-suc, not-suc-le-zero}
+use native.Mathlib.Decide.{decLt}
 use native.Mathlib.Omega.{arith}
 use lib.ListN.{length}
 use borrow.Author.Tests.{eqb-true, eq-eqb}
 use Rattle.wire.specs.declared.Setting.{Setting}
+use Rattle.memory.specs.Number.{Bytes}
+use Rattle.memory.proofs.Parts.{cons-eq}
+use Rattle.decoder.specs.Field.{Ops}
+use Rattle.decoder.specs.Bytes.{Coded}
+use Rattle.decoder.specs.Model as model
 use Rattle.decoder.specs.Model.{known}
 use Rattle.decoder.specs.Receiver as decoder
 use Rattle.starts.specs.Adu.{View, needs}
 use Rattle.starts.specs.Starts.{Starts, zeroth, also, moved, pass, shown, seen}
 use Rattle.starts.proofs.Tests.{also-true, moved-true}
 use Rattle.starts.proofs.Chaining.{Chained, seed, next, pass-chained}
-use Rattle.receiver.specs.Symbol.{Symbol, bytesOf}
-use Rattle.receiver.specs.History.{Filling, Located, source, repair, first, named, All, Consistent, Known, Reading, fails, located}
+use Rattle.starts.proofs.Handing.{Shows}
+use Rattle.receiver.specs.Symbol.{Symbol, bytesOf, symbolOf}
+use Rattle.receiver.specs.History.{Filling, symbolsAt, Located, source, repair, first, named, All, Consistent, Known, Reading, fails, located}
 use Rattle.receiver.specs.History.{Log, fresh, baseOf, raised, accept, logged, baseAfter, Spanned, Named, Reached, already, later, Start}
 use Rattle.receiver.specs.Model.{State, Outcome, refused, done, saidOf, stateAfter, responds, naming, startsAfter, marking}
+use Rattle.receiver.proofs.Says.{Whole, symbol-bytes, bytes-whole, head, rest}
 use Rattle.receiver.proofs.Answers.{Fits, Tracks, known-exactly, known-value, tracks-consistent, judged}
 
 -- What is seen from the base on is what is known there, with the bytes of every filling.
@@ -27,6 +35,63 @@ pub record Sees (E : ℕ) (qs : List Located) (base : ℕ) (see : View) : Type 0
   pub filling : Consistent E qs
   pub shown : (i : ℕ) → Known E qs (base + i) → (f : Filling E) → All E qs f → see i ≡ some (bytesOf E (f (base + i)))
   pub is-known : (i : ℕ) (v : List ℕ) → see i ≡ some v → Known E qs (base + i)
+
+-- Symbols that are shown are those of every filling.
+module _ (E : ℕ) (qs : List Located) (base : ℕ) (see : View) (sees : Sees E qs base see) where
+  pub shown-value : (i : ℕ) (v : List ℕ) → see i ≡ some v → (f : Filling E) → All E qs f → bytesOf E (f (base + i)) ≡ v
+  shown-value i v h f a = Option·some-injective _ _ (sym (sees .shown i (sees .is-known i v h) f a) ∙ h)
+
+  pub shown-whole : (i : ℕ) (v : List ℕ) → see i ≡ some v → (length v ≡ E) × Bytes v
+  shown-whole i v h =
+      let (f, a) = sees .filling in
+      let w = subst (Whole E) (shown-value i v h f a) (bytes-whole E (f (base + i))) in
+      (w .sized, w .small)
+
+  pub unseen : (i : ℕ) → ¬ Known E qs (base + i) → see i ≡ none
+  unseen i n = go (see i) refl
+    where
+      go : (o : Option (List ℕ)) → see i ≡ o → o ≡ none
+      go none e = refl
+      go (some v) e = absurd (n (sees .is-known i v e))
+
+  pub shows-held : (i : ℕ) (vs : List (List ℕ)) → Shows see i vs → (f : Filling E) → All E qs f → symbolsAt E f (base + i) (length vs) ≡ vs
+  shows-held i [] h f a = refl
+  shows-held i (v ∷ vs) h f a =
+      cons-eq (shown-value i v (h .0) f a)
+      (ap (λ p. symbolsAt E f p (length vs)) (sym (add-suc base i)) ∙ shows-held (suc i) vs (h .1) f a)
+
+  pub held-shows : (i : ℕ) (vs : List (List ℕ)) → ((f : Filling E) → All E qs f → symbolsAt E f (base + i) (length vs) ≡ vs) → Shows see i vs
+  held-shows i [] h = tt
+  held-shows i (v ∷ vs) h =
+      let here : (f : Filling E) → All E qs f → bytesOf E (f (base + i)) ≡ v = λ f a. ap head (h f a) in
+      let same : Known E qs (base + i) =
+      λ f g a b. sym (symbol-bytes E (f (base + i))) ∙ ap (symbolOf E) (here f a ∙ sym (here g b)) ∙ symbol-bytes E (g (base + i)) in
+      let (f, a) = sees .filling in (
+        sees .shown i same f a ∙ ap (λ (x : List ℕ). some x) (here f a),
+        held-shows (suc i) vs (λ g b. ap (λ p. symbolsAt E g p (length vs)) (add-suc base i) ∙ ap rest (h g b)),
+      )
+
+  -- All symbols that are shown lie in the window.
+  pub shows-inside : (width : ℕ) → ((i : ℕ) → width ≤ i → see i ≡ none) → (i : ℕ) → i ≤ width → (vs : List (List ℕ)) → Shows see i vs
+      → i + length vs ≤ width
+  shows-inside width outside i l [] h = omega arith
+  shows-inside width outside i l (v ∷ vs) h = go (decLt i width) (λ k. shows-inside width outside (suc i) k vs (h .1))
+    where
+      go : Dec (i < width) → (i < width → suc i + length vs ≤ width) → i + suc (length vs) ≤ width
+      go (yes k) f = omega (arith, f k)
+      go (no k) f = absurd (Option·none-ne-some v (sym (outside i (omega arith)) ∙ h .0))
+
+-- Nothing is known past the window.
+known-outside : {O : Ops} {n : ℕ} (S : model.State O n) (i : ℕ) → n ≤ i → known S i ≡ none
+unfolding known
+known-outside model.end i h = refl
+known-outside (model.free S) zero h = refl
+known-outside (model.free S) (suc i) h = known-outside S i (le-of-suc-le-suc h)
+known-outside (model.pivot r S) zero h = absurd (not-suc-le-zero h)
+known-outside (model.pivot r S) (suc i) h = known-outside S i (le-of-suc-le-suc h)
+
+pub seen-outside : (E width : ℕ) (S : model.State (Coded E) width) (i : ℕ) → width ≤ i → seen E width S i ≡ none
+seen-outside E width S i h = ap (shown E) (known-outside S i h)
 
 module _ (s : Setting) where
   open Setting s using (size as E, width)
