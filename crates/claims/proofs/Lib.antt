@@ -3,6 +3,7 @@ pub mod Symbols
 pub mod Sending
 pub mod Carrying
 pub mod Demand
+pub mod Handing
 pub mod Reading
 pub mod Sent
 pub mod NotEmpty

@@ -1,17 +1,16 @@
 -- The pass marks what the marks reach: from a marked known position of the window to the position that its L names, and so on.
-use mathlib.Core.Path.{_≡_, refl, sym, ap, subst, _∙_}
+use mathlib.Core.Path.{_≡_, refl, sym, ap, subst}
 use mathlib.Core.Logic.{_↔_, _⊎_, inl, inr}
 use mathlib.Core.Bool.{Bool, true, false, false≢true}
 use mathlib.Core.Option.{Option, none, some, Option·none-ne-some, Option·some-injective}
 use mathlib.Core.List.{List}
 use Prim.Native.Nat.{ℕ, zero, suc, _+_, _-_, _*_, _≤_, _<_}
 use native.Mathlib.Nat.{zero-mul, zero-add, add-zero, add-suc}
-use native.Mathlib.Decide.{decLt}
 use native.Mathlib.Omega.{arith}
 use Rattle.wire.specs.Packets.{symbolCount}
 use Rattle.wire.proofs.Adui.{room}
 use Rattle.starts.specs.Adu.{View, lengthIn, needs}
-use Rattle.starts.specs.Starts.{Starts, also, onward, pass}
+use Rattle.starts.specs.Starts.{Starts, onward, pass}
 use Rattle.starts.proofs.Tests.{also-true}
 
 -- An ADUI takes a symbol at least.

@@ -6,7 +6,7 @@ use mathlib.Core.Option.{Option, none, some, Option·none-ne-some, Option·some-
 use mathlib.Core.List.{List, [], _∷_, _++_}
 use Prim.Native.Nat.{ℕ, zero, suc, _+_, _*_, _≤_, _<_}
 use native.Mathlib.Omega.{arith}
-use lib.ListN.{length, take, drop}
+use lib.ListN.{length, drop}
 use lib.Dec.{leb}
 use borrow.Author.Tests.{leb-true, le-leb}
 use Rattle.memory.specs.Part.{part}
@@ -27,15 +27,15 @@ abbrev IsHands : Handing → Type 0
 IsHands (hands flow adu) = Unit {0}
 IsHands (withholds n) = ⊥
 
-abbrev flow-of : Handing → ℕ
+abbrev pub flow-of : Handing → ℕ
 flow-of (hands flow adu) = flow
 flow-of (withholds n) = 0
 
-abbrev adu-of : Handing → List ℕ
+abbrev pub adu-of : Handing → List ℕ
 adu-of (hands flow adu) = adu
 adu-of (withholds n) = []
 
-withheld : (n flow : ℕ) (adu : List ℕ) → ¬ (withholds n ≡ hands flow adu)
+pub withheld : (n flow : ℕ) (adu : List ℕ) → ¬ (withholds n ≡ hands flow adu)
 withheld n flow adu e = subst IsHands (sym e) tt
 
 needed : (b : Bool) (n : ℕ) (r : Handing) (flow : ℕ) (adu : List ℕ) → need b n r ≡ hands flow adu → (b ≡ true) × (r ≡ hands flow adu)

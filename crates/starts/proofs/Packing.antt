@@ -1,20 +1,20 @@
 -- Whole symbols hold an ADUI: its F, its L, the ADU and zero padding are the ADUI that the wire's definition gives, and it reads so.
 use mathlib.Core.Path.{_≡_, refl, sym, ap, ap₂, _∙_, subst}
-use mathlib.Core.Bool.{Bool, true, false, false≢true}
-use mathlib.Core.List.{List, [], _∷_, _++_, append-nil, append-assoc}
-use Prim.Native.Nat.{ℕ, zero, suc, _+_, _-_, _*_, _^_, _≤_, _<_}
+use mathlib.Core.Bool.{true}
+use mathlib.Core.List.{List, [], _∷_, _++_}
+use Prim.Native.Nat.{ℕ, zero, suc, _+_, _-_, _*_, _≤_, _<_}
 use native.Mathlib.Nat.{suc-mul, zero-mul}
 use native.Mathlib.Omega.{arith}
-use lib.ListN.{length, take, drop, getD, length-append, length-take, length-drop, length-replicate, take-append-drop, drop-of-length-le}
-use lib.Seq.{take-at, drop-at, take-append-le, take-append-seam, drop-append-seam, length-take-le}
+use lib.ListN.{length, take, drop, length-append, length-drop, take-append-drop}
+use lib.Seq.{take-at, drop-at, take-append-seam, drop-append-seam, length-take-le}
 use lib.Dec.{eqb}
 use borrow.Author.Tests.{eqb-true}
 use Rattle.memory.specs.Part.{part}
-use Rattle.memory.specs.Number.{number, bytes, Bytes}
+use Rattle.memory.specs.Number.{bytes, Bytes}
 use Rattle.memory.proofs.Parts.{cons-eq}
 use Rattle.memory.proofs.Number.{number-bytes, bytes-number, number-lt}
 use Rattle.wire.specs.Packets.{zeros, joined, chunks, Sized, symbolCount, adui}
-use Rattle.wire.proofs.Adui.{room, length-adui}
+use Rattle.wire.proofs.Adui.{room}
 use Rattle.starts.specs.Adu.{flowIn, lengthIn, allZero}
 use Rattle.starts.proofs.Tests.{and-true}
 
