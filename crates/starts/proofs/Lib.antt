@@ -1,5 +1,8 @@
 -- The modules of the proofs.
 pub mod Tests
 pub mod Chaining
+pub mod Only
+pub mod Marking
+pub mod Passing
 pub mod Packing
 pub mod Handing

@@ -2,3 +2,4 @@ pub mod Adu
 pub mod Starts
 pub mod Marks
 pub mod Contracts
+pub mod MarkSteps
