@@ -6,3 +6,5 @@ pub mod Marking
 pub mod Passing
 pub mod Packing
 pub mod Handing
+pub mod Choosing
+pub mod Agreeing
