@@ -7,3 +7,7 @@ pub mod Texts
 pub mod Copying
 pub mod Giving
 pub mod Passing
+pub mod Packing
+pub mod Handing
+pub mod Choosing
+pub mod Agreeing
