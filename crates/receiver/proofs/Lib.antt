@@ -4,6 +4,7 @@ pub mod Counting
 pub mod Answers
 pub mod Readings
 pub mod Places
+pub mod Starting
 pub mod Building
 pub mod Congruent
 pub mod Naming

@@ -1,26 +1,28 @@
 -- The pass marks what the marks reach: from a marked known position of the window to the position that its L names, and so on.
-use mathlib.Core.Path.{_≡_, refl, sym, ap, subst, _∙_}
+use mathlib.Core.Path.{_≡_, refl, sym, ap, subst}
 use mathlib.Core.Logic.{_↔_, _⊎_, inl, inr}
 use mathlib.Core.Bool.{Bool, true, false, false≢true}
 use mathlib.Core.Option.{Option, none, some, Option·none-ne-some, Option·some-injective}
 use mathlib.Core.List.{List}
 use Prim.Native.Nat.{ℕ, zero, suc, _+_, _-_, _*_, _≤_, _<_}
 use native.Mathlib.Nat.{zero-mul, zero-add, add-zero, add-suc}
-use native.Mathlib.Decide.{decLt}
 use native.Mathlib.Omega.{arith}
 use Rattle.wire.specs.Packets.{symbolCount}
 use Rattle.wire.proofs.Adui.{room}
 use Rattle.starts.specs.Adu.{View, lengthIn, needs}
-use Rattle.starts.specs.Starts.{Starts, also, onward, pass}
+use Rattle.starts.specs.Starts.{Starts, onward, pass}
 use Rattle.starts.proofs.Tests.{also-true}
 
 -- An ADUI takes a symbol at least.
-pub needs-some : (E : ℕ) (x : List ℕ) → 0 < E → 0 < needs E x
-needs-some E x h = go (symbolCount E (lengthIn x)) (room E (lengthIn x) h)
+pub symbols-some : (E L : ℕ) → 0 < E → 0 < symbolCount E L
+symbols-some E L h = go (symbolCount E L) (room E L h)
   where
-    go : (n : ℕ) → 3 + lengthIn x ≤ n * E → 0 < n
+    go : (n : ℕ) → 3 + L ≤ n * E → 0 < n
     go zero k = absurd (omega (arith, k, zero-mul E))
     go (suc n) k = omega arith
+
+pub needs-some : (E : ℕ) (x : List ℕ) → 0 < E → 0 < needs E x
+needs-some E x h = symbols-some E (lengthIn x) h
 
 module _ (E : ℕ) (see : View) where
   pub data Chained (w : ℕ) (M : Starts) : ℕ → Type 0 where

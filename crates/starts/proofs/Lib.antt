@@ -4,3 +4,7 @@ pub mod Chaining
 pub mod Only
 pub mod Marking
 pub mod Passing
+pub mod Packing
+pub mod Handing
+pub mod Choosing
+pub mod Agreeing
