@@ -14,6 +14,7 @@ pub mod Opening
 pub mod Locating
 pub mod Finishing
 pub mod Gathering
+pub mod Marking
 pub mod Receiving
 pub mod Sourcing
 pub mod SourceCall

@@ -56,14 +56,13 @@ pub fn open(mem: &mut [u8], scheme: usize, size: usize, width: usize) -> Answer
         return Answer::Refused(Refusal::Short);
     }
     front::write_header(mem, setting);
-    elimination::place::clear(
-        mem,
-        Shape {
-            width: setting.width,
-            size: setting.size,
-            base: 0,
-        },
-    );
+    let shape = Shape {
+        width: setting.width,
+        size: setting.size,
+        base: 0,
+    };
+    elimination::place::clear(mem, shape);
+    starts::marks::begin(mem, shape);
     Answer::Done(0)
 }
 
@@ -118,7 +117,7 @@ pub fn receive_source(mem: &mut [u8], work: &mut [u8], flow: u8, packet: &[u8]) 
     let Gathered::All(kept) = source::gather_source(mem, work, place, flow, adu, count) else {
         return Answer::Refused(Refusal::Contradiction);
     };
-    Answer::Done(packet::finish(mem, work, header, place, kept))
+    Answer::Done(packet::accept(mem, work, header, place, kept, count))
 }
 
 // Receives a repair packet. The state is only read until all its symbols are known to agree with it. Gives how many positions of the window
@@ -156,5 +155,5 @@ pub fn receive_repair(mem: &mut [u8], work: &mut [u8], packet: &[u8]) -> Answer
     else {
         return Answer::Refused(Refusal::Contradiction);
     };
-    Answer::Done(packet::finish(mem, work, header, place, kept))
+    Answer::Done(packet::accept(mem, work, header, place, kept, 0))
 }
