@@ -20,3 +20,4 @@ pub mod Sourcing
 pub mod SourceCall
 pub mod Repairing
 pub mod RepairCall
+pub mod Giving

@@ -3,6 +3,9 @@ pub mod Tests
 pub mod Chaining
 pub mod Only
 pub mod Marking
+pub mod Texts
+pub mod Copying
+pub mod Giving
 pub mod Passing
 pub mod Packing
 pub mod Handing

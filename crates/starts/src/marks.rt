@@ -8,7 +8,7 @@ ghost use Rattle.starts.specs.Contracts.{Begun, Added, Moved, Passed};
 use elimination::Shape;
 
 // The row of the i-th position of the window.
-fn row_of(shape: Shape, i: usize) -> usize
+pub fn row_of(shape: Shape, i: usize) -> usize
     requires { ⌜ (shape .base < shape .width) × (i < shape .width) × (shape .width ≤ 255) ⌝ }
     ensures { λ r. ⌜ (r ≡ (shape .base + i) % shape .width) × (r < shape .width) ⌝ }
 {
@@ -32,7 +32,7 @@ fn mark_at(shape: Shape, i: usize) -> usize
 }
 
 // Where the symbol of the row `r` begins.
-fn symbol_at(shape: Shape, r: usize) -> usize
+pub fn symbol_at(shape: Shape, r: usize) -> usize
     requires { ⌜ (r < shape .width) × (shape .width ≤ 255) × (shape .size ≤ 1500) ⌝ }
     ensures { λ at. ⌜ (at ≡ place (shape .width) (shape .size) r + shape .width)
         × (at + shape .size ≤ place (shape .width) (shape .size) (shape .width)) ⌝ }
