@@ -103,6 +103,13 @@ int64_t rlc_receive_repair(uint8_t *memory, size_t memory_length, uint8_t *work,
  */
 int64_t rlc_symbol(const uint8_t *memory, size_t memory_length, uint32_t esi);
 
+/*
+ * Where in memory the symbol with an ESI stands, as an offset: the symbol is the E bytes from memory + offset on. They are there to be read, and stand
+ * there until memory is next lent to a call that writes it.
+ * Refusals: those of rlc_symbol.
+ */
+int64_t rlc_symbol_place(const uint8_t *memory, size_t memory_length, uint32_t esi);
+
 #ifdef __cplusplus
 }
 #endif

@@ -23,6 +23,20 @@ static void check(int good, const char *what) {
     check(memcmp((at), expected, sizeof expected) == 0, "bytes at " #at ": " #__VA_ARGS__);       \
   } while (0)
 
+// The receiver shows the symbol with an ESI, and it has these four bytes, in the memory lent.
+#define SHOWS(receiver, esi, ...)                                                                 \
+  do {                                                                                            \
+    SAYS(rlc_symbol(LENT(receiver), esi), 0);                                                     \
+    int64_t place = rlc_symbol_place(LENT(receiver), esi);                                        \
+    check(place >= 0 && (size_t)place + 4 <= (receiver).length, "a symbol lies in the memory");   \
+    if (place >= 0) BYTES((receiver).bytes + place, __VA_ARGS__);                                 \
+  } while (0)
+#define HIDES(receiver, esi, refusal)                                                             \
+  do {                                                                                            \
+    SAYS(rlc_symbol(LENT(receiver), esi), -(refusal));                                            \
+    SAYS(rlc_symbol_place(LENT(receiver), esi), -(refusal));                                      \
+  } while (0)
+
 // An end's memory or an output, of just the length that is lent, and guarded past it.
 #define GUARD 16
 struct room {
@@ -90,17 +104,17 @@ static void seven_and_eight(void) {
   SAYS(rlc_receiver_open(LENT(receiver), 65545, 4, 2), -RLC_VALUES);
   SAYS(rlc_receiver_open(receiver.bytes, receiver.length - 1, 9, 4, 2), -RLC_SHORT);
   SAYS(rlc_receiver_open(LENT(receiver), 9, 4, 2), 0);
-  SAYS(rlc_symbol(LENT(receiver), 0), -RLC_UNKNOWN);
+  HIDES(receiver, 0, RLC_UNKNOWN);
   SAYS(rlc_receive_source(LENT(receiver), work.bytes, work.length - 1, 1, one.bytes, 5), -RLC_SHORT);
   SAYS(rlc_receive_source(LENT(receiver), LENT(work), 1, one.bytes, 3), -RLC_FORM);
   SAYS(rlc_receive_repair(LENT(receiver), LENT(work), repair.bytes, 9), -RLC_FORM);
   SAYS(rlc_receive_source(LENT(receiver), LENT(work), 1, one.bytes, 5), 1);
   SAYS(rlc_receive_repair(LENT(receiver), LENT(work), repair.bytes, 12), 1);
-  SAYS(rlc_symbol(LENT(receiver), 0), 0);
-  SAYS(rlc_symbol(LENT(receiver), 1), 0);
-  SAYS(rlc_symbol(LENT(receiver), 2), -RLC_UNKNOWN);
-  SAYS(rlc_symbol(LENT(receiver), 0xffffffff), -RLC_BEHIND);
-  SAYS(rlc_symbol(LENT(sender), 0), -RLC_UNOPENED);
+  SHOWS(receiver, 0, 1, 0, 1, 0x41);
+  SHOWS(receiver, 1, 1, 0, 1, 0x42);
+  HIDES(receiver, 2, RLC_UNKNOWN);
+  HIDES(receiver, 0xffffffff, RLC_BEHIND);
+  HIDES(sender, 0, RLC_UNOPENED);
   one.bytes[0] = 0x43;
   SAYS(rlc_receive_source(LENT(receiver), LENT(work), 1, one.bytes, 5), -RLC_CONTRADICTION);
   check(untouched(receiver, receiver.length) && untouched(work, work.length), "the receiver stays in its memory");
@@ -140,10 +154,10 @@ static void twelve(void) {
   SAYS(rlc_receive_repair(LENT(receiver), LENT(work), LENT(repair[1])), 0);
   SAYS(rlc_receive_source(LENT(receiver), LENT(work), 1, LENT(source[4])), 1);
   SAYS(rlc_receive_source(LENT(receiver), LENT(work), 1, LENT(source[5])), 1);
-  SAYS(rlc_symbol(LENT(receiver), 2), -RLC_UNKNOWN);
+  HIDES(receiver, 2, RLC_UNKNOWN);
   SAYS(rlc_receive_source(LENT(receiver), LENT(work), 1, LENT(source[3])), 2);
-  SAYS(rlc_symbol(LENT(receiver), 1), -RLC_BEHIND);
-  for (uint32_t esi = 2; esi < 6; esi++) SAYS(rlc_symbol(LENT(receiver), esi), 0);
+  HIDES(receiver, 1, RLC_BEHIND);
+  for (uint8_t esi = 2; esi < 6; esi++) SHOWS(receiver, esi, 1, 0, 1, 0x41 + esi);
   check(untouched(sender, sender.length) && untouched(receiver, receiver.length) && untouched(work, work.length), "all stay in their memory");
 }
 

@@ -7,7 +7,7 @@ ghost use Rattle.wire.specs.Settings.{settingOf};
 ghost use Rattle.sender.specs.State as sender;
 ghost use Rattle.sender.specs.Promises.{Opens, Adds, Repairs};
 ghost use Rattle.receiver.specs.History.{value, refusal, memorySize, workingSize, source-call, repair-call};
-ghost use Rattle.receiver.specs.Promises.{Opened, Received, SymbolAnswered, said};
+ghost use Rattle.receiver.specs.Promises.{Opened, Received, SymbolAnswered, PlaceAnswered, said};
 ghost use Rattle.receiver.specs.Layout.{receiverLayout};
 ghost use Rattle.capi.specs.Coding.{coded, senderSaid, Codes, asked};
 use wire::Checked;
@@ -166,4 +166,11 @@ pub extern "C" fn rlc_symbol(memory: &[u8], esi: u32) -> i64
     ensures { λ r. ⌜ Codes said (SymbolAnswered receiverLayout (now (memory .entry)) esi) r ⌝ }
 {
     coded_receiver(receiver::symbol(memory, Esi(esi)))
+}
+
+#[no_mangle]
+pub extern "C" fn rlc_symbol_place(memory: &[u8], esi: u32) -> i64
+    ensures { λ r. ⌜ Codes said (PlaceAnswered receiverLayout (now (memory .entry)) esi) r ⌝ }
+{
+    coded_receiver(receiver::symbol_place(memory, Esi(esi)))
 }
