@@ -30,6 +30,10 @@ value-small n l =
 pub value-large : (n : ℕ) → largest ≤ n → pos largest ≡ coded (value n)
 value-large n l = let same : largest ≡ min n largest = omega (arith, l) in ap pos same
 
+-- The length alone is past the largest number.
+pub adu-large : (flow n : ℕ) → largest ≤ n → pos largest ≡ coded (value (flow * 65536 + n))
+adu-large flow n l = value-large (flow * 65536 + n) (omega (arith, l))
+
 -- The number that an inner function gave, handed on.
 pub handed : {z w : ℤ} → mag z < 2 ^ 63 → z ≡ w → toZ w64 (ofZ w64 z) ≡ w
 handed fits e = toZ-ofZ {w = w64} (record { sfits = fits }) ∙ e
