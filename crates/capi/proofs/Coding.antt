@@ -1,0 +1,88 @@
+-- Laws of the coding: of a value, of a refusal, of an answer whose case is known, and of the sizes.
+use mathlib.Core.Path.{_≡_, refl, sym, ap, _∙_, subst}
+use mathlib.Core.Logic.{_≢_}
+use mathlib.Core.Option.{Option, none, some}
+use Prim.Native.Nat.{ℕ, zero, suc, _+_, _*_, _^_, _≤_, _<_, min}
+use native.Mathlib.Nat.{mul-le-mul}
+use native.Mathlib.Omega.{arith}
+use lib.IntN.{ℤ, pos, negsuc, natAbs}
+use mir.Syntax.{w64}
+use lib.Signed.{mag}
+use mir.Val.{toZ, ofZ}
+use mir.Facts.{toZ-pos, toZ-ofZ}
+use Rattle.wire.specs.declared.Refusal.{Refusal}
+use Rattle.wire.specs.declared.Setting.{Setting}
+use Rattle.wire.specs.declared.Checked.{Checked}
+use Rattle.wire.specs.declared.Checked.the-variants.{Good, Bad}
+use Rattle.wire.specs.Numbers.{numberOf}
+use Rattle.wire.specs.Settings.{Valid, settingOf, checkedOf}
+use Rattle.wire.proofs.Settings.{setting-names}
+use Rattle.receiver.specs.History.{Said, value, refusal}
+use Rattle.receiver.proofs.Headers.{setting-good, setting-bad}
+use Rattle.capi.specs.Coding.{largest, coded, asked, Readable}
+
+-- A value below the largest number is itself; from there on it stands as that one.
+pub value-small : (n : ℕ) → n < largest → toZ w64 n ≡ coded (value n)
+value-small n l =
+    let fits : n < 2 ^ 63 = omega (arith, l) in
+    let same : n ≡ min n largest = omega (arith, l) in
+    toZ-pos w64 fits ∙ ap pos same
+
+pub value-large : (n : ℕ) → largest ≤ n → pos largest ≡ coded (value n)
+value-large n l = let same : largest ≡ min n largest = omega (arith, l) in ap pos same
+
+-- The length alone is past the largest number.
+pub adu-large : (flow n : ℕ) → largest ≤ n → pos largest ≡ coded (value (flow * 65536 + n))
+adu-large flow n l = value-large (flow * 65536 + n) (omega (arith, l))
+
+-- The number that an inner function gave, handed on.
+pub handed : {z w : ℤ} → mag z < 2 ^ 63 → z ≡ w → toZ w64 (ofZ w64 z) ≡ w
+handed fits e = toZ-ofZ {w = w64} (record { sfits = fits }) ∙ e
+
+-- A number that codes what an answer's case says codes what the answer says.
+pub coded-case : {A : Type 0} (said : A → Said) {a b : A} {z : ℤ} → mag z < 2 ^ 63 → a ≡ b → z ≡ coded (said b) → toZ w64 (ofZ w64 z) ≡ coded (said a)
+coded-case said fits e h = handed fits h ∙ ap (λ x. coded (said x)) (sym e)
+
+-- The refusal that was matched, as it is coded.
+pub refusal-case : {why one : Refusal} → why ≡ one → coded (refusal (numberOf one)) ≡ coded (refusal (numberOf why))
+refusal-case e = ap (λ x. coded (refusal (numberOf x))) (sym e)
+
+-- ---- reading a code back
+
+abbrev NotNegative : ℤ → Type 0
+NotNegative (pos n) = Unit {0}
+NotNegative (negsuc n) = ⊥
+
+refusal-size : (n : ℕ) → natAbs (coded (refusal n)) ≡ n
+refusal-size zero = refl
+refusal-size (suc n) = refl
+
+pub readable : Readable
+readable = record {
+  apart = apart;
+  refusals = λ n k e. sym (refusal-size n) ∙ ap natAbs e ∙ refusal-size k;
+  values = λ n k a b e. let f : min n largest ≡ min k largest = ap natAbs e in omega (arith, f, a, b);
+}
+  where
+    apart : (n k : ℕ) → 1 ≤ k → coded (value n) ≢ coded (refusal k)
+    apart n zero l e = absurd (omega (arith, l))
+    apart n (suc k) l e = subst NotNegative e tt
+
+-- ---- the sizes
+
+-- A header and its stretches are far from filling 64 bits.
+pub area : (count bytes : ℕ) → count ≤ 256 → bytes ≤ 1759 → count * bytes ≤ 450304
+area count bytes a b = mul-le-mul a b
+
+-- The numbers named a setting, whose E and width have their values.
+pub asked-valid : (size width : ℕ) {r : Checked} → r ≡ checkedOf (settingOf 10 size width) → (s : Setting) → r ≡ Good s → Valid s
+asked-valid size width e s good = setting-names _ _ _ s (setting-good _ s e good) .valid
+
+module _ (size width : ℕ) {r : Checked} (e : r ≡ checkedOf (settingOf 10 size width)) (f : Setting → ℕ) {z : ℤ} (fits : mag z < 2 ^ 63) where
+  -- The numbers named no setting.
+  pub asked-none : r ≡ Bad → z ≡ coded (refusal 1) → toZ w64 (ofZ w64 z) ≡ coded (asked f (settingOf 10 size width))
+  asked-none bad h = rw (setting-bad (settingOf 10 size width) e bad) (handed fits h)
+
+  -- They named this one.
+  pub asked-some : (s : Setting) → r ≡ Good s → z ≡ coded (value (f s)) → toZ w64 (ofZ w64 z) ≡ coded (asked f (settingOf 10 size width))
+  asked-some s good h = rw (setting-good (settingOf 10 size width) s e good) (handed fits h)
