@@ -14,7 +14,9 @@ fn main() {
     println!("cargo:rerun-if-changed={}", library.display());
     if !library.is_file() {
         eprintln!("rlc8681: {} is not there.", library.display());
-        eprintln!("Write it with `rt staticlib capi` at the root of the repository, or set RLC8681_LIB_DIR to the folder that holds libcapi.a.");
+        eprintln!(
+            "Write it with `rt staticlib capi` at the root of the repository, or set RLC8681_LIB_DIR to the folder that holds libcapi.a."
+        );
         exit(1);
     }
     println!("cargo:rustc-link-search=native={}", folder.display());

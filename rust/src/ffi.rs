@@ -15,15 +15,8 @@ extern "C" {
         out: *mut u8,
         out_len: usize,
     ) -> i64;
-    pub fn rlc_sender_make_repair(
-        memory: *const u8,
-        memory_len: usize,
-        key: u16,
-        dt: u32,
-        count: u32,
-        out: *mut u8,
-        out_len: usize,
-    ) -> i64;
+    pub fn rlc_sender_make_repair(memory: *const u8, memory_len: usize, key: u16, dt: u32, count: u32, out: *mut u8, out_len: usize)
+        -> i64;
 
     pub fn rlc_receiver_open(memory: *mut u8, memory_len: usize, scheme: u32, symbol_size: u32, width: u32) -> i64;
     pub fn rlc_receive_source(

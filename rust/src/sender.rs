@@ -54,15 +54,7 @@ impl Sender {
     pub fn add_adu(&mut self, flow: u8, adu: &[u8], out: &mut [u8]) -> Result<usize, Refusal> {
         // SAFETY: pointers and lengths are those of slices that are borrowed for the call alone; the two mutable ones are apart.
         answer(unsafe {
-            ffi::rlc_sender_add_adu(
-                self.memory.as_mut_ptr(),
-                self.memory.len(),
-                flow,
-                adu.as_ptr(),
-                adu.len(),
-                out.as_mut_ptr(),
-                out.len(),
-            )
+            ffi::rlc_sender_add_adu(self.memory.as_mut_ptr(), self.memory.len(), flow, adu.as_ptr(), adu.len(), out.as_mut_ptr(), out.len())
         })
     }
 
@@ -86,9 +78,7 @@ impl Sender {
     /// ```
     pub fn make_repair(&self, key: u16, dt: u32, count: u32, out: &mut [u8]) -> Result<usize, Refusal> {
         // SAFETY: pointers and lengths are those of slices that are borrowed for the call alone; only `out` is written.
-        answer(unsafe {
-            ffi::rlc_sender_make_repair(self.memory.as_ptr(), self.memory.len(), key, dt, count, out.as_mut_ptr(), out.len())
-        })
+        answer(unsafe { ffi::rlc_sender_make_repair(self.memory.as_ptr(), self.memory.len(), key, dt, count, out.as_mut_ptr(), out.len()) })
     }
 
     /// The scheme that this sender was opened with.

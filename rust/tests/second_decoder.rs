@@ -3,20 +3,20 @@
 
 mod reference;
 
-use reference::coefficients::{combination, keys};
+use reference::coefficients::{coefficients, combination, keys};
 use reference::equations::Equation;
 use reference::generator::Generator;
 use reference::random::Random;
-use reference::{coefficients, dense, field, repair_packet, Field, Receiver, Sender, Setting};
+use reference::{dense, field, repair_packet, Field, Receiver, Sender, Setting};
 
 const FIGURE_9: [u8; 50] = [
-    37, 225, 177, 176, 21, 246, 54, 139, 168, 237, 211, 187, 62, 190, 104, 135, 210, 99, 176, 11, 207, 35, 40, 113, 179, 214, 254, 101, 212,
-    211, 226, 41, 234, 232, 203, 29, 194, 211, 112, 107, 217, 104, 197, 135, 23, 89, 210, 252, 109, 166,
+    37, 225, 177, 176, 21, 246, 54, 139, 168, 237, 211, 187, 62, 190, 104, 135, 210, 99, 176, 11, 207, 35, 40, 113, 179, 214, 254, 101,
+    212, 211, 226, 41, 234, 232, 203, 29, 194, 211, 112, 107, 217, 104, 197, 135, 23, 89, 210, 252, 109, 166,
 ];
 
 const FIGURE_10: [u8; 50] = [
-    5, 1, 1, 0, 5, 6, 6, 11, 8, 13, 3, 11, 14, 14, 8, 7, 2, 3, 0, 11, 15, 3, 8, 1, 3, 6, 14, 5, 4, 3, 2, 9, 10, 8, 11, 13, 2, 3, 0, 11, 9, 8,
-    5, 7, 7, 9, 2, 12, 13, 6,
+    5, 1, 1, 0, 5, 6, 6, 11, 8, 13, 3, 11, 14, 14, 8, 7, 2, 3, 0, 11, 15, 3, 8, 1, 3, 6, 14, 5, 4, 3, 2, 9, 10, 8, 11, 13, 2, 3, 0, 11, 9,
+    8, 5, 7, 7, 9, 2, 12, 13, 6,
 ];
 
 #[test]
@@ -181,7 +181,9 @@ fn marks_of_starts() {
     receiver.receive_repair(ROOM, ROOM, &repair_packet(0, 15, 1, 1, &[vec![1, 0, 0, 0]])).unwrap();
     assert_eq!(receiver.adu(ROOM, 1, ROOM), Err(13));
     // Both kinds of 14, and the output's length last.
-    for (width, symbol, room, refusal) in [(1, [1, 0, 2, 0], 9, 14), (1, [1, 0, 0, 5], 9, 14), (2, [1, 0, 2, 0], 9, 12), (1, [1, 0, 1, 5], 0, 2)] {
+    for (width, symbol, room, refusal) in
+        [(1, [1, 0, 2, 0], 9, 14), (1, [1, 0, 0, 5], 9, 14), (2, [1, 0, 2, 0], 9, 12), (1, [1, 0, 1, 5], 0, 2)]
+    {
         let (_, mut receiver) = open(9, 4, width);
         receiver.receive_repair(ROOM, ROOM, &repair_packet(0, 15, 1, 0, &[symbol.to_vec()])).unwrap();
         assert_eq!(receiver.adu(ROOM, 0, room), Err(refusal));

@@ -13,7 +13,6 @@ pub mod random;
 pub mod receiver;
 pub mod sender;
 
-pub use coefficients::coefficients;
 pub use field::Field;
 pub use receiver::Receiver;
 pub use sender::Sender;
