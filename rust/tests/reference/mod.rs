@@ -2,7 +2,7 @@
 //!
 //! Nothing here is fast or small. Positions are whole numbers that never wrap, products are computed by shifting and adding, and the
 //! receiver keeps every equation that it ever accepted.
-#![allow(dead_code)]
+#![allow(dead_code, unused_imports)]
 
 pub mod coefficients;
 pub mod dense;
