@@ -1,7 +1,8 @@
 use crate::{answer, ffi, memory_of, Refusal, Scheme};
 use std::fmt;
 
-/// The receiving end. It owns 64 + width × (width + symbol size + 4) bytes of memory, and working memory of one row more.
+/// The receiving end. It owns 64 + width × (width + symbol size + 4) bytes of memory, and working memory of one row more;
+/// a clone goes on by itself from the same history.
 ///
 /// ```
 /// use rlc8681::{Receiver, Refusal, Scheme};

@@ -3,6 +3,7 @@ use std::fmt;
 
 /// Why a call says no. A refused call changes nothing: sender, receiver and output are as they were.
 #[derive(Clone, Copy, Debug, PartialEq, Eq, Hash, PartialOrd, Ord)]
+#[non_exhaustive]
 pub enum Refusal {
     /// 1: symbol size or width outside its values.
     Values = 1,

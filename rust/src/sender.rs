@@ -1,7 +1,7 @@
 use crate::{answer, ffi, memory_of, Refusal, Scheme};
 use std::fmt;
 
-/// The sending end. It owns 32 + width × symbol size bytes of memory.
+/// The sending end. It owns 32 + width × symbol size bytes of memory; a clone goes on by itself from the same history.
 ///
 /// ```
 /// use rlc8681::{Scheme, Sender};

@@ -102,8 +102,8 @@ fn sizes() {
 #[test]
 fn order_of_opening() {
     type Open = fn(&mut [u8], u32, u32, u32) -> i64;
-    let ends: [(Open, fn(u32, u32) -> i64); 2] =
-        [(library::sender_open, library::sender_memory), (library::receiver_open, library::receiver_memory)];
+    type Size = fn(u32, u32) -> i64;
+    let ends: [(Open, Size); 2] = [(library::sender_open, library::sender_memory), (library::receiver_open, library::receiver_memory)];
     for (open, size) in ends {
         for (scheme, e, w) in [(8, 4, 1), (11, 4, 1), (0, 4, 1), (u32::MAX, 4, 1), (9, 3, 1), (9, 1501, 1), (10, 4, 0), (10, 4, 256)] {
             for length in [0, 40, 5000] {
