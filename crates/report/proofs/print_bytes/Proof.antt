@@ -1,10 +1,10 @@
--- `bench_sheet::print_bytes` is safe and ends.
+-- `report::print_bytes` is safe and ends.
 use mathlib.Core.Path.{_≡_}
 use Prim.Native.Nat.{_≤_, _-_}
 use lib.ListN.{length}
 use borrow.Author.Needs.{needs}
-use Rattle.bench_sheet.proofs.print_bytes.Statement.{statement}
-use Rattle.bench_sheet.proofs.print_bytes.Tie as tie
+use Rattle.report.proofs.print_bytes.Statement.{statement}
+use Rattle.report.proofs.print_bytes.Tie as tie
 
 abbrev Inv-loop : tie.InvT-loop
 Inv-loop bytes i₀ i-end i = (i-end ≡ length bytes) × (i ≤ i-end)

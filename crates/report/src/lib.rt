@@ -1,0 +1,99 @@
+// What the printing programs share: numbers, bytes in hexadecimal and refusals on standard output, and calls whose answers are printed.
+ghost use mathlib.Core.Path.{_≡_};
+ghost use Prim.Native.Nat.{_<_};
+ghost use Rattle.wire.specs.Numbers.{numberOf};
+use libc::STDOUT_FILENO;
+use receiver::Answer;
+use wire::Esi;
+use wire::Refusal;
+
+pub fn print(text: &[u8]) {
+    io::write_all(STDOUT_FILENO, text);
+}
+
+// A blank and a number.
+pub fn print_number(n: usize) {
+    print(b" ");
+    io::print_decimal(STDOUT_FILENO, n as u64);
+}
+
+// A hexadecimal digit.
+fn digit(n: u8) -> u8
+    requires { ⌜ n < 16 ⌝ }
+{
+    if n < 10 { n + 48 } else { n + 55 }
+}
+
+fn print_byte(b: u8) {
+    let digits = [digit(b / 16), digit(b % 16)];
+    print(&digits);
+}
+
+// A blank, and the bytes in hexadecimal.
+pub fn print_bytes(bytes: &[u8]) {
+    print(b" ");
+    for i in 0..bytes.len() {
+        print_byte(bytes[i]);
+    }
+}
+
+// Document 01's number of a refusal.
+fn number(refusal: Refusal) -> usize
+    ensures { λ r. ⌜ r ≡ numberOf refusal ⌝ }
+{
+    match refusal {
+        Refusal::Values => 1,
+        Refusal::Short => 2,
+        Refusal::Unopened => 3,
+        Refusal::Long => 4,
+        Refusal::Form => 5,
+        Refusal::Range => 6,
+        Refusal::Empty => 7,
+        Refusal::Behind => 8,
+        Refusal::Ahead => 9,
+        Refusal::Draws => 10,
+        Refusal::Contradiction => 11,
+        Refusal::Unknown => 12,
+        Refusal::NoStart => 13,
+        Refusal::Padding => 14,
+    }
+}
+
+pub fn print_refusal(refusal: Refusal) {
+    print(b" refusal");
+    print_number(number(refusal));
+}
+
+// What a sender's call answered.
+pub fn print_sent(answer: sender::Answer) {
+    match answer {
+        sender::Answer::Done(n) => print_number(n),
+        sender::Answer::Refused(refusal) => print_refusal(refusal),
+    }
+}
+
+// What a receiver's call answered.
+pub fn print_answer(answer: Answer) {
+    match answer {
+        Answer::Done(n) => print_number(n),
+        Answer::Refused(refusal) => print_refusal(refusal),
+    }
+}
+
+// A source packet with flow 1.
+pub fn source(mem: &mut [u8], work: &mut [u8], packet: &[u8]) {
+    print_answer(receiver::receive_source(mem, work, 1, packet));
+}
+
+// A repair packet.
+pub fn repair(mem: &mut [u8], work: &mut [u8], packet: &[u8]) {
+    print_answer(receiver::receive_repair(mem, work, packet));
+}
+
+// The symbol with an ESI, or the refusal of the symbol call.
+pub fn show(mem: &[u8], esi: u32) {
+    match receiver::symbol(mem, Esi(esi)) {
+        Answer::Done(_) => print_bytes(receiver::symbol_part(mem, Esi(esi))),
+        Answer::Refused(refusal) => print_refusal(refusal),
+    }
+}
