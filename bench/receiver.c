@@ -1,21 +1,24 @@
-// The receiver's packet calls: a source packet that is new or known already, a repair packet over known symbols, and the repair packets that
-// recover what a burst took.
+// The receiver's calls: a source packet that is new or known already, a repair packet over known symbols, the repair packets that recover what a
+// burst took, and handing out an ADU of one symbol; and the marks' pass, a part of each packet call.
 #include "library.h"
 #include "table.h"
 #define PACKETS 64
 
-// A receiver, its answer before its memory, so that both are compared; a source packet; repair packets, of which `repairs` recover what was lost;
-// and the memory as it was before them.
+// A receiver, its answer before its memory and an ADU after it, so that all three are compared; a source packet; repair packets, of which
+// `repairs` recover what was lost; and the memory as it was before them.
 struct receiver {
   const struct library *library;
   struct setting setting;
   size_t memory_size, work_size, repairs, lost, slot, *answer;
-  u8 *memory, *work, *source, *repair, *before;
+  u8 *memory, *adu, *work, *source, *repair, *before;
   uint32_t esi;
 };
 
+static size_t adu_size(struct setting s) { return s.size - 3; }
 static size_t repair_size(struct setting s) { return 8 + s.size; }
 static size_t row_size(struct setting s) { return s.width + s.size + 4; }
+
+static size_t compared(const struct receiver *r) { return sizeof(size_t) + r->memory_size + adu_size(r->setting); }
 
 static size_t take(struct receiver *r) {
   return r->library->receive_source(r->memory, r->memory_size, r->work, r->work_size, 1, r->source, r->setting.size + 1);
@@ -46,6 +49,17 @@ static void run_known(void *of) {
   struct receiver *r = of;
   answer(r, mend(r, 0), 0);
 }
+// The ADU of each position in turn.
+static void run_adu(void *of) {
+  struct receiver *r = of;
+  size_t n = adu_size(r->setting);
+  answer(r, r->library->adu(r->memory, r->memory_size, r->esi - r->slot, r->adu, n), n);
+  r->slot = r->slot + 1 == r->setting.width ? 0 : r->slot + 1;
+}
+static void run_pass(void *of) {
+  struct receiver *r = of;
+  r->library->pass(r->memory, r->memory_size, r->setting.size, r->setting.width, r->memory[8] * 256 + r->memory[9]);
+}
 static void run_burst(void *of) {
   struct receiver *r = of;
   size_t solved = 0;
@@ -57,11 +71,18 @@ static void ready_burst(void *of) {
   memcpy(r->memory, r->before, r->memory_size);
 }
 
-// What a packet must write: its symbol, into the window's next row; what repair packets must: the lost symbols.
+// What a packet must write: its symbol, into the window's next row; what repair packets must: the lost symbols; what handing out must: the ADU.
+static u8 *next_symbol(struct receiver *r) {
+  r->slot = r->slot + 1 == r->setting.width ? 0 : r->slot + 1;
+  return r->memory + 64 + r->slot * row_size(r->setting) + r->setting.width;
+}
 static void run_copy(void *of) {
   struct receiver *r = of;
-  memcpy(r->memory + 64 + r->slot * row_size(r->setting) + r->setting.width, r->source, r->setting.size);
-  r->slot = r->slot + 1 == r->setting.width ? 0 : r->slot + 1;
+  memcpy(next_symbol(r), r->source, r->setting.size);
+}
+static void run_adu_copy(void *of) {
+  struct receiver *r = of;
+  memcpy(r->adu, next_symbol(r) + 3, adu_size(r->setting));
 }
 static void run_copies(void *of) {
   struct receiver *r = of;
@@ -74,7 +95,7 @@ static struct receiver *receiver_of(const struct library *library, struct settin
   size_t memory_size = 64 + s.width * row_size(s), sender_size = 32 + s.width * s.size, n = repair_size(s);
   u8 *sender = room(sender_size), *adu = room(s.size);
   *r = (struct receiver){.library = library, .setting = s, .memory_size = memory_size, .work_size = memory_size + row_size(s), .lost = lost, .esi = sent - 1};
-  r->answer = (size_t *)room(sizeof(size_t) + memory_size), r->memory = (u8 *)(r->answer + 1), r->work = room(r->work_size);
+  r->answer = (size_t *)room(compared(r)), r->memory = (u8 *)(r->answer + 1), r->adu = r->memory + memory_size, r->work = room(r->work_size);
   r->source = room(s.size + 1), r->repair = room(PACKETS * n), r->before = room(memory_size);
   if (proved.sender_open(sender, sender_size, s.scheme, s.size, s.width)) exit(3);
   if (library->receiver_open(r->memory, memory_size, s.scheme, s.size, s.width)) exit(3);
@@ -88,20 +109,22 @@ static struct receiver *receiver_of(const struct library *library, struct settin
   return r;
 }
 
-static void add_ways(struct line *l, void (*run)(void *), void (*copy)(void *), void (*ready)(void *), struct receiver *ends[3]) {
-  for (int k = 0; k < 2; k++) l->ways[k] = (struct way){run, ends[k], ready, (u8 *)ends[k]->answer, sizeof(size_t) + ends[k]->memory_size};
-  l->ways[2] = (struct way){copy, ends[2]};
+static void add_ways(struct line *l, void (*run)(void *), void (*other)(void *), void (*ready)(void *), struct receiver *ends[3]) {
+  for (int k = 0; k < 2; k++) l->ways[k] = (struct way){run, ends[k], ready, (u8 *)ends[k]->answer, compared(ends[k])};
+  l->ways[2] = (struct way){other, ends[2]};
 }
 
-// A line on receivers to which all symbols of two windows came.
-static void fill(struct table *t, struct setting s, void (*run)(void *)) {
+// A line on receivers to which all symbols of two windows came. The third way is one of the proved code too.
+static void fill(struct table *t, struct setting s, void (*run)(void *), void (*other)(void *)) {
   struct receiver *ends[3];
-  for (int k = 0; k < 3; k++) ends[k] = receiver_of(k ? &plain : &proved, s, 2 * s.width, 0, 15);
-  add_ways(add_line(t, s), run, run_copy, 0, ends);
+  for (int k = 0; k < 3; k++) ends[k] = receiver_of(k == 1 ? &plain : &proved, s, 2 * s.width, 0, 15);
+  add_ways(add_line(t, s), run, other, 0, ends);
 }
-static void fill_new(struct table *t, struct setting s) { fill(t, s, run_new); }
-static void fill_repeated(struct table *t, struct setting s) { fill(t, s, run_repeated); }
-static void fill_known(struct table *t, struct setting s) { fill(t, s, run_known); }
+static void fill_new(struct table *t, struct setting s) { fill(t, s, run_new, run_copy); }
+static void fill_repeated(struct table *t, struct setting s) { fill(t, s, run_repeated, run_copy); }
+static void fill_known(struct table *t, struct setting s) { fill(t, s, run_known, run_copy); }
+static void fill_adu(struct table *t, struct setting s) { fill(t, s, run_adu, run_adu_copy); }
+static void fill_pass(struct table *t, struct setting s) { fill(t, s, run_pass, run_new); }
 
 // How many of the repair packets it takes to recover what was lost.
 static size_t needed(struct receiver *r) {
@@ -131,9 +154,13 @@ static void fill_burst(struct table *t, struct setting s) {
 #define NAMES {"", "plain Rust", "memcpy"}
 int main(void) {
   static struct table news = {"New source packet of one symbol", NAMES}, repeated = {"Repeated source packet of one symbol", NAMES},
-    known = {"Repair packet of one symbol, DT 15, all symbols of the window known", NAMES}, burst = {"Recovery after a burst", NAMES};
+    known = {"Repair packet of one symbol, DT 15, all symbols of the window known", NAMES}, burst = {"Recovery after a burst", NAMES},
+    adu = {"Handing out an ADU of one symbol", NAMES},
+    pass = {"The marks' pass, a part of each packet call, all positions marked and known", {"", "plain Rust", "the whole call for a new source packet"}};
   make(&news, fill_new);
+  make(&pass, fill_pass);
   make(&repeated, fill_repeated);
   make(&known, fill_known);
   make(&burst, fill_burst);
+  make(&adu, fill_adu);
 }
