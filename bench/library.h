@@ -1,15 +1,36 @@
-// The functions of crate `bench`; a slice is a pointer and a length. Nothing checks these declarations against the crate's source.
+// The functions of crate `bench` and those of plain.rs, which have the same shapes; a slice is a pointer and a length. Nothing checks these
+// declarations against the sources.
 #include <stddef.h>
 #include <stdint.h>
-void bench_copy(uint8_t *, size_t, const uint8_t *, size_t);
-void bench_add_scaled(uint8_t *, size_t, const uint8_t *, size_t, uint8_t);
-void bench_add_by_tables(uint8_t *, size_t, const uint8_t *, size_t, uint8_t);
-void bench_add_within(uint8_t *, size_t, size_t, size_t, size_t, uint8_t);
-void bench_combine(uint8_t *, size_t, const uint8_t *, size_t, const uint8_t *, size_t);
-void bench_add_combination(uint8_t *, size_t, const uint8_t *, size_t, const uint8_t *, size_t);
-size_t bench_sender_open(uint8_t *, size_t, size_t, size_t, size_t);
-size_t bench_add_adu(uint8_t *, size_t, uint8_t, const uint8_t *, size_t, uint8_t *, size_t);
-size_t bench_make_repair(const uint8_t *, size_t, uint16_t, size_t, size_t, uint8_t *, size_t);
-size_t bench_receiver_open(uint8_t *, size_t, size_t, size_t, size_t);
-size_t bench_receive_source(uint8_t *, size_t, uint8_t *, size_t, uint8_t, const uint8_t *, size_t);
-size_t bench_receive_repair(uint8_t *, size_t, uint8_t *, size_t, const uint8_t *, size_t);
+
+#define FUNCTIONS(F)                                                                                           \
+  F(void, add_scaled, (uint8_t *, size_t, const uint8_t *, size_t, uint8_t))                                   \
+  F(void, add_by_tables, (uint8_t *, size_t, const uint8_t *, size_t, uint8_t))                                \
+  F(void, add_within, (uint8_t *, size_t, size_t, size_t, size_t, uint8_t))                                    \
+  F(void, combine, (uint8_t *, size_t, const uint8_t *, size_t, const uint8_t *, size_t))                      \
+  F(void, add_combination, (uint8_t *, size_t, const uint8_t *, size_t, const uint8_t *, size_t))              \
+  F(size_t, sender_open, (uint8_t *, size_t, size_t, size_t, size_t))                                          \
+  F(size_t, add_adu, (uint8_t *, size_t, uint8_t, const uint8_t *, size_t, uint8_t *, size_t))                 \
+  F(size_t, make_repair, (const uint8_t *, size_t, uint16_t, size_t, size_t, uint8_t *, size_t))               \
+  F(size_t, receiver_open, (uint8_t *, size_t, size_t, size_t, size_t))                                        \
+  F(size_t, receive_source, (uint8_t *, size_t, uint8_t *, size_t, uint8_t, const uint8_t *, size_t))          \
+  F(size_t, receive_repair, (uint8_t *, size_t, uint8_t *, size_t, const uint8_t *, size_t))                   \
+  F(size_t, symbol, (const uint8_t *, size_t, uint32_t))                                                       \
+  F(size_t, adu, (const uint8_t *, size_t, uint32_t, uint8_t *, size_t))                                       \
+  F(void, pass, (uint8_t *, size_t, size_t, size_t, size_t))
+
+#define MEMBER(result, name, parameters) result(*name) parameters;
+#define PROVED(result, name, parameters) result bench_##name parameters;
+#define PLAIN(result, name, parameters) result plain_##name parameters;
+#define PROVED_NAME(result, name, parameters) bench_##name,
+#define PLAIN_NAME(result, name, parameters) plain_##name,
+
+struct library {
+  FUNCTIONS(MEMBER)
+};
+FUNCTIONS(PROVED)
+FUNCTIONS(PLAIN)
+static const struct library proved = {FUNCTIONS(PROVED_NAME)}, plain = {FUNCTIONS(PLAIN_NAME)};
+
+// The coefficients of a key and a DT, for ISA-L, which doesn't draw them.
+size_t plain_coefficients(uint8_t *, size_t, size_t, uint16_t, uint8_t);

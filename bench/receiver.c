@@ -1,140 +1,166 @@
-// The receiver's packet calls on symbols of 1,400 bytes, after a sender of the same width. The calls are those of crate `bench`.
+// The receiver's calls: a source packet that is new or known already, a repair packet over known symbols, the repair packets that recover what a
+// burst took, and handing out an ADU of one symbol; and the marks' pass, a part of each packet call.
 #include "library.h"
 #include "table.h"
-#define E 1400
-#define W 255
-#define ROW(w) ((w) + E + 4)
-#define REFUSED 1000000
+#define PACKETS 64
 
-static u8 work[64 + (W + 1) * ROW(W)], adu[E - 3], symbols[W * E], general[W], dst[E];
-
-// A sender and a receiver of one width and scheme, with the packet that is measured.
-struct ends {
-  size_t width, scheme, esi;
-  u8 sender[32 + W * E], receiver[64 + W * ROW(W)], source[E + 1], repair[8 + E];
+// A receiver, its answer before its memory and an ADU after it, so that all three are compared; a source packet; repair packets, of which
+// `repairs` recover what was lost; and the memory as it was before them.
+struct receiver {
+  const struct library *library;
+  struct setting setting;
+  size_t memory_size, work_size, repairs, lost, slot, *answer;
+  u8 *memory, *adu, *work, *source, *repair, *before;
+  uint32_t esi;
 };
-static struct ends ten16 = {16, 10}, ten64 = {64, 10}, ten255 = {255, 10}, nine16 = {16, 9}, nine64 = {64, 9}, nine255 = {255, 9};
-static struct ends burst16 = {16, 10}, burst64 = {64, 10}, burst255 = {255, 10};
 
-static size_t smem(struct ends *e) { return 32 + e->width * E; }
-static size_t rmem(struct ends *e) { return 64 + e->width * ROW(e->width); }
-static size_t wmem(struct ends *e) { return 64 + (e->width + 1) * ROW(e->width); }
+static size_t adu_size(struct setting s) { return s.size - 3; }
+static size_t repair_size(struct setting s) { return 8 + s.size; }
+static size_t row_size(struct setting s) { return s.width + s.size + 4; }
 
-// The next source packet of the stream.
-static void send(struct ends *e) {
-  adu[0] = e->esi;
-  if (bench_add_adu(e->sender, smem(e), 1, adu, sizeof adu, e->source, sizeof e->source) != sizeof e->source) exit(1);
-  e->esi++;
+static size_t compared(const struct receiver *r) { return sizeof(size_t) + r->memory_size + adu_size(r->setting); }
+
+static size_t take(struct receiver *r) {
+  return r->library->receive_source(r->memory, r->memory_size, r->work, r->work_size, 1, r->source, r->setting.size + 1);
 }
-static size_t take(struct ends *e) { return bench_receive_source(e->receiver, rmem(e), work, wmem(e), 1, e->source, sizeof e->source); }
-static size_t mend(struct ends *e) { return bench_receive_repair(e->receiver, rmem(e), work, wmem(e), e->repair, sizeof e->repair); }
-static void cover(struct ends *e, int key) { bench_make_repair(e->sender, smem(e), key, 15, 1, e->repair, sizeof e->repair); }
-
-static int begin(struct ends *e) {
-  if (bench_sender_open(e->sender, smem(e), e->scheme, E, e->width) || bench_receiver_open(e->receiver, rmem(e), e->scheme, E, e->width)) return 0;
-  for (size_t k = 0; k < 2 * e->width; k++) {
-    send(e);
-    if (take(e) != 1) return 0;
-  }
-  cover(e, 1);
-  return mend(e) == 0;
+static size_t mend(struct receiver *r, size_t k) {
+  size_t n = repair_size(r->setting);
+  return r->library->receive_repair(r->memory, r->memory_size, r->work, r->work_size, r->repair + k * n, n);
 }
 
-// A new source packet: only its four bytes of ESI change, as the stream goes on.
-static void next_source(struct ends *e) {
-  e->source[E - 3] = e->esi >> 24, e->source[E - 2] = e->esi >> 16, e->source[E - 1] = e->esi >> 8, e->source[E] = e->esi;
-  e->esi++;
-  if (take(e) != 1) exit(2);
+static void answer(struct receiver *r, size_t n, size_t expected) {
+  *r->answer = n;
+  if (n != expected) exit(3);
 }
 
-// A burst: the last n symbols of a fresh window are lost, n repair packets solve them.
-static double burst(struct ends *e, int n) {
-  if (bench_sender_open(e->sender, smem(e), e->scheme, E, e->width) || bench_receiver_open(e->receiver, rmem(e), e->scheme, E, e->width)) exit(3);
-  e->esi = 0;
-  for (size_t k = 0; k < e->width; k++) {
-    send(e);
-    if (k + n < e->width) take(e);
-  }
+// The next source packet is the one before with the next ESI.
+static void run_new(void *of) {
+  struct receiver *r = of;
+  u8 *esi = r->source + r->setting.size - 3;
+  r->esi++;
+  esi[0] = r->esi >> 24, esi[1] = r->esi >> 16, esi[2] = r->esi >> 8, esi[3] = r->esi;
+  answer(r, take(r), 1);
+}
+static void run_repeated(void *of) {
+  struct receiver *r = of;
+  answer(r, take(r), 0);
+}
+static void run_known(void *of) {
+  struct receiver *r = of;
+  answer(r, mend(r, 0), 0);
+}
+// The ADU of each position in turn.
+static void run_adu(void *of) {
+  struct receiver *r = of;
+  size_t n = adu_size(r->setting);
+  answer(r, r->library->adu(r->memory, r->memory_size, r->esi - r->slot, r->adu, n), n);
+  r->slot = r->slot + 1 == r->setting.width ? 0 : r->slot + 1;
+}
+static void run_pass(void *of) {
+  struct receiver *r = of;
+  r->library->pass(r->memory, r->memory_size, r->setting.size, r->setting.width, r->memory[8] * 256 + r->memory[9]);
+}
+static void run_burst(void *of) {
+  struct receiver *r = of;
   size_t solved = 0;
-  double spent = 0;
-  for (int k = 0; k < n + 3 && solved < (size_t)n; k++) {
-    cover(e, k + 1);
-    double start = now();
-    solved += mend(e);
-    spent += now() - start;
+  for (size_t k = 0; k < r->repairs; k++) solved += mend(r, k);
+  answer(r, solved, r->lost);
+}
+static void ready_burst(void *of) {
+  struct receiver *r = of;
+  memcpy(r->memory, r->before, r->memory_size);
+}
+
+// What a packet must write: its symbol, into the window's next row; what repair packets must: the lost symbols; what handing out must: the ADU.
+static u8 *next_symbol(struct receiver *r) {
+  r->slot = r->slot + 1 == r->setting.width ? 0 : r->slot + 1;
+  return r->memory + 64 + r->slot * row_size(r->setting) + r->setting.width;
+}
+static void run_copy(void *of) {
+  struct receiver *r = of;
+  memcpy(next_symbol(r), r->source, r->setting.size);
+}
+static void run_adu_copy(void *of) {
+  struct receiver *r = of;
+  memcpy(r->adu, next_symbol(r) + 3, adu_size(r->setting));
+}
+static void run_copies(void *of) {
+  struct receiver *r = of;
+  for (size_t k = 0; k < r->lost; k++) run_copy(r);
+}
+
+// A receiver that took the source packets of `sent` symbols but the last `lost`, and the repair packets that the sender then makes.
+static struct receiver *receiver_of(const struct library *library, struct setting s, size_t sent, size_t lost, size_t dt) {
+  struct receiver *r = (struct receiver *)room(sizeof *r);
+  size_t memory_size = 64 + s.width * row_size(s), sender_size = 32 + s.width * s.size, n = repair_size(s);
+  u8 *sender = room(sender_size), *adu = room(s.size);
+  *r = (struct receiver){.library = library, .setting = s, .memory_size = memory_size, .work_size = memory_size + row_size(s), .lost = lost, .esi = sent - 1};
+  r->answer = (size_t *)room(compared(r)), r->memory = (u8 *)(r->answer + 1), r->adu = r->memory + memory_size, r->work = room(r->work_size);
+  r->source = room(s.size + 1), r->repair = room(PACKETS * n), r->before = room(memory_size);
+  if (proved.sender_open(sender, sender_size, s.scheme, s.size, s.width)) exit(3);
+  if (library->receiver_open(r->memory, memory_size, s.scheme, s.size, s.width)) exit(3);
+  for (size_t k = 0; k < sent; k++) {
+    for (size_t i = 0; i < s.size - 3; i++) adu[i] = i * i + 13 * k;
+    if (proved.add_adu(sender, sender_size, 1, adu, s.size - 3, r->source, s.size + 1) != s.size + 1) exit(3);
+    if (k + lost < sent && take(r) != 1) exit(3);
   }
-  if (solved != (size_t)n) exit(4);
-  return spent;
+  memcpy(r->before, r->memory, memory_size);
+  for (size_t k = 0; k < PACKETS; k++) proved.make_repair(sender, sender_size, k + 1, dt, 1, r->repair + k * n, n);
+  return r;
 }
 
-static void one_by_one(int w) {
-  memset(dst, 0, E);
-  for (int k = 0; k < w; k++) bench_add_scaled(dst, E, symbols + k * E, E, general[k]);
+static void add_ways(struct line *l, void (*run)(void *), void (*other)(void *), void (*ready)(void *), struct receiver *ends[3]) {
+  for (int k = 0; k < 2; k++) l->ways[k] = (struct way){run, ends[k], ready, (u8 *)ends[k]->answer, compared(ends[k])};
+  l->ways[2] = (struct way){other, ends[2]};
 }
 
-// One byte of each row of the receiver's memory.
-static volatile u8 sink;
-static void strided(struct ends *e) {
-  u8 x = 0;
-  for (size_t r = 0; r < e->width; r++) x |= e->receiver[64 + r * ROW(e->width)];
-  sink = x;
+// A line on receivers to which all symbols of two windows came. The third way is one of the proved code too.
+static void fill(struct table *t, struct setting s, void (*run)(void *), void (*other)(void *)) {
+  struct receiver *ends[3];
+  for (int k = 0; k < 3; k++) ends[k] = receiver_of(k == 1 ? &plain : &proved, s, 2 * s.width, 0, 15);
+  add_ways(add_line(t, s), run, other, 0, ends);
 }
-static void run_copy(void) { for (int k = 0; k < 16; k++) bench_copy(dst, E, symbols + k * E, E); }
-#define WIDTH(w)                                                   \
-  static void run_general_##w(void) { one_by_one(w); }             \
-  static void run_strided_##w(void) { strided(&ten##w); }          \
-  static void run_source_##w(void) { next_source(&ten##w); }       \
-  static void run_repeat_##w(void) { take(&nine##w); }             \
-  static void run_ten_##w(void) { mend(&ten##w); }                 \
-  static void run_nine_##w(void) { mend(&nine##w); }
-WIDTH(16)
-WIDTH(64)
-WIDTH(255)
+static void fill_new(struct table *t, struct setting s) { fill(t, s, run_new, run_copy); }
+static void fill_repeated(struct table *t, struct setting s) { fill(t, s, run_repeated, run_copy); }
+static void fill_known(struct table *t, struct setting s) { fill(t, s, run_known, run_copy); }
+static void fill_adu(struct table *t, struct setting s) { fill(t, s, run_adu, run_adu_copy); }
+static void fill_pass(struct table *t, struct setting s) { fill(t, s, run_pass, run_new); }
 
-#define ROWS(w)                                                                                                            \
-  {#w " add_scaled, c > 1", run_general_##w, 1, 0, 0, 0}, {"a byte of each of " #w " rows", run_strided_##w, 1, 0, 0, 0},  \
-  {"new source packet, width " #w, run_source_##w, 1, "copy", 0, 0}, {"repeated source packet, width " #w, run_repeat_##w, 1, "copy", 0, 0}, \
-  {"repair over " #w " known, scheme 10", run_ten_##w, 1, #w " add_scaled, c > 1", 1.2, 0}, {"repair over " #w " known, scheme 9", run_nine_##w, 1, #w " add_scaled, c > 1", 1.2, 0}
-
-// Repairs are measured before the stream goes on, so that their window is the receiver's.
-static struct row repairs[] = {
-  {"copy", run_copy, 16, 0, 0, 0},
-  {"16 add_scaled, c > 1", run_general_16, 1, 0, 0, 0}, {"repair over 16 known, scheme 10", run_ten_16, 1, "16 add_scaled, c > 1", 1.2, 0},
-  {"repair over 16 known, scheme 9", run_nine_16, 1, "16 add_scaled, c > 1", 1.2, 0},
-  {"64 add_scaled, c > 1", run_general_64, 1, 0, 0, 0}, {"repair over 64 known, scheme 10", run_ten_64, 1, "64 add_scaled, c > 1", 1.2, 0},
-  {"repair over 64 known, scheme 9", run_nine_64, 1, "64 add_scaled, c > 1", 1.2, 0},
-  {"255 add_scaled, c > 1", run_general_255, 1, 0, 0, 0}, {"repair over 255 known, scheme 10", run_ten_255, 1, "255 add_scaled, c > 1", 1.2, 0},
-  {"repair over 255 known, scheme 9", run_nine_255, 1, "255 add_scaled, c > 1", 1.2, 0},
-};
-static struct row sources[] = {
-  {"copy", run_copy, 16, 0, 0, 0},
-  {"a byte of each of 16 rows", run_strided_16, 1, "copy", 0, 0}, {"new source packet, width 16", run_source_16, 1, "copy", 0, 0},
-  {"repeated source packet, width 16", run_repeat_16, 1, "copy", 0, 0},
-  {"a byte of each of 64 rows", run_strided_64, 1, "copy", 0, 0}, {"new source packet, width 64", run_source_64, 1, "copy", 0, 0},
-  {"repeated source packet, width 64", run_repeat_64, 1, "copy", 0, 0},
-  {"a byte of each of 255 rows", run_strided_255, 1, "copy", 0, 0}, {"new source packet, width 255", run_source_255, 1, "copy", 0, 0},
-  {"repeated source packet, width 255", run_repeat_255, 1, "copy", 0, 0},
-};
-
-static void print_burst(struct ends *e, int n) {
-  double best = 1e30;
-  for (int k = 0; k < 20; k++) {
-    double t = burst(e, n);
-    if (t < best) best = t;
+// How many of the repair packets it takes to recover what was lost.
+static size_t needed(struct receiver *r) {
+  size_t solved = 0, k = 0;
+  ready_burst(r);
+  while (solved < r->lost) {
+    if (k == PACKETS) exit(3);
+    solved += mend(r, k++);
   }
-  printf("%2d lost of %3zu, scheme 10: %9.1f ns for the repair packets that solve them, %9.1f a symbol\n", n, e->width, best, best / n);
+  return k;
 }
 
+// A line on a burst: a quarter, an eighth or a sixteenth of the window is lost. At DT 15 scheme 9 has but one equation; at DT 7 it has half of all.
+static void fill_burst(struct table *t, struct setting s) {
+  size_t lost = s.width == 16 ? 4 : s.width == 64 ? 8 : 16;
+  struct line *l = add_line(t, s);
+  struct receiver *ends[3];
+  for (int k = 0; k < 3; k++) {
+    ends[k] = receiver_of(k ? &plain : &proved, s, s.width, lost, s.scheme == 9 ? 7 : 15);
+    ends[k]->repairs = needed(ends[k]);
+  }
+  sprintf(l->name + strlen(l->name), ", %zu lost, %zu repair", lost, ends[0]->repairs);
+  l->symbols = lost;
+  add_ways(l, run_burst, run_copies, ready_burst, ends);
+}
+
+#define NAMES {"", "plain Rust", "memcpy"}
 int main(void) {
-  srand(8681);
-  for (int i = 0; i < W * E; i++) symbols[i] = rand();
-  for (size_t i = 0; i < sizeof adu; i++) adu[i] = rand();
-  for (int k = 0; k < W; k++) general[k] = 2 + rand() % 254;
-  struct ends *all[] = {&ten16, &ten64, &ten255, &nine16, &nine64, &nine255};
-  for (int k = 0; k < 6; k++) if (!begin(all[k])) return puts("WRONG: a call answered something else"), 1;
-  measure(repairs, sizeof repairs / sizeof *repairs);
-  print(repairs, sizeof repairs / sizeof *repairs);
-  measure(sources, sizeof sources / sizeof *sources);
-  print(sources, sizeof sources / sizeof *sources);
-  print_burst(&burst16, 4), print_burst(&burst64, 8), print_burst(&burst255, 16);
+  static struct table news = {"New source packet of one symbol", NAMES}, repeated = {"Repeated source packet of one symbol", NAMES},
+    known = {"Repair packet of one symbol, DT 15, all symbols of the window known", NAMES}, burst = {"Recovery after a burst", NAMES},
+    adu = {"Handing out an ADU of one symbol", NAMES},
+    pass = {"The marks' pass, a part of each packet call, all positions marked and known", {"", "plain Rust", "the whole call for a new source packet"}};
+  make(&news, fill_new);
+  make(&pass, fill_pass);
+  make(&repeated, fill_repeated);
+  make(&known, fill_known);
+  make(&burst, fill_burst);
+  make(&adu, fill_adu);
 }

@@ -1,81 +1,113 @@
-// The row operations on symbols of 1,400 bytes. The calls are those of crate `bench`; a slice is a pointer and a length.
+// The row operation dst += c * src, and a repair symbol as the sum of many rows, each times a coefficient.
 #include "library.h"
 #include "table.h"
-#define E 1400
-#define W 255
+#include "isal.h"
 
-void xor_o2(u8 *, const u8 *, size_t);
-void xor_o3(u8 *, const u8 *, size_t);
-
-static u8 symbols[W * E], general[W], bits[W], dst[E], other[E];
-
-static u8 *symbol(int k) { return symbols + k * E; }
-
-// Sixteen operations a run, so that a call of the row's function is not seen.
-#define SIXTEEN(name, call) static void name(void) { for (int k = 0; k < 16; k++) call; }
-SIXTEEN(run_memcpy, memcpy(dst, symbol(k), E))
-SIXTEEN(run_copy, bench_copy(dst, E, symbol(k), E))
-SIXTEEN(run_xor_o2, xor_o2(dst, symbol(k), E))
-SIXTEEN(run_xor_o3, xor_o3(dst, symbol(k), E))
-SIXTEEN(run_one, bench_add_scaled(dst, E, symbol(k), E, 1))
-SIXTEEN(run_general, bench_add_scaled(dst, E, symbol(k), E, general[k]))
-SIXTEEN(run_tables, bench_add_by_tables(dst, E, symbol(k), E, general[k]))
-SIXTEEN(run_within_one, bench_add_within(symbols, sizeof symbols, 16 * E, k * E, E, 1))
-SIXTEEN(run_within, bench_add_within(symbols, sizeof symbols, 16 * E, k * E, E, general[k]))
-
-static void one_by_one(const u8 *c, int w) {
-  memset(dst, 0, E);
-  for (int k = 0; k < w; k++) bench_add_scaled(dst, E, symbol(k), E, c[k]);
-}
-static void combine(const u8 *c, int w) { bench_combine(dst, E, c, w, symbols, w * E); }
-
-#define WIDTH(w)                                                      \
-  static void run_general_##w(void) { one_by_one(general, w); }       \
-  static void run_combine_##w(void) { combine(general, w); }          \
-  static void run_bits_##w(void) { one_by_one(bits, w); }             \
-  static void run_combine_bits_##w(void) { combine(bits, w); }
-WIDTH(16)
-WIDTH(64)
-WIDTH(255)
-
-#define ROWS(w)                                                                                                               \
-  {#w " add_scaled, GF(2^8)", run_general_##w, 1, 0, 0, 0}, {"combine " #w ", GF(2^8)", run_combine_##w, 1, #w " add_scaled, GF(2^8)", 1.15, 0}, \
-  {#w " add_scaled, {0, 1}", run_bits_##w, 1, 0, 0, 0}, {"combine " #w ", {0, 1}", run_combine_bits_##w, 1, #w " add_scaled, {0, 1}", 1.15, 0}
-
-static struct row rows[] = {
-  {"memcpy (C)", run_memcpy, 16, 0, 0, 0},
-  {"copy", run_copy, 16, "memcpy (C)", 0, 0},
-  {"XOR loop (C, -O2)", run_xor_o2, 16, 0, 0, 0},
-  {"XOR loop (C, -O3)", run_xor_o3, 16, 0, 0, 0},
-  {"add_scaled, c = 1", run_one, 16, "XOR loop (C, -O3)", 1.3, 0},
-  {"a product from the two tables for each byte", run_tables, 16, 0, 0, 0},
-  {"add_scaled, c > 1", run_general, 16, "a product from the two tables for each byte", 0.35, 0},
-  {"add_within, c = 1", run_within_one, 16, "XOR loop (C, -O3)", 0, 0},
-  {"add_within, c > 1", run_within, 16, "add_scaled, c > 1", 0, 0},
-  ROWS(16), ROWS(64), ROWS(255),
+// `count` rows of n bytes, one after the other, their coefficients, and what they are added to.
+struct rows {
+  const struct library *library;
+  size_t n, count;
+  u8 *bytes, *coefficients, *dst;
 };
 
-// The ways to one result agree.
-static int agree(const u8 *c) {
-  memset(other, 0, E);
-  for (int k = 0; k < W; k++) bench_add_by_tables(other, E, symbol(k), E, c[k]);
-  one_by_one(c, W);
-  if (memcmp(dst, other, E)) return 0;
-  combine(c, W);
-  if (memcmp(dst, other, E)) return 0;
-  bench_add_combination(dst, E, c, W, symbols, sizeof symbols);
-  for (int i = 0; i < E; i++) if (dst[i]) return 0;
-  memcpy(dst, symbol(3), E);
-  bench_add_scaled(dst, E, symbol(1), E, c[1]);
-  bench_add_within(symbols, sizeof symbols, 3 * E, E, E, c[1]);
-  return !memcmp(dst, symbol(3), E);
+static void run_add(void *of) {
+  struct rows *r = of;
+  for (size_t k = 0; k < r->count; k++) r->library->add_scaled(r->dst, r->n, r->bytes + k * r->n, r->n, r->coefficients[k]);
+}
+static void run_tables(void *of) {
+  struct rows *r = of;
+  for (size_t k = 0; k < r->count; k++) r->library->add_by_tables(r->dst, r->n, r->bytes + k * r->n, r->n, r->coefficients[k]);
+}
+static void run_copies(void *of) {
+  struct rows *r = of;
+  for (size_t k = 0; k < r->count; k++) memcpy(r->dst, r->bytes + k * r->n, r->n);
+}
+static void run_combine(void *of) {
+  struct rows *r = of;
+  r->library->combine(r->dst, r->n, r->coefficients, r->count, r->bytes, r->count * r->n);
+}
+static void run_each(void *of) {
+  struct rows *r = of;
+  memset(r->dst, 0, r->n);
+  run_add(r);
+}
+static void run_copy(void *of) {
+  struct rows *r = of;
+  memcpy(r->dst, r->bytes, r->n);
+}
+
+static u8 *noise(size_t n) {
+  u8 *block = room(n);
+  for (size_t i = 0; i < n; i++) block[i] = rand();
+  return block;
+}
+
+// Rows with coefficients from `lowest` to `highest`.
+static struct rows some_rows(size_t n, size_t count, int lowest, int highest) {
+  struct rows r = {0, n, count, noise(n * count), room(count), 0};
+  for (size_t k = 0; k < count; k++) r.coefficients[k] = lowest + rand() % (highest - lowest + 1);
+  return r;
+}
+
+static u8 **pointers(const struct rows *r) {
+  u8 **rows = (u8 **)room(r->count * sizeof *rows);
+  for (size_t k = 0; k < r->count; k++) rows[k] = r->bytes + k * r->n;
+  return rows;
+}
+
+// A way of a library on the rows; memcpy's gives other bytes.
+static void add_way(struct line *l, int way, void (*run)(void *), const struct library *library, struct rows like) {
+  struct rows *r = (struct rows *)room(sizeof *r);
+  *r = like, r->library = library, r->dst = room(r->n);
+  l->ways[way] = (struct way){run, r, 0, library ? r->dst : 0, r->n};
+}
+
+static void fill_operation(struct table *t, struct setting s) {
+  struct line *l = add_line(t, s);
+  struct rows r = s.scheme == 9 ? some_rows(s.width + s.size, 16, 1, 1) : some_rows(s.width + s.size, 16, 2, 255);
+  l->operations = r.count;
+  add_way(l, 0, run_add, &proved, r);
+  add_way(l, 1, run_add, &plain, r);
+  add_way(l, 2, run_tables, &proved, r);
+  if (s.scheme == 10) add_isal(l, 3, 1, r.n, r.count, r.coefficients, pointers(&r));
+  add_way(l, 7, run_copies, 0, r);
+}
+
+static void fill_sum(struct table *t, struct setting s) {
+  struct line *l = add_line(t, s);
+  struct rows r = s.scheme == 9 ? some_rows(s.size, s.width, 0, 1) : some_rows(s.size, s.width, 1, 255);
+  add_way(l, 0, run_combine, &proved, r);
+  add_way(l, 1, run_combine, &plain, r);
+  add_way(l, 2, run_each, &proved, r);
+  if (s.scheme == 10) add_isal(l, 3, 0, r.n, r.count, r.coefficients, pointers(&r));
+  add_way(l, 7, run_copy, 0, r);
+}
+
+// The operations that no table has give the same bytes too.
+static void check_others(void) {
+  struct rows r = some_rows(1400, 64, 0, 255);
+  size_t all = r.n * r.count;
+  u8 *ours = memcpy(room(all), r.bytes, all), *theirs = memcpy(room(all), r.bytes, all);
+  for (size_t k = 0; k + 1 < r.count; k++) {
+    proved.add_within(ours, all, (k + 1) * r.n, k * r.n, r.n, r.coefficients[k]);
+    plain.add_within(theirs, all, (k + 1) * r.n, k * r.n, r.n, r.coefficients[k]);
+  }
+  for (size_t k = 0; k <= r.count - 1; k++) {
+    proved.add_combination(ours, r.n, r.coefficients, k + 1, r.bytes, (k + 1) * r.n);
+    plain.add_combination(theirs, r.n, r.coefficients, k + 1, r.bytes, (k + 1) * r.n);
+    plain.add_by_tables(ours, r.n, r.bytes, r.n, r.coefficients[k]);
+    proved.add_by_tables(theirs, r.n, r.bytes, r.n, r.coefficients[k]);
+  }
+  if (memcmp(ours, theirs, all)) wrong("row operations", "add_within, add_combination, add_by_tables", "plain Rust");
 }
 
 int main(void) {
+  static struct table operation = {"Row operation: a row of width + E bytes += c × another",
+    {"", "plain Rust", "a product from the two tables for each byte", ISAL_NAMES, "memcpy"}};
+  static struct table sum = {"Repair symbol: the sum of `width` rows of E bytes, each times a coefficient",
+    {"", "plain Rust", "`width` row operations", ISAL_NAMES, "memcpy"}};
   srand(8681);
-  for (int i = 0; i < W * E; i++) symbols[i] = rand();
-  for (int k = 0; k < W; k++) general[k] = 2 + rand() % 254, bits[k] = rand() % 2;
-  if (!agree(general) || !agree(bits)) return puts("WRONG: the ways to one result differ"), 1;
-  measure(rows, sizeof rows / sizeof *rows);
-  print(rows, sizeof rows / sizeof *rows);
+  check_others();
+  make(&operation, fill_operation);
+  make(&sum, fill_sum);
 }

@@ -1,4 +1,5 @@
-// A table of measurements: name, ns, ratio to another row of the same run. Each row's time is the best of ROUNDS rounds, the rows taking turns.
+// Tables of measurements: one line for each scheme, width and E; on a line the ways to do the same thing, crate `bench`'s first. The ways must
+// give the same bytes before they are measured. Each way's time is the best of ROUNDS rounds, in which all ways of all lines take turns.
 #include <stdint.h>
 #include <stdio.h>
 #include <stdlib.h>
@@ -7,16 +8,61 @@
 typedef uint8_t u8;
 #define ROUNDS 40
 #define ROUND_NS 200000.0
+#define WAYS 8
+#define LINES 32
 
-// What is run, how many operations one run has, the row that it is compared with (by name, or 0), and the ratio wanted (or 0).
-struct row {
-  const char *name;
-  void (*run)(void);
-  int operations;
-  const char *to;
-  double wanted;
+// A way: what is run, on what; what makes it ready, not measured (or 0); the bytes that it leaves (or 0), which are those that the first way leaves,
+// from byte `from` on; and its time.
+struct way {
+  void (*run)(void *);
+  void *of;
+  void (*ready)(void *);
+  const u8 *left;
+  size_t count, from;
   double ns;
 };
+
+// A line: how many operations a run has, how many symbols of `size` bytes one operation is about, and its ways. A way that is not there has no `run`.
+struct line {
+  char name[80];
+  int operations, symbols;
+  size_t size;
+  struct way ways[WAYS];
+};
+
+// A table: its title, the names of its ways, and its lines.
+struct table {
+  const char *title, *ways[WAYS];
+  struct line lines[LINES];
+  int count;
+};
+
+struct setting {
+  size_t scheme, width, size;
+};
+
+static void wrong(const char *table, const char *line, const char *what) {
+  printf("WRONG: %s, %s: %s\n", table, line, what);
+  exit(1);
+}
+
+// A block of zeros that begins where a cache line does.
+static u8 *room(size_t n) {
+  u8 *block = aligned_alloc(64, (n + 63) / 64 * 64);
+  if (!block) exit(2);
+  return memset(block, 0, n);
+}
+
+static const char *with_comma(double x) {
+  static char text[4][32];
+  static int turn;
+  char *t = text[turn++ % 4];
+  if (x < 10) sprintf(t, "%.1f", x);
+  else if (x < 999.5) sprintf(t, "%.0f", x);
+  else if (x < 999999.5) sprintf(t, "%ld,%03ld", (long)(x + 0.5) / 1000, (long)(x + 0.5) % 1000);
+  else sprintf(t, "%ld,%03ld,%03ld", (long)(x + 0.5) / 1000000, (long)(x + 0.5) / 1000 % 1000, (long)(x + 0.5) % 1000);
+  return t;
+}
 
 static double now(void) {
   struct timespec t;
@@ -24,29 +70,83 @@ static double now(void) {
   return t.tv_sec * 1e9 + t.tv_nsec;
 }
 
-static double batch(struct row *r, int times) {
-  double start = now();
-  for (int i = 0; i < times; i++) r->run();
-  return (now() - start) / times;
+static double batch(const struct way *w, int times) {
+  double spent = 0;
+  if (!w->ready) {
+    w->run(w->of);
+    double start = now();
+    for (int i = 0; i < times; i++) w->run(w->of);
+    return (now() - start) / times;
+  }
+  for (int i = 0; i < times; i++) {
+    w->ready(w->of);
+    double start = now();
+    w->run(w->of);
+    spent += now() - start;
+  }
+  return spent / times;
 }
 
-static void measure(struct row *rows, int n) {
-  for (int k = 0; k < n; k++) rows[k].ns = batch(&rows[k], 3);
-  for (int round = 0; round < ROUNDS; round++)
-    for (int k = 0; k < n; k++) {
-      int times = (int)(ROUND_NS / rows[k].ns) + 1;
-      double t = batch(&rows[k], times);
-      if (t < rows[k].ns) rows[k].ns = t;
+// Each way once; then the bytes that it left are those of the first.
+static void check(const struct table *t) {
+  for (const struct line *l = t->lines; l < t->lines + t->count; l++)
+    for (const struct way *w = l->ways; w < l->ways + WAYS; w++) {
+      if (!w->run) continue;
+      if (w->ready) w->ready(w->of);
+      w->run(w->of);
+      if (w->left && memcmp(w->left, l->ways->left + w->from, w->count)) wrong(t->title, l->name, t->ways[w - l->ways]);
     }
 }
 
-static void print(struct row *rows, int n) {
-  printf("%-44s %9s  %s\n", "name", "ns", "ratio to what");
-  for (int k = 0; k < n; k++) {
-    printf("%-44s %9.1f", rows[k].name, rows[k].ns / rows[k].operations);
-    for (int j = 0; j < n && rows[k].to; j++)
-      if (!strcmp(rows[j].name, rows[k].to)) printf("  %5.2f to %s", rows[k].ns / rows[k].operations / (rows[j].ns / rows[j].operations), rows[k].to);
-    if (rows[k].wanted) printf(" (wanted: at most %.2f)", rows[k].wanted);
-    printf("\n");
+static void measure(struct table *t) {
+  for (int round = -1; round < ROUNDS; round++)
+    for (struct line *l = t->lines; l < t->lines + t->count; l++)
+      for (struct way *w = l->ways; w < l->ways + WAYS; w++) {
+        if (!w->run) continue;
+        double ns = batch(w, round < 0 ? 3 : (int)(ROUND_NS / w->ns) + 1);
+        if (round < 0 || ns < w->ns) w->ns = ns;
+      }
+}
+
+// The time of a symbol at 33.6 Mbit/s, in ns.
+static double symbol_time(size_t size) { return size * 8 / 0.0336; }
+
+static void print(const struct table *t) {
+  int present[WAYS] = {0};
+  for (const struct line *l = t->lines; l < t->lines + t->count; l++)
+    for (int w = 1; w < WAYS; w++) present[w] |= l->ways[w].run != 0;
+  printf("\n### %s\n\n| | ns |", t->title);
+  for (int w = 1; w < WAYS; w++) if (present[w]) printf(" to %s |", t->ways[w]);
+  printf(" share |\n|---|---|");
+  for (int w = 1; w < WAYS; w++) if (present[w]) printf("---|");
+  printf("---|\n");
+  for (const struct line *l = t->lines; l < t->lines + t->count; l++) {
+    double ns = l->ways->ns / l->operations;
+    printf("| %s | %s |", l->name, with_comma(ns));
+    for (int w = 1; w < WAYS; w++)
+      if (present[w] && l->ways[w].run) printf(" %.2f |", l->ways->ns / l->ways[w].ns);
+      else if (present[w]) printf(" |");
+    printf(" %.2f %% |\n", 100 * ns / l->symbols / symbol_time(l->size));
   }
+  fflush(stdout);
+}
+
+// A new line of the table, named after its setting.
+static struct line *add_line(struct table *t, struct setting s) {
+  struct line *l = &t->lines[t->count++];
+  sprintf(l->name, "scheme %zu, width %zu, E %s", s.scheme, s.width, with_comma(s.size));
+  l->operations = l->symbols = 1;
+  l->size = s.size;
+  return l;
+}
+
+// Makes a table: a line for each scheme, width and E; then checks, measures and prints it.
+static void make(struct table *t, void (*fill)(struct table *, struct setting)) {
+  static const size_t schemes[] = {9, 10}, widths[] = {16, 64, 255}, sizes[] = {64, 1400};
+  for (int s = 0; s < 2; s++)
+    for (int w = 0; w < 3; w++)
+      for (int e = 0; e < 2; e++) fill(t, (struct setting){schemes[s], widths[w], sizes[e]});
+  check(t);
+  measure(t);
+  print(t);
 }

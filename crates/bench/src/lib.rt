@@ -2,9 +2,11 @@
 ghost use mathlib.Core.Path.{_≡_};
 ghost use lib.ListN.{length};
 ghost use Rattle.rows.specs.Rows.{addScaled};
+use elimination::Shape;
 use field::Gf256;
 use field::tables;
 use sender::Answer;
+use starts::Handed;
 use wire::Esi;
 use wire::RepairKey;
 
@@ -160,4 +162,34 @@ pub extern "C" fn bench_receive_repair(mem: &mut [u8], work: &mut [u8], packet: 
 #[no_mangle]
 pub extern "C" fn bench_symbol(mem: &[u8], esi: u32) -> usize {
     received(receiver::symbol(mem, Esi(esi)))
+}
+
+// The length of the ADU that is handed out.
+#[no_mangle]
+pub extern "C" fn bench_adu(mem: &[u8], esi: u32, out: &mut [u8]) -> usize {
+    match receiver::adu(mem, Esi(esi), out) {
+        Handed::Adu(_flow, n) => n,
+        Handed::Withheld(_r) => 1000000,
+    }
+}
+
+// The marks' pass, which is a part of each packet call, through a receiver's window of that setting that begins in the row `base`.
+#[no_mangle]
+pub extern "C" fn bench_pass(mem: &mut [u8], size: usize, width: usize, base: usize) {
+    if size < 4 {
+        return;
+    }
+    if 1500 < size {
+        return;
+    }
+    if 255 < width {
+        return;
+    }
+    if width <= base {
+        return;
+    }
+    if mem.len() < 64 + width * (width + size + 4) {
+        return;
+    }
+    starts::marks::pass(mem, Shape { width, size, base });
 }

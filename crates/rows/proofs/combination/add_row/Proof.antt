@@ -1,11 +1,20 @@
 -- `rows::combination::add_row` meets its contract.
+use mathlib.Core.Path.{_≡_, sym}
 use lib.ListN.{length}
+use native.Mathlib.Omega.{arith}
+use Rattle.rows.proofs.Sums.{addScaled-zero}
 use Prim.Native.Nat.{_+_, _*_}
 use Rattle.memory.proofs.Parts.{cut}
 use Rattle.rows.specs.Combination.{rowAt}
 use borrow.Author.Needs.{needs}
 use Rattle.rows.proofs.combination.add_row.Statement.{statement}
 use Rattle.rows.proofs.combination.add_row.Tie as tie
+
+returns : tie.Need-returns
+returns c =
+    let a = c .before .before .before .before .args in
+    let e : a .c .0 ≡ 0 = omega arith in
+    rw e (sym (addScaled-zero (a .dst .now) (rowAt (a .mem .now) (a .a) (a .s) (length (a .dst .now)) (a .k))))
 
 mul-at : tie.Need-mul-at
 mul-at c = search needs
@@ -31,16 +40,17 @@ add-scaled-requires c κs = search needs
 same-length : tie.Need-same-length
 same-length c = search needs
 
-returns : tie.Need-returns
+returns-2 : tie.Need-returns-2
 unfolding rowAt
-returns c =
-    let a = c .before .before .before .before .before .before .before .args in
+returns-2 c =
+    let a = c .before .before .before .before .before .before .before .before .before .args in
     cc (cut (a .a + a .k * a .s) (length (a .dst .now)) (a .mem .now))
 
 pub add-row-spec : {M : Type 1} → statement M
 add-row-spec =
     tie.close
     (tie.spec
+    returns
     mul-at
     add-at
     add-add-scaled
@@ -49,4 +59,4 @@ add-row-spec =
     part-add-scaled-end
     add-scaled-requires
     same-length
-    returns)
+    returns-2)
