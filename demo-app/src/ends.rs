@@ -9,8 +9,9 @@ use rlc8681::{Receiver, Refusal, Sender};
 use std::collections::VecDeque;
 use std::io;
 use std::net::UdpSocket;
+use std::ops::Range;
 use std::sync::atomic::{AtomicBool, AtomicU64, Ordering::Relaxed};
-use std::sync::{Mutex, PoisonError};
+use std::sync::{Mutex, MutexGuard, PoisonError};
 use std::thread;
 use std::time::{Duration, Instant};
 
@@ -43,13 +44,17 @@ impl Ledger {
         self.0.get(after.checked_sub(1)?)
     }
 
-    /// Whether these are the bytes of the symbol at a position: of flow, length, ADU and zeros.
+    /// Whether these are the bytes of the symbol at a position: of flow, length, ADU and zeros, in this order.
     fn holds(&self, position: u64, symbol: &[u8]) -> bool {
         let Some((first, adu)) = self.around(position) else { return false };
-        let Ok(skipped) = usize::try_from(position - first) else { return false };
-        let [high, low] = (adu.bytes.len() as u16).to_be_bytes();
-        let adui = [adu.flow, high, low].into_iter().chain(adu.bytes.iter().copied()).chain(std::iter::repeat(0));
-        skipped < symbols_of(adu.bytes.len(), symbol.len()) && adui.skip(skipped * symbol.len()).zip(symbol).all(|(a, b)| a == *b)
+        let Some(start) = usize::try_from(position - first).ok().and_then(|n| n.checked_mul(symbol.len())) else { return false };
+        let length = adu.bytes.len();
+        let [high, low] = (length as u16).to_be_bytes();
+        let head = [adu.flow, high, low];
+        let (head, bytes) = if start == 0 { (&head[..], &adu.bytes[..]) } else { (&[][..], adu.bytes.get(start - 3..).unwrap_or(&[])) };
+        let (front, rest) = symbol.split_at(head.len().min(symbol.len()));
+        let (body, zeros) = rest.split_at(bytes.len().min(rest.len()));
+        start < length + 3 && front == head && body == &bytes[..body.len()] && zeros.iter().all(|&b| b == 0)
     }
 
     /// Drops the ADUs that end at or before a position.
@@ -64,13 +69,15 @@ impl Ledger {
 }
 
 impl Shared {
-    fn ledger(&self) -> std::sync::MutexGuard<'_, Ledger> {
+    fn ledger(&self) -> MutexGuard<'_, Ledger> {
         self.ledger.lock().unwrap_or_else(PoisonError::into_inner)
     }
 }
 
 /// A run's failure in words.
 pub type Failure = String;
+
+const OTHER_STOPPED: &str = "the receiving end stopped";
 
 fn refused(call: &str) -> impl Fn(Refusal) -> Failure + '_ {
     move |why| format!("{call} was refused ({}): {why}", why.number())
@@ -106,9 +113,23 @@ pub fn run(options: &Options, mut watch: impl FnMut(&Progress)) -> Result<Run, F
         }
         (sends.join(), receives.join())
     });
+    let time = start.elapsed();
     let stopped = |_| String::from("an end stopped in the middle");
-    let (got, sent) = (got.map_err(stopped)?, sent.map_err(stopped)?);
-    Ok(Run { sent: sent?, got: got?, time: start.elapsed() })
+    match (sent.map_err(stopped)?, got.map_err(stopped)?) {
+        (Ok(sent), Ok(got)) => Ok(Run { sent, got, time }),
+        // When one end fails the other one does, too: it tells less.
+        (Err(why), got) if why == OTHER_STOPPED => Err(got.err().unwrap_or(why)),
+        (Err(why), _) | (_, Err(why)) => Err(why),
+    }
+}
+
+/// Says that the sender is done, whatever ended it.
+struct Done<'a>(&'a AtomicBool);
+
+impl Drop for Done<'_> {
+    fn drop(&mut self) {
+        self.0.store(true, Relaxed);
+    }
 }
 
 struct Sending<'a> {
@@ -132,7 +153,7 @@ impl<'a> Sending<'a> {
     }
 
     fn run(mut self, mut stream: Stream) -> Result<Sent, Failure> {
-        let _closing = Closing(&self.shared.gate);
+        let _done = Done(&self.shared.sender_done);
         let mut since = 0;
         while let Some(adu) = stream.next().map_err(failed("reading the stream"))? {
             self.source(adu)?;
@@ -153,7 +174,6 @@ impl<'a> Sending<'a> {
         self.shared.progress.thousandths.store(1000, Relaxed);
         link::write_head(&mut self.datagram, 0, Kind::End, 0);
         self.datagram(HEAD)?;
-        self.shared.sender_done.store(true, Relaxed);
         Ok(self.log)
     }
 
@@ -206,11 +226,14 @@ impl<'a> Sending<'a> {
 
     fn datagram(&mut self, length: usize) -> Result<(), Failure> {
         if !self.shared.gate.enter(length) {
-            return Err(String::from("the receiving end stopped"));
+            return Err(String::from(OTHER_STOPPED));
         }
         self.socket.send(&self.datagram[..length]).map(|_| ()).map_err(failed("sending a datagram"))
     }
 }
+
+/// The positions ahead that a packet may name.
+const REACH: u64 = 65_536;
 
 struct Receiving<'a> {
     options: &'a Options,
@@ -250,6 +273,7 @@ impl<'a> Receiving<'a> {
             self.shared.gate.leave(length);
             let Some((number, kind, flow, packet)) = link::read(&mut datagram[..length]) else { continue };
             if kind == Kind::End {
+                self.leave(self.top);
                 return Ok(self.log);
             }
             if self.options.corrupt == Some(self.log.arrived) {
@@ -265,7 +289,7 @@ impl<'a> Receiving<'a> {
     }
 
     /// The positions that a packet names, by the ESI in it that is nearest.
-    fn named(&self, kind: Kind, packet: &[u8]) -> Option<std::ops::Range<u64>> {
+    fn named(&self, kind: Kind, packet: &[u8]) -> Option<Range<u64>> {
         let size = self.options.symbol_size as usize;
         let (esi, symbols) = match kind {
             Kind::Source => (packet.get(packet.len().checked_sub(4)?..)?, symbols_of(packet.len() - 4, size)),
@@ -277,6 +301,10 @@ impl<'a> Receiving<'a> {
     }
 
     fn packet(&mut self, number: u32, kind: Kind, flow: u8, packet: &[u8]) {
+        let Some(named) = self.named(kind, packet) else { return };
+        if named.end <= self.top + REACH {
+            self.leave(named.end.saturating_sub(u64::from(self.options.width)));
+        }
         let (receiver, log) = (&mut self.receiver, &mut self.log);
         let answer = match kind {
             Kind::Source => log.source.of(|| receiver.receive_source(flow, packet)),
@@ -290,12 +318,14 @@ impl<'a> Receiving<'a> {
             }
         };
         self.log.counted += count;
-        let Some(named) = self.named(kind, packet) else { return };
         if named.end > self.top {
             self.awaited.extend(self.top..named.end);
             self.log.fates.resize(usize::try_from(named.end).unwrap_or(usize::MAX), Fate::Never);
             self.top = named.end;
         }
+        // What lies before the window can't be shown any more.
+        let base = self.top.saturating_sub(u64::from(self.options.width));
+        self.shared.ledger().pass(base, self.options.symbol_size as usize);
         if count == 0 {
             return;
         }
@@ -318,47 +348,57 @@ impl<'a> Receiving<'a> {
         });
     }
 
+    /// Hands out the ADU that starts at a position and compares it with the one sent. Gives its symbols.
+    fn hand_out(&mut self, position: u64) -> Result<u64, Refusal> {
+        let start = Instant::now();
+        let answer = self.receiver.adu(position as u32, &mut self.adu);
+        let time = start.elapsed();
+        let adu = match answer {
+            Ok(adu) => adu,
+            Err(why) => {
+                self.log.adu_refused.add(time);
+                return Err(why);
+            }
+        };
+        self.log.adu.add(time);
+        self.log.adus += 1;
+        self.log.bytes += adu.bytes.len() as u64;
+        self.shared.progress.adus.fetch_add(1, Relaxed);
+        let difference = match self.shared.ledger().around(position) {
+            Some((first, sent)) if *first == position => difference(sent, adu.flow, adu.bytes),
+            _ => Some(String::from("no ADU began there")),
+        };
+        if let Some(what) = difference {
+            self.log.differs(|| format!("the ADU of ESI {}: {what}", position as u32));
+        }
+        Ok(symbols_of(adu.bytes.len(), self.options.symbol_size as usize) as u64)
+    }
+
     /// Hands out what can be: each start in order, and past one that left the window, the next that is marked.
     fn walk(&mut self) {
         let mut tried = self.next;
         loop {
-            let start = Instant::now();
-            let answer = self.receiver.adu(tried as u32, &mut self.adu);
-            let time = start.elapsed();
-            match answer {
-                Ok(adu) => {
-                    self.log.adu.add(time);
-                    self.log.adus += 1;
-                    self.log.bytes += adu.bytes.len() as u64;
-                    self.shared.progress.adus.fetch_add(1, Relaxed);
-                    let ledger = self.shared.ledger();
-                    let difference = match ledger.around(tried) {
-                        Some((first, sent)) if *first == tried => difference(sent, adu.flow, adu.bytes),
-                        _ => Some(String::from("no ADU began there")),
-                    };
-                    if let Some(what) = difference {
-                        self.log.differs(|| format!("the ADU of ESI {}: {what}", tried as u32));
-                    }
-                    tried += symbols_of(adu.bytes.len(), self.options.symbol_size as usize) as u64;
+            match self.hand_out(tried) {
+                Ok(symbols) => {
+                    tried += symbols;
                     self.next = tried;
                 }
-                Err(why) => {
-                    self.log.adu_refused.add(time);
-                    match why {
-                        Refusal::Behind => {
-                            tried += 1;
-                            self.next = tried;
-                        }
-                        Refusal::NoStart => tried += 1,
-                        // The start is marked and its ADU not yet known, or the window ends here.
-                        _ => break,
-                    }
+                Err(Refusal::Behind) => {
+                    tried += 1;
+                    self.next = tried;
                 }
+                Err(Refusal::NoStart) => tried += 1,
+                // The start is marked and its ADU not yet known, or the window ends here.
+                Err(_) => break,
             }
         }
-        // What lies before the window can't be shown any more.
-        let base = self.top.saturating_sub(u64::from(self.options.width));
-        self.shared.ledger().pass(base, self.options.symbol_size as usize);
+    }
+
+    /// Hands out what is known before the window moves on to this base: what still misses there will not come.
+    fn leave(&mut self, base: u64) {
+        while self.next < base {
+            self.next += self.hand_out(self.next).unwrap_or(1);
+        }
     }
 }
 

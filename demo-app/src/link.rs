@@ -74,7 +74,7 @@ impl Gate {
         self.state.lock().unwrap_or_else(PoisonError::into_inner)
     }
 
-    /// Waits until a datagram of this length may go. False once an end has closed the gate.
+    /// Waits until a datagram of this length may go. False once the receiving end has closed the gate.
     pub fn enter(&self, length: usize) -> bool {
         let cost = length + BESIDE;
         let full = |state: &mut State| !state.closed && state.on_the_way > 0 && state.on_the_way + cost > ROOM;
@@ -96,7 +96,7 @@ impl Gate {
     }
 }
 
-/// Closes the gate when the end that holds it is done, whatever came in between.
+/// Closes the gate when the receiving end is done, whatever ended it.
 pub struct Closing<'a>(pub &'a Gate);
 
 impl Drop for Closing<'_> {

@@ -35,13 +35,13 @@ impl Loss {
 mod tests {
     use super::Loss;
 
-    /// Percent lost and mean run of losses among 200,000 packets.
+    /// Percent lost and mean run of losses among two million packets.
     fn measured(percent: f64, burst: f64) -> (f64, f64) {
         let mut loss = Loss::new(1, percent, burst);
-        let lost: Vec<bool> = (0..200_000).map(|_| loss.loses()).collect();
+        let lost: Vec<bool> = (0..2_000_000).map(|_| loss.loses()).collect();
         let count = lost.iter().filter(|&&l| l).count() as f64;
         let runs = lost.windows(2).filter(|w| !w[0] && w[1]).count() as f64;
-        (count / 2000.0, count / runs.max(1.0))
+        (count / 20_000.0, count / runs.max(1.0))
     }
 
     #[test]

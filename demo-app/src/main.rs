@@ -46,8 +46,8 @@ fn main() -> ExitCode {
 }
 
 fn show(options: &Options) -> ExitCode {
-    if let Some(Err(why)) = options.file.as_deref().map(fs::File::open) {
-        complain(&format!("{}: {why}", options.file.as_deref().unwrap_or(Path::new("")).display()));
+    if let Some(Err(why)) = options.file.as_deref().map(stream::readable) {
+        complain(&why);
         return ExitCode::from(USAGE);
     }
     say(&report::settings(options));

@@ -2,7 +2,7 @@
 
 use crate::link::Kind;
 use crate::options::Options;
-use crate::report::{field, grouped, percent};
+use crate::report::{counted, field, grouped, percent};
 use crate::tally::{Fate, Packet, Run};
 use std::fmt::Write;
 use std::ops::Range;
@@ -10,13 +10,15 @@ use std::ops::Range;
 /// Light, and dark where the reader prefers it.
 const STYLE: &str = "\
 text{font-family:system-ui,-apple-system,'Segoe UI',Roboto,'DejaVu Sans',sans-serif;font-size:13px;fill:#1b2430}\
-.b{fill:#fff}.l{stroke:#fff;stroke-width:1;fill:none}.p{fill:#f3f5f8}.t{font-size:24px;font-weight:700}.n{font-size:26px;font-weight:700}\
+.b{fill:#fff}.l{stroke:#fff;fill:none}.p{fill:#f3f5f8}.t{font-size:24px;font-weight:700}.n{font-size:26px;font-weight:700}\
 .h{font-size:15px;font-weight:600}.m,.s{fill:#5a6675}.s{font-size:11px}.a{stroke:#b9c2cd;fill:none}\
-.f0{fill:#ccd5df}.f1{fill:#25b07c}.f2{fill:#1d86b8}.f3{fill:#5a4fcf}.f4{fill:#e2402b}\
-.o{stroke:#e2402b;fill:none;stroke-width:1.3}.w{stroke:#d99a1c;stroke-width:2.2;fill:none}.x{stroke:#e2402b;stroke-width:1.3;fill:none;stroke-dasharray:2 3}\
+.c{fill:#93a4b7}.f0{fill:#ccd5df}.f1{fill:#25b07c}.f2{fill:#1d86b8}.f3{fill:#5a4fcf}.f4{fill:#e2402b}\
+.o{stroke:#e2402b;fill:none;stroke-width:1.3}.w{stroke:#d99a1c;stroke-width:2.2;fill:none}\
+.x{stroke:#e2402b;stroke-width:1.3;fill:none;stroke-dasharray:2 3}\
 .g{stroke:#25b07c;stroke-width:1.2;fill:none}\
 @media(prefers-color-scheme:dark){text{fill:#e6ebf1}.b{fill:#10151b}.l{stroke:#10151b}.p{fill:#1a212a}.m,.s{fill:#97a3b1}.a{stroke:#455261}\
-.f0{fill:#3a4653}.f1{fill:#35d399}.f2{fill:#38aee8}.f3{fill:#9b8cff}.f4{fill:#ff5d47}.o,.x{stroke:#ff5d47}.w{stroke:#f0b840}.g{stroke:#35d399}}";
+.c{fill:#66788c}.f0{fill:#3a4653}.f1{fill:#35d399}.f2{fill:#38aee8}.f3{fill:#9b8cff}\
+.f4{fill:#ff5d47}.o,.x{stroke:#ff5d47}.w{stroke:#f0b840}.g{stroke:#35d399}}";
 
 const WIDE: f64 = 1200.0;
 const MARGIN: f64 = 40.0;
@@ -72,6 +74,11 @@ impl Svg {
 fn n(value: f64) -> String {
     let text = format!("{value:.1}");
     text.strip_suffix(".0").map_or(text.clone(), String::from)
+}
+
+/// About how wide a text is.
+fn width(text: &str) -> f64 {
+    text.chars().map(|c| if "il., ".contains(c) { 4.4 } else { 8.1 }).sum()
 }
 
 fn bar(path: &mut String, x: f64, y: f64, w: f64, h: f64) {
@@ -136,19 +143,21 @@ fn heading(svg: &mut Svg, options: &Options, run: &Run) -> f64 {
     svg.text("t", MARGIN, 56.0, "RFC 8681 over a lossy link");
     let Options { symbol_size, width, every, repairs, loss, burst, .. } = options;
     let told = format!(
-        "scheme {}, {}; symbols of {symbol_size} bytes, window of {width}; a repair packet of {repairs} after every {every} ADUs; \
+        "scheme {}, {}; symbols of {} bytes, window of {width}; {} after every {every} ADUs; \
          {loss} % of packets lost, in bursts of {burst} on average; seed {}",
         options.scheme.number(),
         field(options.scheme),
+        grouped(u64::from(*symbol_size)),
+        counted(*repairs, "repair symbol"),
         options.seed
     );
     svg.text("m", MARGIN, 80.0, &told);
     let tiles = [
-        (grouped(packets), format!("packets sent, {} of them repair", grouped(repair as u64))),
-        (grouped(lost), format!("packets lost: {}", percent(lost, packets))),
-        (grouped(heard), format!("symbols heard, of {}", grouped(run.sent.symbols))),
-        (grouped(rebuilt), format!("symbols rebuilt; {} never known", grouped(never))),
-        (grouped(run.got.adus), format!("ADUs handed out, of {}", grouped(run.sent.adus))),
+        (grouped(packets), format!("packets, {} of them repair", grouped(repair as u64))),
+        (grouped(lost), format!("packets lost, {}", percent(lost, packets))),
+        (grouped(heard), format!("of {} symbols heard", grouped(run.sent.symbols))),
+        (grouped(rebuilt), format!("rebuilt, {} never known", grouped(never))),
+        (grouped(run.got.adus), format!("of {} ADUs handed out", grouped(run.sent.adus))),
     ];
     let (gap, y) = (14.0, 100.0);
     let wide = (WIDE - 2.0 * MARGIN + gap) / tiles.len() as f64 - gap;
@@ -171,7 +180,7 @@ fn map(svg: &mut Svg, seen: &Seen, y: f64) -> f64 {
         .collect();
     let what = if each == 1 { String::from("a cell is a symbol") } else { format!("a cell is the worst of {each} symbols") };
     svg.text("h", MARGIN, y, "Every source symbol");
-    svg.text("m", MARGIN + 160.0, y, &format!("{what}; in the order sent, left to right and down"));
+    svg.text("m", MARGIN + 184.0, y, &format!("{what}, in the order sent"));
     legend(svg, y);
 
     let (left, step) = (MARGIN + 56.0, 7.0);
@@ -203,18 +212,17 @@ fn map(svg: &mut Svg, seen: &Seen, y: f64) -> f64 {
 
 fn legend(svg: &mut Svg, y: f64) {
     let names = [
-        (String::from("never known"), NEVER),
-        (String::from("later"), 3),
-        (format!("{LATER} packets"), 2),
-        (format!("rebuilt within {SOON}"), 1),
         (String::from("heard"), HEARD),
+        (format!("rebuilt within {SOON} packets"), 1),
+        (format!("within {LATER}"), 2),
+        (String::from("later"), 3),
+        (String::from("never known"), NEVER),
     ];
-    let mut x = WIDE - MARGIN;
+    let mut x = WIDE - MARGIN + 18.0 - names.iter().map(|(name, _)| width(name) + 35.0).sum::<f64>();
     for (name, class) in names {
-        svg.anchored("m", "end", x, y, &name);
-        x -= name.chars().count() as f64 * 7.4 + 20.0;
         svg.rect(&format!("f{class}"), x, y - 10.0, 11.0, 11.0);
-        x -= 18.0;
+        svg.text("m", x + 17.0, y, &name);
+        x += width(&name) + 35.0;
     }
 }
 
@@ -291,20 +299,20 @@ fn burst(svg: &mut Svg, seen: &Seen, y: f64, left: f64, wide: f64) -> f64 {
     }
     svg.path("w", &windows);
     svg.path("x", &gone);
-    svg.path("f0", &heard);
+    svg.path("c", &heard);
     svg.path("o", &outline);
     svg.path("g", &threads);
     svg.path("f1", &dots);
 
     // Keys above, ticks at the sides.
     let mut x = axis;
-    for (name, class) in [("source packet", "f0"), ("lost", "o"), ("repair packet, over its window", "w"), ("lost", "x"), ("rebuilt", "f1")] {
+    for (name, class) in [("source packet", "c"), ("lost", "o"), ("repair packet, over its window", "w"), ("lost", "x"), ("rebuilt", "f1")] {
         match class {
             "w" | "x" => svg.path(class, &format!("M{} {}V{}", n(x + 5.0), n(top - 20.0), n(top - 8.0))),
             _ => svg.rect(class, x, top - 19.0, 10.0, 10.0),
         }
         svg.text("m", x + 16.0, top - 10.0, name);
-        x += name.chars().count() as f64 * 7.4 + 36.0;
+        x += width(name) + 36.0;
     }
     let every = ((high - low) / 8).max(1).next_multiple_of(5);
     for position in (low..high).filter(|p| p % every == 0) {

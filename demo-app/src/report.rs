@@ -22,6 +22,11 @@ pub fn grouped(number: u64) -> String {
     text
 }
 
+/// "1 symbol", "2 symbols".
+pub fn counted(count: u32, what: &str) -> String {
+    format!("{count} {what}{}", if count == 1 { "" } else { "s" })
+}
+
 pub fn field(scheme: Scheme) -> &'static str {
     match scheme {
         Scheme::Gf2 => "GF(2)",
@@ -57,10 +62,10 @@ pub fn settings(options: &Options) -> String {
         None => format!("made video, {} symbols", grouped(options.symbols)),
     };
     let pace = options.mbit.map_or(String::from("as fast as possible"), |mbit| format!("at {mbit} Mbit/s"));
-    let of = if *repairs == 1 { String::from("1 symbol") } else { format!("{repairs} symbols") };
+    let (of, bytes) = (counted(*repairs, "symbol"), grouped(u64::from(*symbol_size)));
     let (scheme, field) = (options.scheme.number(), field(options.scheme));
     let mut text = String::new();
-    let _ = writeln!(text, "RFC 8681 over a lossy link: scheme {scheme}, {field}; symbols of {symbol_size} bytes, window of {width}");
+    let _ = writeln!(text, "RFC 8681 over a lossy link: scheme {scheme}, {field}; symbols of {bytes} bytes, window of {width}");
     let _ = writeln!(text, "  stream  {stream}; seed {}", options.seed);
     let _ = writeln!(text, "  repair  a packet of {of} after every {every} ADUs, DT {density}");
     let _ = writeln!(text, "  link    UDP on 127.0.0.1, {loss} % lost in bursts of {burst} packets on average, {pace}");
@@ -68,44 +73,38 @@ pub fn settings(options: &Options) -> String {
 }
 
 fn times(text: &mut String, name: &str, times: &Times, symbol: f64) {
-    let count = grouped(times.count() as u64);
-    let row = match times.summary() {
-        None => format!("  {name:<27} {count:>9} {:>10} {:>8} {:>10} {:>8}", "-", "", "-", ""),
-        Some((median, worst)) => {
-            let share = |nanos: f64| format!("{:.1} %", 100.0 * nanos / symbol);
-            let (m, w) = (micros(median), micros(worst));
-            format!("  {name:<27} {count:>9} {m:>10} {:>8} {w:>10} {:>8}", share(median), share(worst))
-        }
-    };
-    let _ = writeln!(text, "{}", row.trim_end());
+    let _ = write!(text, "  {name:<25} {:>9}", grouped(times.count() as u64));
+    for nanos in times.summary().iter().flatten() {
+        let _ = write!(text, " {:>9} {:>7}", micros(*nanos), format!("{:.1} %", 100.0 * nanos / symbol));
+    }
+    text.push('\n');
 }
 
 /// The result, after the run.
 pub fn result(options: &Options, run: &Run) -> String {
     let mut text = String::new();
     let (sent, got) = (&run.sent, &run.got);
-    let _ = writeln!(text, "{:<12} {:>9} {:>9} {:>9}", "packets", "sent", "lost", "arrived");
-    for (name, kind) in [("source", Kind::Source), ("repair", Kind::Repair)] {
+    let mut line = |name: &str, count: u64, rest: String| {
+        let _ = writeln!(text, "{name:<9}{:>11} {rest}", grouped(count));
+    };
+    for (name, what, kind) in [("packets", "source", Kind::Source), ("", "repair", Kind::Repair)] {
         let (all, lost) = run.packets(kind);
-        let _ = writeln!(text, "  {name:<10} {:>9} {:>9} {:>9}", grouped(all as u64), grouped(lost as u64), grouped((all - lost) as u64));
+        line(name, all as u64, format!("{what} sent: {} arrived, {} lost", grouped((all - lost) as u64), grouped(lost as u64)));
     }
     let (heard, rebuilt, never) = run.symbols();
-    let _ = writeln!(text, "{:<12} {:>9} {:>9} {:>9} {:>9}", "symbols", "sent", "heard", "rebuilt", "never");
-    let _ = writeln!(text, "  {:<10} {:>9} {:>9} {:>9} {:>9}", "", grouped(sent.symbols), grouped(heard), grouped(rebuilt), grouped(never));
-    if rebuilt + never > 0 {
-        let _ = writeln!(text, "  {} of the {} lost symbols were rebuilt", percent(rebuilt, rebuilt + never), grouped(rebuilt + never));
-    }
-    let _ = writeln!(text, "{:<12} {:>9} {:>9} {:>9} {:>9}", "ADUs", "sent", "out", "missing", "flows");
-    let (missing, flows) = (sent.adus.saturating_sub(got.adus), sent.flows.len());
-    let _ = writeln!(text, "  {:<10} {:>9} {:>9} {:>9} {:>9}", "", grouped(sent.adus), grouped(got.adus), grouped(missing), flows);
-    let _ = writeln!(text, "  {} of {} bytes handed out, each compared with what was sent", grouped(got.bytes), grouped(sent.bytes));
+    let share = if rebuilt + never > 0 { format!("; {} of the lost ones rebuilt", percent(rebuilt, rebuilt + never)) } else { String::new() };
+    let known = format!("sent: {} heard, {} rebuilt, {} never known{share}", grouped(heard), grouped(rebuilt), grouped(never));
+    line("symbols", sent.symbols, known);
+    let (missing, flows) = (sent.adus.saturating_sub(got.adus), counted(sent.flows.len() as u32, "flow"));
+    line("ADUs", sent.adus, format!("sent: {} handed out, {} missing; {flows}", grouped(got.adus), grouped(missing)));
+    line("bytes", sent.bytes, format!("sent: {} handed out, each compared with what was sent", grouped(got.bytes)));
     let seconds = run.time.as_secs_f64();
     let rate = sent.link_bytes as f64 * 8.0 / 1e6 / seconds.max(1e-9);
-    let _ = writeln!(text, "  {} bytes given to the link in {seconds:.2} s: {rate:.0} Mbit/s", grouped(sent.link_bytes));
+    line("", sent.link_bytes, format!("with repair and heads, in {seconds:.2} s: {rate:.0} Mbit/s"));
 
     let symbol = symbol_time(options);
-    let _ = writeln!(text, "time per call, and its share of the {} that a symbol takes at {LINK} Mbit/s", micros(symbol));
-    let _ = writeln!(text, "  {:<27} {:>9} {:>10} {:>8} {:>10} {:>8}", "", "calls", "median", "share", "worst", "share");
+    let _ = writeln!(text, "time per call by the clock, and its share of the {} of a symbol at {LINK} Mbit/s", micros(symbol));
+    let _ = writeln!(text, "  {:<25} {:>9} {:>9} {:>7} {:>9} {:>7} {:>9} {:>7}", "", "calls", "median", "share", "99 in 100", "share", "worst", "share");
     times(&mut text, "sender: add an ADU", &sent.add, symbol);
     times(&mut text, "sender: make repair", &sent.make, symbol);
     times(&mut text, "receiver: source packet", &got.source, symbol);
@@ -122,6 +121,9 @@ pub fn result(options: &Options, run: &Run) -> String {
 /// The verdict, last.
 pub fn verdict(run: &Run) -> String {
     let faults = run.faults();
+    if faults.is_empty() && run.got.adus == 0 {
+        return String::from("Nothing was handed out.\n");
+    }
     if faults.is_empty() {
         return format!("Right: all {} ADUs handed out equal those sent, flow and every byte.\n", grouped(run.got.adus));
     }

@@ -10,12 +10,13 @@ use std::ffi::OsString;
 
 /// Prints what came out wrong, or that nothing did. True where nothing did.
 pub fn run() -> bool {
-    let checks: [(&str, fn() -> Result<(), String>); 9] = [
+    let checks: [(&str, fn() -> Result<(), String>); 10] = [
         ("scheme 10 rebuilds", || rebuilds(short())),
         ("scheme 9 rebuilds", || rebuilds(Options { scheme: Scheme::Gf2, density: 7, ..short() })),
         ("small symbols, odd width, many repairs", || {
             rebuilds(Options { symbol_size: 5, width: 255, repairs: 16, every: 40, density: 11, ..short() })
         }),
+        ("heavy loss, long bursts", || right(&Options { loss: 60.0, burst: 20.0, ..short() }).map(drop)),
         ("no loss, nothing missing", || lossless(Options { loss: 0.0, ..short() })),
         ("all lost, nothing handed out", || silent(Options { loss: 100.0, ..short() })),
         ("the same seed, the same run", || repeats(short())),
@@ -57,10 +58,12 @@ fn demand(holds: bool, otherwise: impl FnOnce() -> String) -> Result<(), String>
     }
 }
 
-/// A run without fault.
+/// A run without fault, which hands out at least the ADUs whose source packets arrived.
 fn right(options: &Options) -> Result<Run, String> {
     let run = silently(options)?;
     demand(run.faults().is_empty(), || run.faults().join("; "))?;
+    let (source, lost) = run.packets(Kind::Source);
+    demand(run.got.adus >= (source - lost) as u64, || format!("{} ADUs of {} source packets", run.got.adus, source - lost))?;
     Ok(run)
 }
 
@@ -68,8 +71,6 @@ fn rebuilds(options: Options) -> Result<(), String> {
     let run = right(&options)?;
     let (heard, rebuilt, never) = run.symbols();
     demand(rebuilt > 0 && heard + rebuilt + never == run.sent.symbols, || format!("{heard} heard, {rebuilt} rebuilt, {never} never"))?;
-    let arrived = run.packets(Kind::Source).0 - run.packets(Kind::Source).1;
-    demand(run.got.adus > arrived as u64 / 2, || format!("{} ADUs of {arrived} source packets", run.got.adus))?;
     let svg = picture::draw(&options, &run);
     demand(svg.starts_with("<svg") && svg.len() < 1_000_000, || format!("a picture of {} bytes", svg.len()))
 }

@@ -30,6 +30,15 @@ pub fn symbols_of(adu: usize, symbol_size: usize) -> usize {
     (adu + 3 + symbol_size - 1) / symbol_size
 }
 
+/// Whether a file can be read; if not, why.
+pub fn readable(path: &Path) -> Result<(), String> {
+    match File::open(path).and_then(|file| file.metadata()) {
+        Ok(about) if about.is_dir() => Err(format!("{}: it is a directory", path.display())),
+        Ok(_) => Ok(()),
+        Err(why) => Err(format!("{}: {why}", path.display())),
+    }
+}
+
 pub struct Stream {
     random: Random,
     symbol_size: usize,
@@ -56,11 +65,8 @@ impl Stream {
     /// The bytes of a file, cut into ADUs of one flow.
     pub fn file(seed: u64, symbol_size: usize, width: usize, path: &Path) -> io::Result<Stream> {
         let file = File::open(path)?;
-        let about = file.metadata()?;
-        if about.is_dir() {
-            return Err(io::Error::new(io::ErrorKind::InvalidInput, "it is a directory"));
-        }
-        let kind = Kind::File { reader: BufReader::with_capacity(1 << 16, file), length: about.len(), taken: 0 };
+        let length = file.metadata()?.len();
+        let kind = Kind::File { reader: BufReader::with_capacity(1 << 16, file), length, taken: 0 };
         Ok(Stream::new(seed, symbol_size, width, kind))
     }
 

@@ -52,11 +52,12 @@ impl Times {
         self.0.len()
     }
 
-    /// Median and worst.
-    pub fn summary(&self) -> Option<(f64, f64)> {
+    /// Median, the time that 99 of 100 calls keep, and worst.
+    pub fn summary(&self) -> Option<[f64; 3]> {
         let mut sorted = self.0.clone();
         sorted.sort_unstable();
-        Some((f64::from(*sorted.get(sorted.len() / 2)?), f64::from(*sorted.last()?)))
+        let last = sorted.len().checked_sub(1)?;
+        Some([last / 2, last * 99 / 100, last].map(|place| f64::from(sorted[place])))
     }
 }
 
