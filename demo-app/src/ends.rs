@@ -97,12 +97,7 @@ pub fn run(options: &Options, mut watch: impl FnMut(&Progress)) -> Result<Run, F
     let sender = Sender::open(options.scheme, options.symbol_size, options.width).map_err(refused("opening the sender"))?;
     let receiver = Receiver::open(options.scheme, options.symbol_size, options.width).map_err(refused("opening the receiver"))?;
     let (sending, receiving) = link::sockets().map_err(failed("sockets on 127.0.0.1"))?;
-    let shared = Shared {
-        gate: Gate::new(),
-        ledger: Mutex::default(),
-        sender_done: AtomicBool::new(false),
-        progress: Progress::default(),
-    };
+    let shared = Shared { gate: Gate::new(), ledger: Mutex::default(), sender_done: AtomicBool::new(false), progress: Progress::default() };
     let start = Instant::now();
     let (sent, got) = thread::scope(|scope| {
         let sends = scope.spawn(|| Sending::new(options, &shared, sending, sender).run(stream));
@@ -165,11 +160,9 @@ impl<'a> Sending<'a> {
             self.shared.progress.thousandths.store((stream.share() * 1000.0) as u64, Relaxed);
         }
         // The last symbols get the repair packets that a further window of symbols would have brought.
-        if self.log.adus > 0 {
-            let each = self.log.symbols.div_ceil(self.log.adus) * u64::from(self.options.every);
-            for _ in 0..u64::from(self.options.width).div_ceil(each) {
-                self.repair()?;
-            }
+        let between = (self.log.symbols * u64::from(self.options.every)).checked_div(self.log.adus);
+        for _ in 0..between.map_or(0, |symbols| u64::from(self.options.width) / symbols.max(1) + 1) {
+            self.repair()?;
         }
         self.shared.progress.thousandths.store(1000, Relaxed);
         link::write_head(&mut self.datagram, 0, Kind::End, 0);

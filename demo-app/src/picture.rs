@@ -2,7 +2,8 @@
 
 use crate::link::Kind;
 use crate::options::Options;
-use crate::report::{counted, field, grouped, percent};
+use crate::report::{counted, each, field, grouped, losses, percent};
+use crate::stream::ceiling;
 use crate::tally::{Fate, Packet, Run};
 use std::fmt::Write;
 use std::ops::Range;
@@ -76,6 +77,11 @@ fn n(value: f64) -> String {
     text.strip_suffix(".0").map_or(text.clone(), String::from)
 }
 
+/// The next multiple of five, from five on.
+fn fives(number: u64) -> u64 {
+    (number.max(1) + 4) / 5 * 5
+}
+
 /// About how wide a text is.
 fn width(text: &str) -> f64 {
     text.chars().map(|c| if "il., ".contains(c) { 4.4 } else { 8.1 }).sum()
@@ -83,6 +89,19 @@ fn width(text: &str) -> f64 {
 
 fn bar(path: &mut String, x: f64, y: f64, w: f64, h: f64) {
     let _ = write!(path, "M{} {}h{}v{}h-{}z", n(x), n(y), n(w), n(h), n(w));
+}
+
+/// The runs of equal elements of a list.
+fn runs<T: PartialEq>(list: &[T]) -> Vec<Range<usize>> {
+    let mut runs = Vec::new();
+    let mut start = 0;
+    for end in 1..=list.len() {
+        if list.get(end) != Some(&list[start]) {
+            runs.push(start..end);
+            start = end;
+        }
+    }
+    runs
 }
 
 /// What the picture shows of the run: by position, the number of the source packet and the class of the colour.
@@ -141,15 +160,15 @@ fn heading(svg: &mut Svg, options: &Options, run: &Run) -> f64 {
     let (repair, repair_lost) = run.packets(Kind::Repair);
     let (packets, lost) = ((source + repair) as u64, (source_lost + repair_lost) as u64);
     svg.text("t", MARGIN, 56.0, "RFC 8681 over a lossy link");
-    let Options { symbol_size, width, every, repairs, loss, burst, .. } = options;
+    let Options { scheme, symbol_size, width, every, repairs, seed, .. } = options;
     let told = format!(
-        "scheme {}, {}; symbols of {} bytes, window of {width}; {} after every {every} ADUs; \
-         {loss} % of packets lost, in bursts of {burst} on average; seed {}",
-        options.scheme.number(),
-        field(options.scheme),
+        "scheme {}, {}; symbols of {} bytes, window of {width}; {} after every {}; {}; seed {seed}",
+        scheme.number(),
+        field(*scheme),
         grouped(u64::from(*symbol_size)),
         counted(*repairs, "repair symbol"),
-        options.seed
+        each(*every, "ADU"),
+        losses(options)
     );
     svg.text("m", MARGIN, 80.0, &told);
     let tiles = [
@@ -173,12 +192,12 @@ fn heading(svg: &mut Svg, options: &Options, run: &Run) -> f64 {
 /// A cell for each symbol, row after row. Gives where the map ends.
 fn map(svg: &mut Svg, seen: &Seen, y: f64) -> f64 {
     let symbols = usize::try_from(seen.run.sent.symbols).unwrap_or(usize::MAX);
-    let each = symbols.div_ceil(MOST_CELLS).max(1);
-    let cells = symbols.div_ceil(each);
+    let in_cell = ceiling(symbols, MOST_CELLS).max(1);
+    let cells = ceiling(symbols, in_cell);
     let classes: Vec<usize> = (0..cells)
-        .map(|cell| (cell * each..((cell + 1) * each).min(symbols)).map(|p| seen.class(p as u64)).max().unwrap_or(HEARD))
+        .map(|cell| (cell * in_cell..((cell + 1) * in_cell).min(symbols)).map(|p| seen.class(p as u64)).max().unwrap_or(HEARD))
         .collect();
-    let what = if each == 1 { String::from("a cell is a symbol") } else { format!("a cell is the worst of {each} symbols") };
+    let what = if in_cell == 1 { String::from("a cell is a symbol") } else { format!("a cell is the worst of {in_cell} symbols") };
     svg.text("h", MARGIN, y, "Every source symbol");
     svg.text("m", MARGIN + 184.0, y, &format!("{what}, in the order sent"));
     legend(svg, y);
@@ -189,19 +208,17 @@ fn map(svg: &mut Svg, seen: &Seen, y: f64) -> f64 {
     let mut paths = vec![String::new(); NEVER + 1];
     for (row, line) in classes.chunks(ROW).enumerate() {
         let y = top + row as f64 * step;
-        let mut start = 0;
-        for run in line.chunk_by(|a, b| a == b) {
-            bar(&mut paths[run[0]], left + start as f64 * wide, y, run.len() as f64 * wide, tall);
-            start += run.len();
+        for run in runs(line) {
+            bar(&mut paths[line[run.start]], left + run.start as f64 * wide, y, run.len() as f64 * wide, tall);
         }
         if row % 5 == 0 {
-            svg.anchored("s", "end", left - 8.0, y + tall, &grouped((row * ROW * each) as u64));
+            svg.anchored("s", "end", left - 8.0, y + tall, &grouped((row * ROW * in_cell) as u64));
         }
     }
     for (class, path) in paths.iter().enumerate() {
         svg.path(&format!("f{class}"), path);
     }
-    let bottom = top + cells.div_ceil(ROW) as f64 * step;
+    let bottom = top + ceiling(cells, ROW) as f64 * step;
     let mut lines = String::new();
     for column in 1..ROW {
         let _ = write!(lines, "M{} {}V{}", n(left + column as f64 * wide), n(top), n(bottom));
@@ -231,14 +248,9 @@ fn legend(svg: &mut Svg, y: f64) {
 fn chosen(seen: &Seen) -> Option<(Range<usize>, usize)> {
     let packets = &seen.run.sent.packets;
     let mut best: Option<(u64, Range<usize>, usize)> = None;
-    let mut start = 0;
-    for run in packets.chunk_by(|a, b| a.lost == b.lost) {
-        let range = start..start + run.len();
-        start = range.end;
-        if !run[0].lost {
-            continue;
-        }
-        let positions = run.iter().filter(|p| p.kind == Kind::Source).flat_map(|p| p.first..p.end());
+    let lost: Vec<bool> = packets.iter().map(|p| p.lost).collect();
+    for range in runs(&lost).into_iter().filter(|run| lost[run.start]) {
+        let positions = packets[range.clone()].iter().filter(|p| p.kind == Kind::Source).flat_map(|p| p.first..p.end());
         let solved: Option<Vec<u32>> = positions.map(|p| if let Fate::Rebuilt(by) = seen.run.fate(p) { Some(by) } else { None }).collect();
         let Some(solved) = solved else { continue };
         let Some(last) = solved.iter().max().map(|&by| by as usize) else { continue };
@@ -269,7 +281,8 @@ fn burst(svg: &mut Svg, seen: &Seen, y: f64, left: f64, wide: f64) -> f64 {
     let x_of = |number: usize| axis + (number - shown.start) as f64 * column;
     let y_of = |position: u64| top + (position.clamp(low, high) - low) as f64 * row;
     svg.rect("p", axis, top, wide - 56.0, tall);
-    let (mut heard, mut outline, mut windows, mut gone, mut threads, mut dots) = <(String, String, String, String, String, String)>::default();
+    let (mut heard, mut outline, mut windows, mut gone, mut threads, mut dots) =
+        <(String, String, String, String, String, String)>::default();
     for number in shown.clone() {
         let packet = &packets[number];
         let (x, middle) = (x_of(number), x_of(number) + column / 2.0);
@@ -306,7 +319,8 @@ fn burst(svg: &mut Svg, seen: &Seen, y: f64, left: f64, wide: f64) -> f64 {
 
     // Keys above, ticks at the sides.
     let mut x = axis;
-    for (name, class) in [("source packet", "c"), ("lost", "o"), ("repair packet, over its window", "w"), ("lost", "x"), ("rebuilt", "f1")] {
+    for (name, class) in [("source packet", "c"), ("lost", "o"), ("repair packet, over its window", "w"), ("lost", "x"), ("rebuilt", "f1")]
+    {
         match class {
             "w" | "x" => svg.path(class, &format!("M{} {}V{}", n(x + 5.0), n(top - 20.0), n(top - 8.0))),
             _ => svg.rect(class, x, top - 19.0, 10.0, 10.0),
@@ -314,7 +328,7 @@ fn burst(svg: &mut Svg, seen: &Seen, y: f64, left: f64, wide: f64) -> f64 {
         svg.text("m", x + 16.0, top - 10.0, name);
         x += width(name) + 36.0;
     }
-    let every = ((high - low) / 8).max(1).next_multiple_of(5);
+    let every = fives((high - low) / 8);
     for position in (low..high).filter(|p| p % every == 0) {
         svg.anchored("s", "end", axis - 8.0, y_of(position) + 8.0, &grouped(position));
     }
@@ -334,7 +348,7 @@ fn delays(svg: &mut Svg, seen: &Seen, y: f64, left: f64, wide: f64) -> f64 {
     };
     svg.text("m", left, y + 24.0, &format!("in packets: median {median}, worst {worst}"));
     let (top, tall) = (y + 44.0, 380.0);
-    let each = (worst + 1).div_ceil(40).max(1);
+    let each = worst / 40 + 1;
     let bins = worst / each + 1;
     let mut counts = vec![0u64; bins as usize];
     seen.delays.iter().for_each(|delay| counts[(delay / each) as usize] += 1);
@@ -349,7 +363,7 @@ fn delays(svg: &mut Svg, seen: &Seen, y: f64, left: f64, wide: f64) -> f64 {
     for (class, path) in paths.iter().enumerate() {
         svg.path(&format!("f{class}"), path);
     }
-    let tick = (bins * each / 5).max(1).next_multiple_of(5);
+    let tick = fives(bins * each / 5);
     for delay in (0..bins * each).filter(|d| d % tick == 0) {
         let x = left + (delay / each) as f64 * column + column / 2.0;
         svg.anchored("s", "middle", x, top + tall + 16.0, &grouped(delay));

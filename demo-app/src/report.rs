@@ -27,6 +27,25 @@ pub fn counted(count: u32, what: &str) -> String {
     format!("{count} {what}{}", if count == 1 { "" } else { "s" })
 }
 
+/// "ADU", "2 ADUs".
+pub fn each(count: u32, what: &str) -> String {
+    if count == 1 {
+        String::from(what)
+    } else {
+        counted(count, what)
+    }
+}
+
+/// What the link loses.
+pub fn losses(options: &Options) -> String {
+    let Options { loss, burst, .. } = options;
+    if *burst > 1.0 {
+        format!("{loss} % of packets lost in bursts of {burst} on average")
+    } else {
+        format!("{loss} % of packets lost, each for itself")
+    }
+}
+
 pub fn field(scheme: Scheme) -> &'static str {
     match scheme {
         Scheme::Gf2 => "GF(2)",
@@ -56,7 +75,7 @@ fn symbol_time(options: &Options) -> f64 {
 
 /// The settings, before the run.
 pub fn settings(options: &Options) -> String {
-    let Options { symbol_size, width, density, every, repairs, loss, burst, .. } = options;
+    let Options { symbol_size, width, density, every, repairs, .. } = options;
     let stream = match &options.file {
         Some(path) => path.display().to_string(),
         None => format!("made video, {} symbols", grouped(options.symbols)),
@@ -67,8 +86,8 @@ pub fn settings(options: &Options) -> String {
     let mut text = String::new();
     let _ = writeln!(text, "RFC 8681 over a lossy link: scheme {scheme}, {field}; symbols of {bytes} bytes, window of {width}");
     let _ = writeln!(text, "  stream  {stream}; seed {}", options.seed);
-    let _ = writeln!(text, "  repair  a packet of {of} after every {every} ADUs, DT {density}");
-    let _ = writeln!(text, "  link    UDP on 127.0.0.1, {loss} % lost in bursts of {burst} packets on average, {pace}");
+    let _ = writeln!(text, "  repair  a packet of {of} after every {}, DT {density}", each(*every, "ADU"));
+    let _ = writeln!(text, "  link    UDP on 127.0.0.1, {}, {pace}", losses(options));
     text
 }
 
@@ -92,7 +111,8 @@ pub fn result(options: &Options, run: &Run) -> String {
         line(name, all as u64, format!("{what} sent: {} arrived, {} lost", grouped((all - lost) as u64), grouped(lost as u64)));
     }
     let (heard, rebuilt, never) = run.symbols();
-    let share = if rebuilt + never > 0 { format!("; {} of the lost ones rebuilt", percent(rebuilt, rebuilt + never)) } else { String::new() };
+    let share =
+        if rebuilt + never > 0 { format!("; {} of the lost ones rebuilt", percent(rebuilt, rebuilt + never)) } else { String::new() };
     let known = format!("sent: {} heard, {} rebuilt, {} never known{share}", grouped(heard), grouped(rebuilt), grouped(never));
     line("symbols", sent.symbols, known);
     let (missing, flows) = (sent.adus.saturating_sub(got.adus), counted(sent.flows.len() as u32, "flow"));
@@ -104,7 +124,11 @@ pub fn result(options: &Options, run: &Run) -> String {
 
     let symbol = symbol_time(options);
     let _ = writeln!(text, "time per call by the clock, and its share of the {} of a symbol at {LINK} Mbit/s", micros(symbol));
-    let _ = writeln!(text, "  {:<25} {:>9} {:>9} {:>7} {:>9} {:>7} {:>9} {:>7}", "", "calls", "median", "share", "99 in 100", "share", "worst", "share");
+    let _ = writeln!(
+        text,
+        "  {:<25} {:>9} {:>9} {:>7} {:>9} {:>7} {:>9} {:>7}",
+        "", "calls", "median", "share", "99 in 100", "share", "worst", "share"
+    );
     times(&mut text, "sender: add an ADU", &sent.add, symbol);
     times(&mut text, "sender: make repair", &sent.make, symbol);
     times(&mut text, "receiver: source packet", &got.source, symbol);

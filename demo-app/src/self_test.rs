@@ -8,9 +8,11 @@ use crate::tally::{Fate, Packet, Run};
 use rlc8681::Scheme;
 use std::ffi::OsString;
 
+type Check = fn() -> Result<(), String>;
+
 /// Prints what came out wrong, or that nothing did. True where nothing did.
 pub fn run() -> bool {
-    let checks: [(&str, fn() -> Result<(), String>); 10] = [
+    let checks: [(&str, Check); 10] = [
         ("scheme 10 rebuilds", || rebuilds(short())),
         ("scheme 9 rebuilds", || rebuilds(Options { scheme: Scheme::Gf2, density: 7, ..short() })),
         ("small symbols, odd width, many repairs", || {
@@ -117,8 +119,8 @@ fn noticed(damage: Damage) -> Result<(), String> {
         Damage::Implied => p.kind == Kind::Repair && known_before(number, p),
     };
     let arriving = (0..).zip(&whole.sent.packets).filter(|(_, p)| !p.lost);
-    let fitting = arriving.enumerate().filter(|(_, (number, p))| fits(*number, p));
-    let (place, _) = fitting.skip(20).next().ok_or("no such packet")?;
+    let mut fitting = arriving.enumerate().filter(|(_, (number, p))| fits(*number, p));
+    let (place, _) = fitting.nth(20).ok_or("no such packet")?;
     let run = silently(&Options { corrupt: Some(place as u64), ..options })?;
     let seen = if damage == Damage::Implied { run.got.refused[11] } else { run.got.differing };
     demand(seen > 0 && !run.faults().is_empty(), || String::from("nothing was noticed"))

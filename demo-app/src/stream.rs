@@ -25,9 +25,14 @@ fn made(random: &mut Random, flow: u8, length: usize) -> Adu {
     Adu { flow, bytes }
 }
 
+/// A quotient, rounded up.
+pub fn ceiling(number: usize, divisor: usize) -> usize {
+    number / divisor + usize::from(number % divisor > 0)
+}
+
 /// How many symbols an ADU takes: its ADUI is 3 bytes longer.
 pub fn symbols_of(adu: usize, symbol_size: usize) -> usize {
-    (adu + 3 + symbol_size - 1) / symbol_size
+    ceiling(adu + 3, symbol_size)
 }
 
 /// Whether a file can be read; if not, why.
