@@ -142,7 +142,7 @@ module _ (m : List ℕ) (e : ℕ) (h : Header) (k : headerIn m ≡ some h) where
 
 -- ---- The promises
 
-abbrev IsNowhere : Spot → Type 0
+abbrev pub IsNowhere : Spot → Type 0
 IsNowhere (At a n) = ⊥
 IsNowhere (Nowhere x) = Unit {0}
 

@@ -9,6 +9,7 @@ pub mod Congruent
 pub mod Naming
 pub mod Headers
 pub mod Finding
+pub mod Placing
 pub mod Opening
 pub mod Locating
 pub mod Finishing

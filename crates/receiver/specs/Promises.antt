@@ -6,10 +6,10 @@ use mathlib.Core.Bool.{cond}
 use mathlib.Core.Option.{Option, none, some}
 use mathlib.Core.List.{List, []}
 use denote.Ref.{RefT, now}
-use Prim.Native.Nat.{ℕ}
+use Prim.Native.Nat.{ℕ, _+_, _≤_}
 use lib.ListN.{length, drop}
 use lib.Dec.{ltb}
-use Rattle.memory.specs.Part.{LiesAt}
+use Rattle.memory.specs.Part.{part, LiesAt}
 use Rattle.wire.specs.declared.Setting.{Setting}
 use Rattle.wire.specs.declared.Refusal.the-variants.{Unopened}
 use Rattle.wire.specs.Numbers.{numberOf}
@@ -94,6 +94,17 @@ module _ (L : Layout) where
     pub unopened : headerIn (now m) ≡ none → now part ≡ []
     pub within : (h : Header) → headerIn (now m) ≡ some h → (now part ≡ []) ⊎ ((at : ℕ) × LiesAt part m at (h .setting .size))
     pub shows : (s : Setting) (t : State s) → Holds (now m) s t → Shows s (finding s t e) m part
+
+  -- The call for the place found this: a known symbol's bytes start at its place; else it is the symbol call's refusal.
+  abbrev pub Places : (s : Setting) → Finding (s .size) → List ℕ → Answer → Type 0
+  Places s (shows p v) m a = (said a ≡ value (symbolStart s p)) × (part (symbolStart s p) (s .size) m ≡ bytesOf (s .size) v)
+  Places s (hides n) m a = said a ≡ refusal n
+
+  -- The call for the place of a symbol, for the ESI e, which changes nothing: on any memory a place is that of E bytes in it.
+  pub record PlaceAnswered (m : List ℕ) (e : ℕ) (a : Answer) : Type 0 where
+    pub unopened : (said a ≡ refusal 3) ↔ (headerIn m ≡ none)
+    pub within : (h : Header) (at : ℕ) → headerIn m ≡ some h → said a ≡ value at → at + h .setting .size ≤ length m
+    pub places : (s : Setting) (t : State s) → Holds m s t → Places s (finding s t e) m a
 
   -- The ADU call for the ESI e, which changes nothing but its output.
   pub record AduAnswered (m : List ℕ) (e : ℕ) (out out′ : List ℕ) (a : Handed) : Type 0 where

@@ -1,5 +1,5 @@
-// The receiver: opening, the two packet calls, and the two calls that show a symbol (RFC 8681, section 3.4; document 01).
-ghost use Rattle.receiver.specs.Promises.{Opened, Received, SymbolAnswered, PartShown};
+// The receiver: opening, the two packet calls, and the calls that show a symbol (RFC 8681, section 3.4; document 01).
+ghost use Rattle.receiver.specs.Promises.{Opened, Received, SymbolAnswered, PartShown, PlaceAnswered};
 ghost use Rattle.receiver.specs.History.{source-call, repair-call};
 ghost use Rattle.receiver.specs.Layout.{receiverLayout};
 
@@ -20,7 +20,8 @@ use wire::RepairHeader;
 use wire::Setting;
 use wire::SourceHeader;
 
-// What a call answers: a number (opening and the symbol call: 0; a packet call: how many positions of the window became known), or a refusal.
+// What a call answers: a number (opening and the symbol call: 0; a packet call: how many positions of the window became known; the call for a
+// symbol's place: where it starts), or a refusal.
 pub enum Answer {
     Done(usize),
     Refused(Refusal),
@@ -84,6 +85,16 @@ pub fn symbol_part(mem: &[u8], esi: Esi) -> &[u8]
     match find::find(mem, esi) {
         Spot::At(at, n) => memory::part(mem, at, n),
         Spot::Nowhere(_) => memory::part(mem, 0, 0),
+    }
+}
+
+// Where in the memory the symbol with an ESI starts, or the symbol call's refusal.
+pub fn symbol_place(mem: &[u8], esi: Esi) -> Answer
+    ensures { λ r. ⌜ PlaceAnswered receiverLayout (now (mem .entry)) (esi .0) r ⌝ }
+{
+    match find::find(mem, esi) {
+        Spot::At(at, _) => Answer::Done(at),
+        Spot::Nowhere(n) => Answer::Refused(n),
     }
 }
 

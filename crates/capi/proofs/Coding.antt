@@ -1,0 +1,62 @@
+-- Laws of the coding: of a value, of a refusal, of an answer whose case is known, and of the sizes.
+use mathlib.Core.Path.{_≡_, refl, sym, ap, _∙_}
+use mathlib.Core.Option.{Option, none, some}
+use Prim.Native.Nat.{ℕ, _+_, _*_, _^_, _≤_, _<_, min}
+use native.Mathlib.Nat.{mul-le-mul}
+use native.Mathlib.Omega.{arith}
+use lib.IntN.{ℤ, pos}
+use mir.Syntax.{w64}
+use lib.Signed.{mag}
+use mir.Val.{toZ, ofZ}
+use mir.Facts.{toZ-pos, toZ-ofZ}
+use Rattle.wire.specs.declared.Refusal.{Refusal}
+use Rattle.wire.specs.declared.Setting.{Setting}
+use Rattle.wire.specs.declared.Checked.{Checked}
+use Rattle.wire.specs.declared.Checked.the-variants.{Good, Bad}
+use Rattle.wire.specs.Numbers.{numberOf}
+use Rattle.wire.specs.Settings.{Valid, settingOf, checkedOf}
+use Rattle.wire.proofs.Settings.{setting-names}
+use Rattle.receiver.specs.History.{Said, value, refusal}
+use Rattle.receiver.proofs.Headers.{setting-good, setting-bad}
+use Rattle.capi.specs.Coding.{largest, coded, asked}
+
+-- A value below the largest number is itself; from there on it stands as that one.
+pub value-small : (n : ℕ) → n < largest → toZ w64 n ≡ coded (value n)
+value-small n l =
+    let fits : n < 2 ^ 63 = omega (arith, l) in
+    let same : n ≡ min n largest = omega (arith, l) in
+    toZ-pos w64 fits ∙ ap pos same
+
+pub value-large : (n : ℕ) → largest ≤ n → pos largest ≡ coded (value n)
+value-large n l = let same : largest ≡ min n largest = omega (arith, l) in ap pos same
+
+-- The number that an inner function gave, handed on.
+pub handed : {z w : ℤ} → mag z < 2 ^ 63 → z ≡ w → toZ w64 (ofZ w64 z) ≡ w
+handed fits e = toZ-ofZ {w = w64} (record { sfits = fits }) ∙ e
+
+-- A number that codes what an answer's case says codes what the answer says.
+pub coded-case : {A : Type 0} (said : A → Said) {a b : A} {z : ℤ} → mag z < 2 ^ 63 → a ≡ b → z ≡ coded (said b) → toZ w64 (ofZ w64 z) ≡ coded (said a)
+coded-case said fits e h = handed fits h ∙ ap (λ x. coded (said x)) (sym e)
+
+-- The refusal that was matched, as it is coded.
+pub refusal-case : {why one : Refusal} → why ≡ one → coded (refusal (numberOf one)) ≡ coded (refusal (numberOf why))
+refusal-case e = ap (λ x. coded (refusal (numberOf x))) (sym e)
+
+-- ---- the sizes
+
+-- A header and its stretches are far from filling 64 bits.
+pub area : (count bytes : ℕ) → count ≤ 256 → bytes ≤ 1759 → count * bytes ≤ 450304
+area count bytes a b = mul-le-mul a b
+
+-- The numbers named a setting, whose E and width have their values.
+pub asked-valid : (size width : ℕ) {r : Checked} → r ≡ checkedOf (settingOf 10 size width) → (s : Setting) → r ≡ Good s → Valid s
+asked-valid size width e s good = setting-names _ _ _ s (setting-good _ s e good) .valid
+
+module _ (size width : ℕ) {r : Checked} (e : r ≡ checkedOf (settingOf 10 size width)) (f : Setting → ℕ) where
+  -- The numbers named no setting.
+  pub asked-none : {z : ℤ} → mag z < 2 ^ 63 → r ≡ Bad → z ≡ coded (refusal 1) → toZ w64 (ofZ w64 z) ≡ coded (asked f (settingOf 10 size width))
+  asked-none fits bad h = rw (setting-bad (settingOf 10 size width) e bad) (handed fits h)
+
+  -- They named this one.
+  pub asked-some : (s : Setting) {z : ℤ} → mag z < 2 ^ 63 → r ≡ Good s → z ≡ coded (value (f s)) → toZ w64 (ofZ w64 z) ≡ coded (asked f (settingOf 10 size width))
+  asked-some s fits good h = rw (setting-good (settingOf 10 size width) s e good) (handed fits h)

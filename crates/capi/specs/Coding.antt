@@ -1,0 +1,37 @@
+-- How the exported functions code what a call says as one signed number: a value is itself, 0 or more, and a refusal is minus its number.
+use mathlib.Core.Path.{_≡_}
+use mathlib.Core.Option.{Option, none, some}
+use Prim.Native.Nat.{ℕ, min}
+use lib.IntN.{ℤ, pos, negℤ}
+use Rattle.wire.specs.declared.Setting.{Setting}
+use Rattle.sender.specs.declared.Answer.{Answer}
+use Rattle.sender.specs.Promises as sender
+use Rattle.receiver.specs.History.{Said, value, refusal}
+
+-- The largest number of 64 bits with a sign.
+abbrev pub largest : ℕ
+largest = 9223372036854775807
+
+-- The coding. A value past the largest number stands as that one: no value of an end that a memory holds comes near it.
+abbrev pub coded : Said → ℤ
+coded (value n) = pos (min n largest)
+coded (refusal n) = negℤ (pos n)
+
+-- What an answer of the sender says, in the receiver's words.
+abbrev pub ofSender : sender.Said → Said
+ofSender (sender.bytes n) = value n
+ofSender (sender.refusal n) = refusal n
+
+abbrev pub senderSaid : Answer → Said
+senderSaid a = ofSender (sender.said a)
+
+-- The number r codes what an answer says, and the promise holds of that answer.
+pub record Codes {A : Type 0} (said : A → Said) (Promise : A → Type 0) (r : ℤ) : Type 0 where
+  pub answer : A
+  pub number : r ≡ coded (said answer)
+  pub promise : Promise answer
+
+-- The bytes that an end asks of memory: refusal 1 where E or width is outside its values.
+abbrev pub asked : (Setting → ℕ) → Option Setting → Said
+asked size none = refusal 1
+asked size (some s) = value (size s)

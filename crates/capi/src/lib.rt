@@ -1,0 +1,169 @@
+// The calls of sender and receiver under C names (include/rlc8681.h): each takes numbers and slices, and answers one signed number. What a function
+// promises is the promise of the call that it wraps, of the answer that its number codes.
+ghost use mathlib.Core.Path.{_≡_};
+ghost use Prim.Native.Nat.{_+_, _*_, _≤_};
+ghost use Rattle.wire.specs.Numbers.{numberOf};
+ghost use Rattle.wire.specs.Settings.{settingOf};
+ghost use Rattle.sender.specs.State as sender;
+ghost use Rattle.sender.specs.Promises.{Opens, Adds, Repairs};
+ghost use Rattle.receiver.specs.History.{value, refusal, memorySize, workingSize, source-call, repair-call};
+ghost use Rattle.receiver.specs.Promises.{Opened, Received, SymbolAnswered, said};
+ghost use Rattle.receiver.specs.Layout.{receiverLayout};
+ghost use Rattle.capi.specs.Coding.{coded, senderSaid, Codes, asked};
+use wire::Checked;
+use wire::Esi;
+use wire::Refusal;
+use wire::RepairKey;
+
+// A value as it is coded.
+fn coded_value(n: usize) -> i64
+    ensures { λ r. ⌜ r ≡ coded (value n) ⌝ }
+{
+    if n < 9223372036854775807 {
+        return n as i64;
+    }
+    9223372036854775807
+}
+
+// A refusal as it is coded.
+fn coded_refusal(why: Refusal) -> i64
+    ensures { λ r. ⌜ r ≡ coded (refusal (numberOf why)) ⌝ }
+{
+    match why {
+        Refusal::Values => -1,
+        Refusal::Short => -2,
+        Refusal::Unopened => -3,
+        Refusal::Long => -4,
+        Refusal::Form => -5,
+        Refusal::Range => -6,
+        Refusal::Empty => -7,
+        Refusal::Behind => -8,
+        Refusal::Ahead => -9,
+        Refusal::Draws => -10,
+        Refusal::Contradiction => -11,
+        Refusal::Unknown => -12,
+        Refusal::NoStart => -13,
+        Refusal::Padding => -14,
+    }
+}
+
+// An answer of the sender.
+fn coded_sender(answer: sender::Answer) -> i64
+    ensures { λ r. ⌜ r ≡ coded (senderSaid answer) ⌝ }
+{
+    match answer {
+        sender::Answer::Done(n) => coded_value(n),
+        sender::Answer::Refused(why) => coded_refusal(why),
+    }
+}
+
+// An answer of the receiver.
+fn coded_receiver(answer: receiver::Answer) -> i64
+    ensures { λ r. ⌜ r ≡ coded (said answer) ⌝ }
+{
+    match answer {
+        receiver::Answer::Done(n) => coded_value(n),
+        receiver::Answer::Refused(why) => coded_refusal(why),
+    }
+}
+
+// The size of a memory: a header, and so many stretches of so many bytes.
+fn coded_size(header: usize, count: usize, bytes: usize) -> i64
+    requires { ⌜ (header ≤ 64) × (count ≤ 256) × (bytes ≤ 1759) ⌝ }
+    ensures { λ r. ⌜ r ≡ coded (value (header + count * bytes)) ⌝ }
+{
+    coded_value(header + count * bytes)
+}
+
+#[no_mangle]
+pub extern "C" fn rlc_sender_memory(size: u32, width: u32) -> i64
+    ensures { λ r. ⌜ r ≡ coded (asked sender.memorySize (settingOf 10 size width)) ⌝ }
+{
+    let Checked::Good(setting) = wire::setting_of(10, size as usize, width as usize) else {
+        return coded_refusal(Refusal::Values);
+    };
+    coded_size(32, setting.width, setting.size)
+}
+
+#[no_mangle]
+pub extern "C" fn rlc_receiver_memory(size: u32, width: u32) -> i64
+    ensures { λ r. ⌜ r ≡ coded (asked memorySize (settingOf 10 size width)) ⌝ }
+{
+    let Checked::Good(setting) = wire::setting_of(10, size as usize, width as usize) else {
+        return coded_refusal(Refusal::Values);
+    };
+    coded_size(64, setting.width, setting.width + setting.size + 4)
+}
+
+#[no_mangle]
+pub extern "C" fn rlc_working_memory(size: u32, width: u32) -> i64
+    ensures { λ r. ⌜ r ≡ coded (asked workingSize (settingOf 10 size width)) ⌝ }
+{
+    let Checked::Good(setting) = wire::setting_of(10, size as usize, width as usize) else {
+        return coded_refusal(Refusal::Values);
+    };
+    coded_size(64, setting.width + 1, setting.width + setting.size + 4)
+}
+
+#[no_mangle]
+pub extern "C" fn rlc_sender_open(memory: &mut [u8], scheme: u32, size: u32, width: u32) -> i64
+    ensures { λ r. ⌜ Codes senderSaid (λ a. Opens scheme size width (now (memory .entry)) a (now (memory .exit))) r ⌝ }
+{
+    coded_sender(sender::open(memory, scheme as usize, size as usize, width as usize))
+}
+
+#[no_mangle]
+pub extern "C" fn rlc_sender_add_adu(memory: &mut [u8], flow: u8, adu: &[u8], out: &mut [u8]) -> i64
+    ensures { λ r. ⌜ Codes senderSaid
+        (λ a. Adds flow (now (adu .entry)) (now (memory .entry)) (now (out .entry)) a (now (memory .exit)) (now (out .exit))) r ⌝ }
+{
+    coded_sender(sender::add_adu(memory, flow, adu, out))
+}
+
+#[no_mangle]
+pub extern "C" fn rlc_sender_make_repair(
+    memory: &[u8],
+    key: u16,
+    dt: u32,
+    count: u32,
+    out: &mut [u8],
+) -> i64
+    ensures { λ r. ⌜ Codes senderSaid (λ a. Repairs key dt count (now (memory .entry)) (now (out .entry)) a (now (out .exit))) r ⌝ }
+{
+    coded_sender(sender::make_repair(memory, RepairKey(key), dt as usize, count as usize, out))
+}
+
+#[no_mangle]
+pub extern "C" fn rlc_receiver_open(memory: &mut [u8], scheme: u32, size: u32, width: u32) -> i64
+    ensures { λ r. ⌜ Codes said (Opened receiverLayout scheme size width (now (memory .entry)) (now (memory .exit))) r ⌝ }
+{
+    coded_receiver(receiver::open(memory, scheme as usize, size as usize, width as usize))
+}
+
+#[no_mangle]
+pub extern "C" fn rlc_receive_source(
+    memory: &mut [u8],
+    work: &mut [u8],
+    flow: u8,
+    packet: &[u8],
+) -> i64
+    ensures { λ r. ⌜ Codes said (Received receiverLayout (source-call flow (now (packet .entry)))
+        (now (memory .entry)) (now (memory .exit)) (now (work .entry)) (now (work .exit))) r ⌝ }
+{
+    coded_receiver(receiver::receive_source(memory, work, flow, packet))
+}
+
+#[no_mangle]
+pub extern "C" fn rlc_receive_repair(memory: &mut [u8], work: &mut [u8], packet: &[u8]) -> i64
+    ensures { λ r. ⌜ Codes said (Received receiverLayout (repair-call (now (packet .entry)))
+        (now (memory .entry)) (now (memory .exit)) (now (work .entry)) (now (work .exit))) r ⌝ }
+{
+    coded_receiver(receiver::receive_repair(memory, work, packet))
+}
+
+#[no_mangle]
+pub extern "C" fn rlc_symbol(memory: &[u8], esi: u32) -> i64
+    ensures { λ r. ⌜ Codes said (SymbolAnswered receiverLayout (now (memory .entry)) esi) r ⌝ }
+{
+    coded_receiver(receiver::symbol(memory, Esi(esi)))
+}

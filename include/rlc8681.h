@@ -1,0 +1,110 @@
+/*
+ * Sliding window RLC for erasure correction (RFC 8681): sender and receiver, schemes 9 (GF(2)) and 10 (GF(2^8)).
+ * Link with libcapi.a. Document 01 is the specification; its words are used here: E is the number of bytes in a symbol, the width is the number of
+ * symbols in the window at that end, an ESI numbers source symbols and a key repair symbols.
+ *
+ * Answers. Each function answers a value, 0 or more, or minus the number of a refusal (enum rlc_refusal). Where several refusals apply, the answer is
+ * the first in the order in which the function's comment lists them. A refusal changes nothing but working memory.
+ *
+ * Memory. An end, a sender or a receiver, lives in one piece of memory that the caller owns: bytes with no alignment, which can be copied or moved
+ * between calls and are freed by the caller, with nothing to close. Ask for its size, open it once, then lend the same bytes to each call, as the last
+ * call left them and as long as when they were opened. Bytes past the size that was asked are never changed. The receiver's packet calls borrow
+ * working memory too, whose contents are free before and after a call: many receivers can share it.
+ *
+ * Calls. No function allocates, keeps a pointer or has state of its own: a call reads and writes what it is lent and nothing else. So calls that are
+ * lent different memory can run in different threads at once, as can the calls that take the same memory as const.
+ *
+ * What is asked of the caller. A pointer and the length after it are a slice: that many bytes, all of which the process can read and, where the
+ * pointer is not to const, write. The pointer is not NULL, even where the length is 0; then it is not followed. Where a slice is written, it overlaps no
+ * other slice of the call, and nobody else reads or writes it during the call; nobody writes the others. All else is checked: every value of every
+ * number is allowed, and so are any bytes in any slice, memory that was never opened or was changed by others among them: a call then still ends, stays
+ * within its slices and answers.
+ */
+#ifndef RLC8681_H
+#define RLC8681_H
+
+#include <stddef.h>
+#include <stdint.h>
+
+#ifdef __cplusplus
+extern "C" {
+#endif
+
+/* Why a call says no. */
+enum rlc_refusal {
+    RLC_VALUES = 1,         /* scheme, E or width outside its values */
+    RLC_SHORT = 2,          /* memory for opening, working memory or output too short */
+    RLC_UNOPENED = 3,       /* state memory all zero, of the other end, or shorter than opening asked */
+    RLC_LONG = 4,           /* ADU over 65,535 bytes or needing more symbols than the width */
+    RLC_FORM = 5,           /* source packet under 4 bytes; repair packet not 8 + 1..16 x E */
+    RLC_RANGE = 6,          /* DT over 15 or count not 1..16 (sender); NSS 0 or over width (receiver) */
+    RLC_EMPTY = 7,          /* sender's window empty */
+    RLC_BEHIND = 8,         /* behind the window */
+    RLC_AHEAD = 9,          /* too far ahead */
+    RLC_DRAWS = 10,         /* sixteen zero draws */
+    RLC_CONTRADICTION = 11, /* contradiction with the packets accepted before */
+    RLC_UNKNOWN = 12        /* not known, or past the window */
+};
+
+/*
+ * The bytes of memory that a sender, a receiver, and a receiver's packet calls need, in either scheme: 32 + width x E,
+ * 64 + width x (width + E + 4), and 64 + (width + 1) x (width + E + 4).
+ * Refusal: RLC_VALUES where symbol_size (E) is not 4 to 1500 or width not 1 to 255.
+ */
+int64_t rlc_sender_memory(uint32_t symbol_size, uint32_t width);
+int64_t rlc_receiver_memory(uint32_t symbol_size, uint32_t width);
+int64_t rlc_working_memory(uint32_t symbol_size, uint32_t width);
+
+/*
+ * Opens a sender in memory, whatever it held. Scheme is 9 or 10. Answers 0.
+ * Refusals: RLC_VALUES, RLC_SHORT (memory).
+ */
+int64_t rlc_sender_open(uint8_t *memory, size_t memory_length, uint32_t scheme, uint32_t symbol_size, uint32_t width);
+
+/*
+ * Takes an ADU of a flow: its symbols join the window, the oldest leaving past the width, and its source packet, the ADU and then 4 bytes of ESI, is
+ * written at the front of out. The flow travels beside the packet. Answers the number of bytes written, adu_length + 4.
+ * Refusals: RLC_UNOPENED, RLC_LONG, RLC_SHORT (out).
+ */
+int64_t rlc_sender_add_adu(uint8_t *memory, size_t memory_length, uint8_t flow, const uint8_t *adu, size_t adu_length,
+                           uint8_t *out, size_t out_length);
+
+/*
+ * Writes a repair packet over the whole window at the front of out: count repair symbols (1 to 16) whose keys count up from key, modulo 65,536, with the
+ * density threshold dt (0 to 15). Answers the number of bytes written, 8 + count x E.
+ * Refusals: RLC_UNOPENED, RLC_RANGE, RLC_EMPTY, RLC_SHORT (out), RLC_DRAWS.
+ */
+int64_t rlc_sender_make_repair(const uint8_t *memory, size_t memory_length, uint16_t key, uint32_t dt, uint32_t count,
+                               uint8_t *out, size_t out_length);
+
+/*
+ * Opens a receiver in memory, whatever it held. Scheme and E are the sender's; the width is the receiver's own. Answers 0.
+ * Refusals: RLC_VALUES, RLC_SHORT (memory).
+ */
+int64_t rlc_receiver_open(uint8_t *memory, size_t memory_length, uint32_t scheme, uint32_t symbol_size, uint32_t width);
+
+/*
+ * Receives a source packet that came with a flow. Answers how many positions of the window became known.
+ * Refusals: RLC_UNOPENED, RLC_SHORT (work), RLC_FORM, RLC_LONG, RLC_BEHIND, RLC_AHEAD, RLC_CONTRADICTION.
+ */
+int64_t rlc_receive_source(uint8_t *memory, size_t memory_length, uint8_t *work, size_t work_length, uint8_t flow,
+                           const uint8_t *packet, size_t packet_length);
+
+/*
+ * Receives a repair packet. Answers how many positions of the window became known.
+ * Refusals: RLC_UNOPENED, RLC_SHORT (work), RLC_FORM, RLC_RANGE, RLC_BEHIND, RLC_AHEAD, RLC_DRAWS, RLC_CONTRADICTION.
+ */
+int64_t rlc_receive_repair(uint8_t *memory, size_t memory_length, uint8_t *work, size_t work_length,
+                           const uint8_t *packet, size_t packet_length);
+
+/*
+ * Whether the symbol with an ESI is known to the receiver. Answers 0 where it is.
+ * Refusals: RLC_UNOPENED, RLC_BEHIND, RLC_UNKNOWN.
+ */
+int64_t rlc_symbol(const uint8_t *memory, size_t memory_length, uint32_t esi);
+
+#ifdef __cplusplus
+}
+#endif
+
+#endif

@@ -1,0 +1,41 @@
+//! The C interface of the proved library. Each call answers its value, 0 or more, or minus a refusal's number.
+
+extern "C" {
+    pub fn rlc_sender_memory(symbol_size: u32, width: u32) -> i64;
+    pub fn rlc_receiver_memory(symbol_size: u32, width: u32) -> i64;
+    pub fn rlc_working_memory(symbol_size: u32, width: u32) -> i64;
+
+    pub fn rlc_sender_open(memory: *mut u8, memory_len: usize, scheme: u32, symbol_size: u32, width: u32) -> i64;
+    pub fn rlc_sender_add_adu(
+        memory: *mut u8,
+        memory_len: usize,
+        flow: u8,
+        adu: *const u8,
+        adu_len: usize,
+        out: *mut u8,
+        out_len: usize,
+    ) -> i64;
+    pub fn rlc_sender_make_repair(memory: *const u8, memory_len: usize, key: u16, dt: u32, count: u32, out: *mut u8, out_len: usize)
+        -> i64;
+
+    pub fn rlc_receiver_open(memory: *mut u8, memory_len: usize, scheme: u32, symbol_size: u32, width: u32) -> i64;
+    pub fn rlc_receive_source(
+        memory: *mut u8,
+        memory_len: usize,
+        work: *mut u8,
+        work_len: usize,
+        flow: u8,
+        packet: *const u8,
+        packet_len: usize,
+    ) -> i64;
+    pub fn rlc_receive_repair(
+        memory: *mut u8,
+        memory_len: usize,
+        work: *mut u8,
+        work_len: usize,
+        packet: *const u8,
+        packet_len: usize,
+    ) -> i64;
+    pub fn rlc_symbol_place(memory: *const u8, memory_len: usize, esi: u32) -> i64;
+    pub fn rlc_adu(memory: *const u8, memory_len: usize, esi: u32, out: *mut u8, out_len: usize) -> i64;
+}

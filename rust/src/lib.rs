@@ -1,0 +1,73 @@
+//! Sender and receiver of RFC 8681 (sliding window random linear codes) over a library whose every function is proved to meet its
+//! contract. This crate only owns the memory that the proved calls work on, and gives their answers Rust types.
+//!
+//! A [`Sender`] takes application packets (ADUs), writes a source packet for each and, when asked, repair packets over its window of the
+//! last `width` symbols. A [`Receiver`] takes source and repair packets in any order, with losses and repeats, and shows every symbol of
+//! its window that the packets determine. All working is exact: what it shows is what the packets imply, and a packet that contradicts
+//! them is refused.
+//!
+//! ```
+//! use rlc8681::{Receiver, Scheme, Sender};
+//!
+//! # fn main() -> Result<(), rlc8681::Refusal> {
+//! let mut sender = Sender::open(Scheme::Gf256, 64, 8)?;
+//! let mut receiver = Receiver::open(Scheme::Gf256, 64, 8)?;
+//! let mut packet = [0; 200];
+//!
+//! let n = sender.add_adu(1, b"first", &mut packet)?;
+//! receiver.receive_source(1, &packet[..n])?;
+//! sender.add_adu(1, b"second", &mut packet)?; // its packet is lost
+//! let n = sender.make_repair(0, 15, 1, &mut packet)?;
+//! assert_eq!(receiver.receive_repair(&packet[..n])?, 1); // one symbol more is known
+//!
+//! let mut out = [0; 100];
+//! let adu = receiver.adu(1, &mut out)?;
+//! assert_eq!((adu.flow, adu.bytes), (1, &b"second"[..]));
+//! # Ok(())
+//! # }
+//! ```
+#![deny(missing_docs)]
+
+mod ffi;
+mod receiver;
+mod refusal;
+mod sender;
+
+pub use receiver::{Adu, Receiver};
+pub use refusal::Refusal;
+pub use sender::Sender;
+
+/// The field that a scheme of RFC 8681 computes in.
+#[derive(Clone, Copy, Debug, PartialEq, Eq, Hash)]
+pub enum Scheme {
+    /// FEC Encoding ID 9: coefficients 0 and 1, sums by XOR.
+    Gf2 = 9,
+    /// FEC Encoding ID 10: coefficients of 8 bits.
+    Gf256 = 10,
+}
+
+impl Scheme {
+    /// The FEC Encoding ID, 9 or 10.
+    ///
+    /// ```
+    /// assert_eq!(rlc8681::Scheme::Gf256.number(), 10);
+    /// ```
+    #[must_use]
+    pub const fn number(self) -> u8 {
+        self as u8
+    }
+}
+
+/// A call's answer: its value, or a refusal.
+fn answer(raw: i64) -> Result<usize, Refusal> {
+    match usize::try_from(raw) {
+        Ok(value) => Ok(value),
+        // A negative answer is minus a refusal's number by the library's promise; any other would mean memory that is not its own.
+        Err(_) => Err(u8::try_from(raw.unsigned_abs()).ok().and_then(Refusal::from_number).unwrap_or(Refusal::Unopened)),
+    }
+}
+
+/// Zeroed memory of the size that a call answered.
+fn memory_of(raw: i64) -> Result<Box<[u8]>, Refusal> {
+    answer(raw).map(|size| vec![0; size].into_boxed_slice())
+}

@@ -1,0 +1,175 @@
+use crate::{answer, ffi, memory_of, Refusal, Scheme};
+use std::fmt;
+
+/// The receiving end. It owns 64 + width × (width + symbol size + 4) bytes of memory, and working memory of one row more;
+/// a clone goes on by itself from the same history.
+///
+/// ```
+/// use rlc8681::{Receiver, Refusal, Scheme};
+///
+/// # fn main() -> Result<(), Refusal> {
+/// let mut receiver = Receiver::open(Scheme::Gf2, 4, 2)?;
+/// assert_eq!(receiver.receive_source(1, &[0x41, 0, 0, 0, 0])?, 1);
+/// assert_eq!(receiver.symbol(1), Err(Refusal::Unknown));
+/// assert_eq!(receiver.receive_repair(&[0, 0, 0xf0, 2, 0, 0, 0, 0, 0, 0, 0, 3])?, 1);
+/// assert_eq!(receiver.symbol(1), Ok(&[1, 0, 1, 0x42][..]));
+/// # Ok(())
+/// # }
+/// ```
+#[derive(Clone)]
+pub struct Receiver {
+    memory: Box<[u8]>,
+    work: Box<[u8]>,
+    scheme: Scheme,
+    symbol_size: u32,
+    width: u32,
+}
+
+/// An ADU as [`Receiver::adu`] hands it out.
+#[derive(Clone, Copy, Debug, PartialEq, Eq, Hash)]
+pub struct Adu<'a> {
+    /// The flow that it belongs to.
+    pub flow: u8,
+    /// Its bytes: the front of the output that was lent.
+    pub bytes: &'a [u8],
+}
+
+impl Receiver {
+    /// A receiver whose window begins at ESI 0. Symbols have 4 to 1,500 bytes, the window 1 to 255 symbols; the scheme and the symbol size
+    /// are the sender's.
+    ///
+    /// # Errors
+    ///
+    /// [`Refusal::Values`] for a symbol size or width outside its values.
+    ///
+    /// ```
+    /// use rlc8681::{Receiver, Refusal, Scheme};
+    /// assert_eq!(Receiver::open(Scheme::Gf256, 1400, 256).err(), Some(Refusal::Values));
+    /// ```
+    pub fn open(scheme: Scheme, symbol_size: u32, width: u32) -> Result<Receiver, Refusal> {
+        // SAFETY: both calls take numbers only.
+        let (state, work) = unsafe { (ffi::rlc_receiver_memory(symbol_size, width), ffi::rlc_working_memory(symbol_size, width)) };
+        let mut memory = memory_of(state)?;
+        let work = memory_of(work)?;
+        // SAFETY: pointer and length are those of a slice that is borrowed for the call alone.
+        answer(unsafe { ffi::rlc_receiver_open(memory.as_mut_ptr(), memory.len(), u32::from(scheme.number()), symbol_size, width) })?;
+        Ok(Receiver { memory, work, scheme, symbol_size, width })
+    }
+
+    /// Takes a source packet and the flow that came beside it. Gives how many symbols of the window became known.
+    ///
+    /// # Errors
+    ///
+    /// In this order: [`Refusal::Form`], [`Refusal::Long`], [`Refusal::Behind`], [`Refusal::Ahead`], [`Refusal::Contradiction`].
+    pub fn receive_source(&mut self, flow: u8, packet: &[u8]) -> Result<usize, Refusal> {
+        // SAFETY: pointers and lengths are those of slices that are borrowed for the call alone; the two mutable ones are apart.
+        answer(unsafe {
+            ffi::rlc_receive_source(
+                self.memory.as_mut_ptr(),
+                self.memory.len(),
+                self.work.as_mut_ptr(),
+                self.work.len(),
+                flow,
+                packet.as_ptr(),
+                packet.len(),
+            )
+        })
+    }
+
+    /// Takes a repair packet. Gives how many symbols of the window became known.
+    ///
+    /// # Errors
+    ///
+    /// In this order: [`Refusal::Form`], [`Refusal::Range`], [`Refusal::Behind`], [`Refusal::Ahead`], [`Refusal::Draws`],
+    /// [`Refusal::Contradiction`].
+    ///
+    /// ```
+    /// use rlc8681::{Receiver, Refusal, Scheme};
+    /// # fn main() -> Result<(), Refusal> {
+    /// let mut receiver = Receiver::open(Scheme::Gf2, 4, 2)?;
+    /// // Both repair symbols are the sum of the same two symbols, and they differ.
+    /// let unlike = [0, 0, 0xf0, 2, 0, 0, 0, 0, 0, 0, 0, 3, 0, 0, 0, 4];
+    /// assert_eq!(receiver.receive_repair(&unlike), Err(Refusal::Contradiction));
+    /// # Ok(())
+    /// # }
+    /// ```
+    pub fn receive_repair(&mut self, packet: &[u8]) -> Result<usize, Refusal> {
+        // SAFETY: pointers and lengths are those of slices that are borrowed for the call alone; the two mutable ones are apart.
+        answer(unsafe {
+            ffi::rlc_receive_repair(
+                self.memory.as_mut_ptr(),
+                self.memory.len(),
+                self.work.as_mut_ptr(),
+                self.work.len(),
+                packet.as_ptr(),
+                packet.len(),
+            )
+        })
+    }
+
+    /// The bytes of a known symbol of the window, where they lie in the receiver.
+    ///
+    /// # Errors
+    ///
+    /// [`Refusal::Behind`], then [`Refusal::Unknown`].
+    pub fn symbol(&self, esi: u32) -> Result<&[u8], Refusal> {
+        // SAFETY: pointer and length are those of a slice that is borrowed for the call alone.
+        let place = answer(unsafe { ffi::rlc_symbol_place(self.memory.as_ptr(), self.memory.len(), esi) })?;
+        // The library promises that the symbol lies in the memory.
+        self.memory.get(place..).and_then(|rest| rest.get(..self.symbol_size as usize)).ok_or(Refusal::Unknown)
+    }
+
+    /// Writes the ADU that starts at this ESI to the front of `out`, whose other bytes stay, and gives it with its flow.
+    ///
+    /// # Errors
+    ///
+    /// In this order: [`Refusal::Behind`]; [`Refusal::Unknown`] past the window; [`Refusal::NoStart`]; [`Refusal::Unknown`] for its first
+    /// symbol; [`Refusal::Padding`] for one that needs more symbols than the width; [`Refusal::Unknown`] for another symbol;
+    /// [`Refusal::Padding`]; [`Refusal::Short`] for an output shorter than the ADU.
+    ///
+    /// ```
+    /// use rlc8681::{Adu, Receiver, Refusal, Scheme};
+    /// # fn main() -> Result<(), Refusal> {
+    /// let mut receiver = Receiver::open(Scheme::Gf2, 4, 2)?;
+    /// let mut out = [0; 4];
+    /// assert_eq!(receiver.adu(0, &mut out), Err(Refusal::Unknown));
+    /// assert_eq!(receiver.adu(1, &mut out), Err(Refusal::NoStart));
+    /// receiver.receive_source(7, b"ABCD\0\0\0\0")?;
+    /// assert_eq!(receiver.adu(0, &mut out), Ok(Adu { flow: 7, bytes: b"ABCD" }));
+    /// # Ok(())
+    /// # }
+    /// ```
+    pub fn adu<'a>(&self, esi: u32, out: &'a mut [u8]) -> Result<Adu<'a>, Refusal> {
+        // SAFETY: pointers and lengths are those of slices that are borrowed for the call alone; only `out` is written.
+        let told = answer(unsafe { ffi::rlc_adu(self.memory.as_ptr(), self.memory.len(), esi, out.as_mut_ptr(), out.len()) })?;
+        let [_, flow, high, low] = u32::try_from(told).map_err(|_| Refusal::Unopened)?.to_be_bytes();
+        // The library promises that the output holds the ADU.
+        let bytes = out.get(..usize::from(u16::from_be_bytes([high, low]))).ok_or(Refusal::Short)?;
+        Ok(Adu { flow, bytes })
+    }
+
+    /// The scheme that this receiver was opened with.
+    #[must_use]
+    pub fn scheme(&self) -> Scheme {
+        self.scheme
+    }
+
+    /// The bytes in a symbol.
+    #[must_use]
+    pub fn symbol_size(&self) -> u32 {
+        self.symbol_size
+    }
+
+    /// The symbols in the window.
+    #[must_use]
+    pub fn width(&self) -> u32 {
+        self.width
+    }
+}
+
+impl fmt::Debug for Receiver {
+    fn fmt(&self, f: &mut fmt::Formatter<'_>) -> fmt::Result {
+        let Receiver { scheme, symbol_size, width, .. } = self;
+        f.debug_struct("Receiver").field("scheme", scheme).field("symbol_size", symbol_size).field("width", width).finish_non_exhaustive()
+    }
+}

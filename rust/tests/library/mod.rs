@@ -1,0 +1,160 @@
+//! The library's C interface as the tests use it, on lent memory with guards around it.
+#![allow(dead_code)]
+
+pub mod pair;
+
+// The crate's own link to the library serves these declarations too.
+use rlc8681 as _;
+
+mod raw {
+    extern "C" {
+        pub fn rlc_sender_memory(symbol_size: u32, width: u32) -> i64;
+        pub fn rlc_receiver_memory(symbol_size: u32, width: u32) -> i64;
+        pub fn rlc_working_memory(symbol_size: u32, width: u32) -> i64;
+        pub fn rlc_sender_open(memory: *mut u8, len: usize, scheme: u32, symbol_size: u32, width: u32) -> i64;
+        pub fn rlc_sender_add_adu(
+            memory: *mut u8,
+            len: usize,
+            flow: u8,
+            adu: *const u8,
+            adu_len: usize,
+            out: *mut u8,
+            out_len: usize,
+        ) -> i64;
+        pub fn rlc_sender_make_repair(memory: *const u8, len: usize, key: u16, dt: u32, count: u32, out: *mut u8, out_len: usize) -> i64;
+        pub fn rlc_receiver_open(memory: *mut u8, len: usize, scheme: u32, symbol_size: u32, width: u32) -> i64;
+        pub fn rlc_receive_source(
+            memory: *mut u8,
+            len: usize,
+            work: *mut u8,
+            work_len: usize,
+            flow: u8,
+            packet: *const u8,
+            packet_len: usize,
+        ) -> i64;
+        pub fn rlc_receive_repair(memory: *mut u8, len: usize, work: *mut u8, work_len: usize, packet: *const u8, packet_len: usize)
+            -> i64;
+        pub fn rlc_symbol(memory: *const u8, len: usize, esi: u32) -> i64;
+        pub fn rlc_symbol_place(memory: *const u8, len: usize, esi: u32) -> i64;
+        pub fn rlc_adu(memory: *const u8, len: usize, esi: u32, out: *mut u8, out_len: usize) -> i64;
+    }
+}
+
+// Each function below lends slices that nobody else holds during the call, which is all that the interface asks.
+
+pub fn sender_memory(symbol_size: u32, width: u32) -> i64 {
+    unsafe { raw::rlc_sender_memory(symbol_size, width) }
+}
+
+pub fn receiver_memory(symbol_size: u32, width: u32) -> i64 {
+    unsafe { raw::rlc_receiver_memory(symbol_size, width) }
+}
+
+pub fn working_memory(symbol_size: u32, width: u32) -> i64 {
+    unsafe { raw::rlc_working_memory(symbol_size, width) }
+}
+
+pub fn sender_open(memory: &mut [u8], scheme: u32, symbol_size: u32, width: u32) -> i64 {
+    unsafe { raw::rlc_sender_open(memory.as_mut_ptr(), memory.len(), scheme, symbol_size, width) }
+}
+
+pub fn add_adu(memory: &mut [u8], flow: u8, adu: &[u8], out: &mut [u8]) -> i64 {
+    unsafe { raw::rlc_sender_add_adu(memory.as_mut_ptr(), memory.len(), flow, adu.as_ptr(), adu.len(), out.as_mut_ptr(), out.len()) }
+}
+
+pub fn make_repair(memory: &[u8], key: u16, dt: u32, count: u32, out: &mut [u8]) -> i64 {
+    unsafe { raw::rlc_sender_make_repair(memory.as_ptr(), memory.len(), key, dt, count, out.as_mut_ptr(), out.len()) }
+}
+
+pub fn receiver_open(memory: &mut [u8], scheme: u32, symbol_size: u32, width: u32) -> i64 {
+    unsafe { raw::rlc_receiver_open(memory.as_mut_ptr(), memory.len(), scheme, symbol_size, width) }
+}
+
+pub fn receive_source(memory: &mut [u8], work: &mut [u8], flow: u8, packet: &[u8]) -> i64 {
+    unsafe {
+        raw::rlc_receive_source(memory.as_mut_ptr(), memory.len(), work.as_mut_ptr(), work.len(), flow, packet.as_ptr(), packet.len())
+    }
+}
+
+pub fn receive_repair(memory: &mut [u8], work: &mut [u8], packet: &[u8]) -> i64 {
+    unsafe { raw::rlc_receive_repair(memory.as_mut_ptr(), memory.len(), work.as_mut_ptr(), work.len(), packet.as_ptr(), packet.len()) }
+}
+
+pub fn symbol(memory: &[u8], esi: u32) -> i64 {
+    unsafe { raw::rlc_symbol(memory.as_ptr(), memory.len(), esi) }
+}
+
+pub fn symbol_place(memory: &[u8], esi: u32) -> i64 {
+    unsafe { raw::rlc_symbol_place(memory.as_ptr(), memory.len(), esi) }
+}
+
+pub fn adu(memory: &[u8], esi: u32, out: &mut [u8]) -> i64 {
+    unsafe { raw::rlc_adu(memory.as_ptr(), memory.len(), esi, out.as_mut_ptr(), out.len()) }
+}
+
+/// Bytes to lend, with guard bytes before and after them.
+#[derive(Clone)]
+pub struct Lent {
+    bytes: Vec<u8>,
+    len: usize,
+}
+
+const GUARD: usize = 48;
+
+/// The guard byte at a place: no two neighbours alike, so that a shifted write shows.
+fn guard(at: usize) -> u8 {
+    (at * 89 + 55) as u8
+}
+
+impl Lent {
+    /// `content` between guards.
+    pub fn new(content: &[u8]) -> Lent {
+        let mut bytes: Vec<u8> = (0..content.len() + 2 * GUARD).map(guard).collect();
+        bytes[GUARD..GUARD + content.len()].copy_from_slice(content);
+        Lent { bytes, len: content.len() }
+    }
+
+    pub fn get(&self) -> &[u8] {
+        &self.bytes[GUARD..GUARD + self.len]
+    }
+
+    pub fn lend(&mut self) -> &mut [u8] {
+        &mut self.bytes[GUARD..GUARD + self.len]
+    }
+
+    /// Panics where a guard byte changed.
+    pub fn check(&self) {
+        let (front, rest) = self.bytes.split_at(GUARD);
+        assert!(front.iter().enumerate().all(|(at, &b)| b == guard(at)), "bytes before the lent memory changed");
+        let back = rest[self.len..].iter().enumerate();
+        assert!(back.clone().count() == GUARD);
+        for (i, &b) in back {
+            assert_eq!(b, guard(GUARD + self.len + i), "bytes after the lent memory changed");
+        }
+    }
+}
+
+/// How many random runs a test makes: `usual`, times RLC8681_RUNS where it is set. With RLC8681_SEED only that seed is run.
+pub fn runs(usual: u64, mut run: impl FnMut(u64)) {
+    let number = |name: &str| std::env::var(name).ok().map(|text| text.parse::<u64>().expect("a number"));
+    let seeds = match number("RLC8681_SEED") {
+        Some(seed) => seed..seed + 1,
+        None => 0..usual * number("RLC8681_RUNS").unwrap_or(1),
+    };
+    for seed in seeds {
+        let told = Told(seed);
+        run(seed);
+        drop(told);
+    }
+}
+
+/// Prints its seed when a run panics.
+struct Told(u64);
+
+impl Drop for Told {
+    fn drop(&mut self) {
+        if std::thread::panicking() {
+            eprintln!("failing seed: {} (RLC8681_SEED={} runs it alone)", self.0, self.0);
+        }
+    }
+}

@@ -1,0 +1,315 @@
+//! The library and the second implementation side by side. Every call goes to the C interface on lent memory, to the Rust types and to the
+//! second implementation, and all answers, bytes and memories must agree.
+
+use super::Lent;
+use crate::reference::random::Random;
+use crate::reference::{self, as_c, Setting};
+use rlc8681::{Refusal, Scheme};
+
+fn scheme(setting: Setting) -> Scheme {
+    if setting.scheme == 9 {
+        Scheme::Gf2
+    } else {
+        Scheme::Gf256
+    }
+}
+
+/// An answer of the Rust types as the C interface gives it.
+fn from_safe(answer: Result<usize, Refusal>) -> i64 {
+    match answer {
+        Ok(value) => value as i64,
+        Err(refusal) => -i64::from(refusal.number()),
+    }
+}
+
+/// Junk that is lent beyond the size that a call needs.
+fn longer(random: &mut Random, size: usize) -> Vec<u8> {
+    let extra = if random.chance(50) { 0 } else { random.between(1, 40) };
+    random.bytes(size + extra)
+}
+
+#[derive(Clone)]
+pub struct Senders {
+    pub reference: reference::Sender,
+    memory: Lent,
+    safe: rlc8681::Sender,
+}
+
+impl Senders {
+    pub fn open(setting: Setting, random: &mut Random) -> Senders {
+        let Setting { scheme: number, symbol_size, width } = setting;
+        let size = setting.sender_memory();
+        assert_eq!(super::sender_memory(symbol_size as u32, width as u32), size as i64);
+        let content = longer(random, size);
+        let mut memory = Lent::new(&content);
+        assert_eq!(super::sender_open(memory.lend(), number, symbol_size as u32, width as u32), 0);
+        memory.check();
+        assert_eq!(memory.get()[size..], content[size..], "past the sender's size");
+        let safe = rlc8681::Sender::open(scheme(setting), symbol_size as u32, width as u32).unwrap();
+        Senders { reference: reference::Sender::open(setting), memory, safe }
+    }
+
+    /// Output of some length near the one needed, with random content.
+    fn output(random: &mut Random, needed: usize) -> Lent {
+        let len = match random.below(10) {
+            0 => random.between(0, needed),
+            1 => needed.saturating_sub(1),
+            2..=5 => needed,
+            _ => needed + random.between(1, 30),
+        };
+        Lent::new(&random.bytes(len))
+    }
+
+    /// What one call left, given what was there before it: the packet at the front of the output and all else as it was, or no change.
+    fn compare(&self, expected: &Result<Vec<u8>, u32>, answer: i64, out: &Lent, out_before: &[u8], memory_before: &[u8]) {
+        let number = as_c(expected.as_ref().map(|p| p.len() as u64).map_err(|&r| r));
+        assert_eq!(answer, number, "a sender's answer");
+        let mut wanted = out_before.to_vec();
+        if let Ok(packet) = expected {
+            wanted[..packet.len()].copy_from_slice(packet);
+        } else {
+            assert!(self.memory.get() == memory_before, "a refusal changed the sender's memory");
+        }
+        assert!(out.get() == wanted, "a sender's output");
+        out.check();
+        self.memory.check();
+        let size = self.reference.setting.sender_memory();
+        assert!(self.memory.get()[size..] == memory_before[size..], "past the sender's size");
+    }
+
+    pub fn add_adu(&mut self, random: &mut Random, flow: u8, adu: &[u8]) -> Result<Vec<u8>, u32> {
+        let mut out = Senders::output(random, adu.len() + 4);
+        let (before, memory_before) = (out.get().to_vec(), self.memory.get().to_vec());
+        let expected = self.reference.add_adu(flow, adu, before.len());
+        let answer = super::add_adu(self.memory.lend(), flow, adu, out.lend());
+        self.compare(&expected, answer, &out, &before, &memory_before);
+        let mut again = before;
+        assert_eq!(from_safe(self.safe.add_adu(flow, adu, &mut again)), answer);
+        assert!(again == out.get(), "the Rust type's output");
+        expected
+    }
+
+    pub fn make_repair(&self, random: &mut Random, key: u16, dt: u32, count: u32) -> Result<Vec<u8>, u32> {
+        let mut out = Senders::output(random, 8 + count.min(20) as usize * self.reference.setting.symbol_size);
+        let before = out.get().to_vec();
+        let memory_before = self.memory.get().to_vec();
+        let expected = self.reference.make_repair(key, dt, count, before.len());
+        let answer = super::make_repair(self.memory.get(), key, dt, count, out.lend());
+        self.compare(&expected, answer, &out, &before, &memory_before);
+        assert!(self.memory.get() == memory_before, "making repair changed the sender's memory");
+        let mut again = before;
+        assert_eq!(from_safe(self.safe.make_repair(key, dt, count, &mut again)), answer);
+        assert!(again == out.get(), "the Rust type's output");
+        expected
+    }
+}
+
+/// What a receiver did in a run, so that a test can see that it met what it is meant to meet.
+#[derive(Clone, Default, Debug)]
+pub struct Tally {
+    /// Packets by answer: accepted with nothing new, with one and with more symbols new; refused, by number.
+    pub accepted: [u64; 3],
+    pub refused: [u64; 15],
+    /// Symbol calls that showed one; ADU calls by refusal, place 0 for those handed out.
+    pub shown: u64,
+    pub adus: [u64; 15],
+}
+
+impl Tally {
+    pub fn packets(&self) -> u64 {
+        self.accepted.iter().sum::<u64>() + self.refused.iter().sum::<u64>()
+    }
+
+    /// Prints what happened, for `--nocapture`.
+    pub fn told(&self, name: &str) {
+        let Tally { accepted, refused, shown, adus } = self;
+        println!("{name}: {} packets, accepted {accepted:?}, refused {refused:?}, shown {shown}, ADU calls {adus:?}", self.packets());
+    }
+
+    /// Panics where one of these refusals of packets, or of these answers of the ADU call, was never met (in whole runs).
+    pub fn met(&self, refused: &[usize], adus: &[usize]) {
+        if std::env::var_os("RLC8681_SEED").is_none() {
+            assert!(refused.iter().all(|&number| self.refused[number] > 0), "packets refused {:?}", self.refused);
+            assert!(adus.iter().all(|&number| self.adus[number] > 0), "ADU calls {:?}", self.adus);
+        }
+    }
+
+    pub fn add(&mut self, other: &Tally) {
+        self.accepted.iter_mut().zip(other.accepted).for_each(|(a, b)| *a += b);
+        self.refused.iter_mut().zip(other.refused).for_each(|(a, b)| *a += b);
+        self.adus.iter_mut().zip(other.adus).for_each(|(a, b)| *a += b);
+        self.shown += other.shown;
+    }
+}
+
+#[derive(Clone)]
+pub struct Receivers {
+    pub reference: reference::Receiver,
+    pub memory: Lent,
+    before: Vec<u8>,
+    work: Lent,
+    safe: rlc8681::Receiver,
+    pub tally: Tally,
+}
+
+impl Receivers {
+    pub fn open(setting: Setting, random: &mut Random) -> Receivers {
+        let Setting { scheme: number, symbol_size, width } = setting;
+        let size = setting.receiver_memory();
+        assert_eq!(super::receiver_memory(symbol_size as u32, width as u32), size as i64);
+        assert_eq!(super::working_memory(symbol_size as u32, width as u32), setting.working_memory() as i64);
+        let content = longer(random, size);
+        let mut memory = Lent::new(&content);
+        assert_eq!(super::receiver_open(memory.lend(), number, symbol_size as u32, width as u32), 0);
+        memory.check();
+        assert_eq!(memory.get()[size..], content[size..], "past the receiver's size");
+        let safe = rlc8681::Receiver::open(scheme(setting), symbol_size as u32, width as u32).unwrap();
+        let before = memory.get().to_vec();
+        let work = Lent::new(&longer(random, setting.working_memory()));
+        Receivers { reference: reference::Receiver::open(setting), memory, before, work, safe, tally: Tally::default() }
+    }
+
+    pub fn setting(&self) -> Setting {
+        self.reference.setting
+    }
+
+    pub fn base(&self) -> u64 {
+        self.reference.base
+    }
+
+    /// Gives a packet to all three; a source packet where a flow stands beside it.
+    pub fn receive(&mut self, random: &mut Random, flow: Option<u8>, packet: &[u8]) -> Result<u64, u32> {
+        let (size, work_size) = (self.setting().receiver_memory(), self.setting().working_memory());
+        if random.chance(3) {
+            self.work = Lent::new(&longer(random, work_size));
+        }
+        if random.chance(2) {
+            self.lend_too_little(random, flow, packet);
+        }
+        let lent = self.memory.get().len();
+        let work_past = self.work.get()[work_size..].to_vec();
+        let (expected, answer, safe) = match flow {
+            Some(flow) => (
+                self.reference.receive_source(lent, self.work.get().len(), flow, packet),
+                super::receive_source(self.memory.lend(), self.work.lend(), flow, packet),
+                self.safe.receive_source(flow, packet),
+            ),
+            None => (
+                self.reference.receive_repair(lent, self.work.get().len(), packet),
+                super::receive_repair(self.memory.lend(), self.work.lend(), packet),
+                self.safe.receive_repair(packet),
+            ),
+        };
+        assert_eq!(answer, as_c(expected), "a receiver's answer; flow {flow:?}, packet {packet:02x?}, base {}", self.base());
+        assert_eq!(from_safe(safe), answer, "the Rust type's answer");
+        self.memory.check();
+        self.work.check();
+        assert!(self.work.get()[work_size..] == work_past, "past the working memory's size");
+        match expected {
+            Ok(count) => {
+                assert!(self.memory.get()[size..] == self.before[size..], "past the receiver's size");
+                self.before.copy_from_slice(self.memory.get());
+                self.tally.accepted[count.min(2) as usize] += 1;
+            }
+            Err(number) => {
+                assert!(self.memory.get() == self.before, "a refusal changed the receiver's memory");
+                self.tally.refused[number as usize] += 1;
+            }
+        }
+        expected
+    }
+
+    /// The same packet with too short memories: refusals 3 and 2, before anything about the packet.
+    fn lend_too_little(&mut self, random: &mut Random, flow: Option<u8>, packet: &[u8]) {
+        let short = random.between(0, self.setting().receiver_memory() - 1);
+        let short_work = random.between(0, self.setting().working_memory() - 1);
+        let work_before = self.work.get().to_vec();
+        let call = |memory: &mut [u8], work: &mut [u8]| match flow {
+            Some(flow) => super::receive_source(memory, work, flow, packet),
+            None => super::receive_repair(memory, work, packet),
+        };
+        assert_eq!(call(&mut self.memory.lend()[..short], self.work.lend()), -3);
+        assert_eq!(call(&mut self.memory.lend()[..short], &mut self.work.lend()[..short_work]), -3);
+        assert!(self.work.get() == work_before, "working memory after refusal 3");
+        assert_eq!(call(self.memory.lend(), &mut self.work.lend()[..short_work]), -2);
+        assert!(self.work.get()[short_work..] == work_before[short_work..], "past the working memory lent");
+        assert!(self.memory.get() == self.before, "a refusal changed the receiver's memory");
+        assert_eq!(super::symbol(&self.memory.get()[..short], 0), -3);
+        assert_eq!(super::symbol_place(&self.memory.get()[..short], 0), -3);
+        assert_eq!(super::adu(&self.memory.get()[..short], 0, &mut []), -3);
+    }
+
+    /// Asks all three for the symbol and the ADU at an ESI.
+    pub fn look(&mut self, random: &mut Random, esi: u32) {
+        let memory = self.memory.get();
+        let symbol = self.reference.symbol(memory.len(), esi);
+        let place = super::symbol_place(memory, esi);
+        match symbol {
+            Ok(bytes) => {
+                assert_eq!(super::symbol(memory, esi), 0, "symbol {esi}");
+                let size = self.reference.setting.symbol_size;
+                let place = usize::try_from(place).unwrap_or_else(|_| panic!("symbol {esi} is known, its place says {place}"));
+                assert!(place + size <= self.reference.setting.receiver_memory(), "the place lies in the memory");
+                assert_eq!(&memory[place..place + size], bytes, "bytes of symbol {esi}");
+                assert_eq!(self.safe.symbol(esi), Ok(bytes), "the Rust type's symbol {esi}");
+                self.tally.shown += 1;
+            }
+            Err(number) => {
+                assert_eq!(super::symbol(memory, esi), -i64::from(number), "symbol {esi}");
+                assert_eq!(place, -i64::from(number), "place of symbol {esi}");
+                assert_eq!(self.safe.symbol(esi).map_err(|r| u32::from(r.number())), Err(number));
+            }
+        }
+        let room = match self.reference.adu(memory.len(), esi, usize::MAX) {
+            Ok(adu) if random.chance(80) => adu.bytes.len() + random.one_of(&[0, 0, 5]),
+            Ok(adu) if adu.bytes.is_empty() => 0,
+            Ok(adu) => random.one_of(&[0, adu.bytes.len() - 1]),
+            Err(_) => random.between(0, 12),
+        };
+        let mut out = Lent::new(&random.bytes(room));
+        let mut wanted = out.get().to_vec();
+        let mut safe_out = wanted.clone();
+        let expected = self.reference.adu(memory.len(), esi, room);
+        let answer = super::adu(memory, esi, out.lend());
+        let safe = self.safe.adu(esi, &mut safe_out);
+        match &expected {
+            Ok(adu) => {
+                assert_eq!(answer, i64::from(adu.flow) * 65_536 + adu.bytes.len() as i64, "ADU {esi}");
+                let told = safe.unwrap_or_else(|refusal| panic!("the Rust type's ADU {esi} says {refusal}"));
+                assert_eq!((told.flow, told.bytes), (adu.flow, adu.bytes.as_slice()), "the Rust type's ADU {esi}");
+                wanted[..adu.bytes.len()].copy_from_slice(&adu.bytes);
+                self.tally.adus[0] += 1;
+            }
+            Err(number) => {
+                assert_eq!(answer, -i64::from(*number), "ADU {esi}, base {}", self.reference.base);
+                assert_eq!(safe.map_err(|r| u32::from(r.number())).err(), Some(*number));
+                self.tally.adus[*number as usize] += 1;
+            }
+        }
+        assert!(out.get() == wanted, "output of ADU {esi}");
+        assert!(safe_out == wanted, "the Rust type's output of ADU {esi}");
+        out.check();
+        assert!(self.memory.get() == self.before, "a showing call changed the receiver's memory");
+    }
+
+    /// Looks at the whole window, at its edges and at ESIs far away.
+    pub fn look_around(&mut self, random: &mut Random) {
+        let (base, width) = (self.base(), self.setting().width as u64);
+        for position in base..base + width {
+            self.look(random, position as u32);
+        }
+        self.look_past_the_edges(random);
+    }
+
+    pub fn look_past_the_edges(&mut self, random: &mut Random) {
+        let (base, width) = (self.base(), self.setting().width as u64);
+        let half = 1u64 << 31;
+        for ahead in [width, width + 1, 65_535, 65_536, half - 1, half, half + 1] {
+            self.look(random, (base + ahead) as u32);
+        }
+        let esi = base.wrapping_sub(1) as u32;
+        self.look(random, esi);
+        let esi = random.next() as u32;
+        self.look(random, esi);
+    }
+}

@@ -1,0 +1,226 @@
+//! Memory that the calls did not leave so: all zero, of the other end, too short, junk, and states with bytes changed. A call ends, stays
+//! within what it is lent, and a refusal changes nothing.
+
+mod library;
+mod reference;
+
+use library::pair::{Receivers, Senders};
+use library::{runs, Lent};
+use reference::random::Random;
+use reference::{repair_packet, source_packet, Setting};
+
+/// Any packet, mostly of a form that fits the setting.
+fn packet(random: &mut Random, setting: Setting, source: bool) -> Vec<u8> {
+    let near = random.below(2 * setting.width as u64 + 4);
+    let position = if random.chance(80) { near } else { random.next() };
+    if random.chance(10) {
+        let length = random.between(0, 60);
+        random.bytes(length)
+    } else if source {
+        let length = random.between(0, setting.width * setting.symbol_size - 3);
+        source_packet(&random.bytes(length), position)
+    } else {
+        let symbols = (0..random.between(1, 4)).map(|_| random.bytes(setting.symbol_size)).collect::<Vec<_>>();
+        let nss = random.between(1, setting.width) as u16;
+        repair_packet(random.next() as u16, random.below(16) as u8, nss, position, &symbols)
+    }
+}
+
+/// Makes every call on this memory. With `refusal`, each must give it; else any answer in range will do.
+fn call_all(random: &mut Random, setting: Setting, content: &[u8], refusal: Option<i64>) {
+    for call in 0..7 {
+        let mut memory = Lent::new(content);
+        let work_len = setting.working_memory() + random.between(0, 9);
+        let mut work = Lent::new(&random.bytes(work_len));
+        let out_len = random.between(0, 16 * setting.symbol_size + 40);
+        let out_before = random.bytes(out_len);
+        let mut out = Lent::new(&out_before);
+        let work_before = work.get().to_vec();
+        let flow = random.byte();
+        let esi = if random.chance(90) { random.below(2 * setting.width as u64 + 2) as u32 } else { random.next() as u32 };
+        let (key, dt, count) = (random.next() as u16, random.below(17) as u32, random.between(0, 17) as u32);
+        let bytes = packet(random, setting, call != 1);
+        let answer = match call {
+            0 => library::receive_source(memory.lend(), work.lend(), flow, &bytes),
+            1 => library::receive_repair(memory.lend(), work.lend(), &bytes),
+            2 => library::symbol(memory.get(), esi),
+            3 => library::symbol_place(memory.get(), esi),
+            4 => library::adu(memory.get(), esi, out.lend()),
+            5 => library::add_adu(memory.lend(), flow, &bytes, out.lend()),
+            _ => library::make_repair(memory.get(), key, dt, count, out.lend()),
+        };
+        // Receiver memory is the other end's for a sender's calls, and the other way round
+        if let Some(refusal) = refusal {
+            assert_eq!(answer, refusal, "call {call}");
+            assert!(work.get() == work_before, "working memory after refusal 3, call {call}");
+        }
+        assert!((-14..=255 * 65_536 + 65_535).contains(&answer), "call {call} answered {answer}");
+        memory.check();
+        work.check();
+        out.check();
+        if answer < 0 || (2..=4).contains(&call) || call == 6 {
+            assert!(memory.get() == content, "call {call} changed the memory");
+        }
+        if answer < 0 {
+            assert!(out.get() == out_before, "call {call} refused and wrote output");
+            continue;
+        }
+        let written = match call {
+            3 => {
+                assert!(answer as usize <= content.len(), "a place outside the memory");
+                0
+            }
+            4 => answer as usize % 65_536,
+            5 | 6 => answer as usize,
+            _ => 0,
+        };
+        assert!(out.get()[written..] == out_before[written..], "call {call} wrote past its output");
+    }
+}
+
+fn setting(random: &mut Random) -> Setting {
+    let width = if random.chance(90) { random.between(1, 12) } else { random.between(1, 255) };
+    let symbol_size = if random.chance(90) { random.between(4, 20) } else { random.between(4, 300) };
+    Setting { scheme: 9 + random.below(2) as u32, symbol_size, width }
+}
+
+/// A sender's and a receiver's memory after some packets.
+fn used(random: &mut Random, setting: Setting) -> (Vec<u8>, Vec<u8>) {
+    let mut sender = vec![0; setting.sender_memory()];
+    let mut receiver = vec![0; setting.receiver_memory()];
+    let mut work = vec![0; setting.working_memory()];
+    let (e, w) = (setting.symbol_size as u32, setting.width as u32);
+    assert_eq!(library::sender_open(&mut sender, setting.scheme, e, w), 0);
+    assert_eq!(library::receiver_open(&mut receiver, setting.scheme, e, w), 0);
+    let mut out = vec![0; setting.width * setting.symbol_size + 17 * setting.symbol_size];
+    for _ in 0..random.between(0, 12) {
+        let length = random.between(0, 2 * setting.symbol_size);
+        let adu = random.bytes(length);
+        let written = library::add_adu(&mut sender, 1, &adu, &mut out);
+        if written >= 0 && random.chance(60) {
+            library::receive_source(&mut receiver, &mut work, 1, &out[..written as usize]);
+        }
+        let written = library::make_repair(&sender, random.next() as u16, random.below(16) as u32, 1, &mut out);
+        if written >= 0 && random.chance(60) {
+            library::receive_repair(&mut receiver, &mut work, &out[..written as usize]);
+        }
+    }
+    (sender, receiver)
+}
+
+/// All zero, and every memory that is too short for any setting, is refused (3) by every call.
+#[test]
+fn zero_and_short_memory() {
+    let random = &mut Random::new(1);
+    for length in (0..200).chain([1000, 5000]) {
+        let setting = setting(random);
+        call_all(random, setting, &vec![0; length], Some(-3));
+    }
+    for length in 0..36 {
+        // A sender needs 36 bytes at least
+        let setting = setting(random);
+        let junk = random.bytes(length);
+        call_all(random, setting, &junk, Some(-3));
+    }
+}
+
+/// An end's memory is refused by the other end's calls, and by its own where it is lent too short.
+#[test]
+fn memory_of_the_other_end() {
+    runs(300, |seed| {
+        let random = &mut Random::new(seed);
+        let setting = setting(random);
+        let (sender, receiver) = used(random, setting);
+        let (mut s, mut r) = (sender.clone(), receiver.clone());
+        let (mut work, mut out) = (vec![0; setting.working_memory()], vec![0; 5000]);
+        let bytes = packet(random, setting, true);
+        assert_eq!(library::receive_source(&mut s, &mut work, 1, &bytes), -3);
+        assert_eq!(library::receive_repair(&mut s, &mut work, &bytes), -3);
+        let calls = [library::symbol(&s, 0), library::symbol_place(&s, 0), library::adu(&s, 0, &mut out)];
+        assert_eq!(calls, [-3; 3]);
+        assert_eq!(library::add_adu(&mut r, 1, &bytes, &mut out), -3);
+        assert_eq!(library::make_repair(&r, 0, 15, 1, &mut out), -3);
+        assert!(s == sender && r == receiver);
+        let short = random.between(0, sender.len() - 1);
+        call_all(random, setting, &sender[..short], Some(-3));
+        let short = random.between(0, receiver.len() - 1);
+        call_all(random, setting, &receiver[..short], Some(-3));
+    });
+}
+
+/// Junk, and states with some bytes changed: mostly of the header, where the first bytes lie.
+#[test]
+fn junk_memory() {
+    runs(3000, |seed| {
+        let random = &mut Random::new(seed);
+        let setting = setting(random);
+        let (sender, receiver) = used(random, setting);
+        let mut content = match random.below(8) {
+            0 => {
+                let length = random.between(0, 3000);
+                random.bytes(length)
+            }
+            1..=2 => sender,
+            _ => receiver,
+        };
+        for _ in 0..random.between(0, 12) {
+            if !content.is_empty() {
+                let front = if random.chance(50) { content.len().min(64) } else { content.len() };
+                let at = random.below(front as u64) as usize;
+                content[at] = match random.below(4) {
+                    0 => 0,
+                    1 => random.below(4) as u8,
+                    2 => 255,
+                    _ => random.byte(),
+                };
+            }
+        }
+        call_all(random, setting, &content, None);
+    });
+}
+
+/// Opening takes memory with any content, an opened one too, and gives a fresh end.
+#[test]
+fn opening_again() {
+    runs(100, |seed| {
+        let random = &mut Random::new(seed);
+        let old = setting(random);
+        let new = setting(random);
+        let (sender, receiver) = used(random, old);
+        let (e, w) = (new.symbol_size as u32, new.width as u32);
+        for mut memory in [sender, receiver] {
+            memory.resize(memory.len().max(new.receiver_memory()) + 5, 3);
+            let past = memory[new.receiver_memory()..].to_vec();
+            assert_eq!(library::receiver_open(&mut memory, new.scheme, e, w), 0);
+            assert!(memory[new.receiver_memory()..] == past);
+            for esi in 0..new.width as u32 {
+                assert_eq!(library::symbol(&memory, esi), -12);
+                assert_eq!(library::adu(&memory, esi, &mut []), if esi == 0 { -12 } else { -13 });
+            }
+            let past = memory[new.sender_memory()..].to_vec();
+            assert_eq!(library::sender_open(&mut memory, new.scheme, e, w), 0);
+            assert!(memory[new.sender_memory()..] == past);
+            assert_eq!(library::make_repair(&memory, 0, 15, 1, &mut [0; 2000]), -7);
+        }
+    });
+}
+
+/// A refused call on a good state changes nothing at all, and bytes past the sizes stay through a whole run.
+#[test]
+fn good_memory_stays_good() {
+    runs(60, |seed| {
+        let random = &mut Random::new(seed);
+        let setting = setting(random);
+        let mut senders = Senders::open(setting, random);
+        let mut receivers = Receivers::open(setting, random);
+        for _ in 0..40 {
+            let adu = packet(random, setting, false);
+            let _ = senders.add_adu(random, 3, &adu);
+            let bytes = packet(random, setting, true);
+            let _ = receivers.receive(random, Some(3), &bytes);
+            let bytes = packet(random, setting, false);
+            let _ = receivers.receive(random, None, &bytes);
+        }
+        receivers.look_around(random);
+    });
+}

@@ -1,0 +1,483 @@
+//! Random runs of the library beside the second sender and receiver.
+
+mod library;
+mod reference;
+
+use library::pair::{Receivers, Senders, Tally};
+use library::runs;
+use reference::coefficients::{combination, keys};
+use reference::random::Random;
+use reference::{repair_packet, source_packet, Setting};
+use std::collections::{BTreeMap, HashMap};
+
+/// A setting: mostly small, now and then at the ends of its ranges.
+fn setting(random: &mut Random, widest: usize, longest: usize) -> Setting {
+    let width = match random.below(10) {
+        0..=5 => random.between(1, 8),
+        6..=8 => random.between(1, 30),
+        _ => random.between(1, 255),
+    };
+    let symbol_size = match random.below(10) {
+        0..=6 => random.between(4, 9),
+        7..=8 => random.between(4, 64),
+        _ => random.between(4, 1500),
+    };
+    Setting { scheme: 9 + random.below(2) as u32, symbol_size: symbol_size.min(longest), width: width.min(widest) }
+}
+
+/// A packet on its way, with the flow beside it where it is a source packet.
+type Packet = (Option<u8>, Vec<u8>);
+
+/// Content for any position: ADUs where a start was asked for, other bytes elsewhere.
+struct Stream {
+    setting: Setting,
+    symbols: HashMap<u64, Vec<u8>>,
+    starts: BTreeMap<u64, (u8, Vec<u8>)>,
+}
+
+impl Stream {
+    fn new(setting: Setting) -> Stream {
+        Stream { setting, symbols: HashMap::new(), starts: BTreeMap::new() }
+    }
+
+    /// The source packet of the ADU at a position, made up where nothing is there yet; none where the position is no start.
+    fn source(&mut self, random: &mut Random, position: u64) -> Option<Packet> {
+        if !self.starts.contains_key(&position) {
+            let free = (position..).take(self.setting.width).take_while(|p| !self.symbols.contains_key(p)).count();
+            if free == 0 {
+                return None;
+            }
+            let n = if random.chance(70) { 1 } else { random.between(1, free.min(5)) };
+            let most = n * self.setting.symbol_size - 3;
+            let least = most.saturating_sub(self.setting.symbol_size - 1);
+            let adu = if random.chance(15) {
+                vec![0; least]
+            } else {
+                let length = random.between(least, most);
+                random.bytes(length)
+            };
+            let flow = random.one_of(&[0, 1, 2, 255]);
+            for (p, symbol) in (position..).zip(self.setting.cut(flow, &adu)) {
+                self.symbols.insert(p, symbol);
+            }
+            self.starts.insert(position, (flow, adu));
+        }
+        let (flow, adu) = &self.starts[&position];
+        Some((Some(*flow), source_packet(adu, position)))
+    }
+
+    /// The symbol at a position, made up where there is none: the start of an ADU, or bytes that only look like one.
+    fn symbol(&mut self, random: &mut Random, position: u64) -> Vec<u8> {
+        if !self.symbols.contains_key(&position) {
+            if random.chance(60) {
+                self.source(random, position);
+            } else {
+                let mut bytes = random.bytes(self.setting.symbol_size);
+                if random.chance(80) {
+                    bytes[1] = 0;
+                    bytes[2] %= 4 * self.setting.symbol_size.min(60) as u8;
+                }
+                if random.chance(30) {
+                    bytes[3..].fill(0);
+                }
+                self.symbols.insert(position, bytes);
+            }
+        }
+        self.symbols[&position].clone()
+    }
+
+    fn repair(&mut self, random: &mut Random, position: u64, n: usize) -> Packet {
+        let symbols: Vec<Vec<u8>> = (position..).take(n).map(|p| self.symbol(random, p)).collect();
+        let key = if random.chance(20) { random.one_of(&[0, 1, 65_535]) } else { random.next() as u16 };
+        let dt = if random.chance(40) { 15 } else { random.below(16) as u8 };
+        let count = if random.chance(70) { 1 } else { random.between(1, 16) };
+        let size = self.setting.symbol_size;
+        let repair = keys(key, count).map(|key| combination(self.setting.field(), key, dt, &symbols, size).unwrap());
+        (None, repair_packet(key, dt, n as u16, position, &repair.collect::<Vec<_>>()))
+    }
+}
+
+/// Damage on the way: bytes changed, cut off or added, another flow.
+fn damaged(random: &mut Random, (mut flow, mut packet): Packet) -> Packet {
+    for _ in 0..random.between(1, 2) {
+        match random.below(8) {
+            0 => packet.truncate(random.between(0, packet.len())),
+            1 => {
+                let more = random.between(1, 9);
+                packet.extend(random.bytes(more));
+            }
+            2 if flow.is_some() => flow = Some(random.byte()),
+            _ if !packet.is_empty() => {
+                let at = random.below(packet.len() as u64) as usize;
+                packet[at] ^= if random.chance(50) { 1 << random.below(8) } else { random.byte() };
+            }
+            _ => {}
+        }
+    }
+    (flow, packet)
+}
+
+/// Packets that no sender would write: forms, sizes and places outside their ranges.
+fn odd(random: &mut Random, setting: Setting, base: u64) -> Packet {
+    let place = |random: &mut Random| {
+        let near = random.below(5);
+        let width = setting.width as u64;
+        let ahead = match random.below(9) {
+            0 => 65_535,
+            1 => 65_536,
+            2 => (1 << 31) - 1,
+            3 => 1 << 31,
+            4 => 65_536 - width + near,
+            5 => width + near,
+            6 => random.below(70_000),
+            7 => (1 << 32) - 1 - near,
+            _ => near,
+        };
+        base + ahead
+    };
+    let size = setting.symbol_size;
+    match random.below(6) {
+        0 => {
+            let length = random.between(0, 3);
+            (Some(1), random.bytes(length))
+        }
+        1 => {
+            // An ADU at the longest, one past it, or anything
+            let most = (setting.width * size - 3).min(65_535);
+            let length = if random.chance(60) { random.one_of(&[most, most + 1]) } else { random.between(0, most + 3) };
+            let position = place(random);
+            (Some(random.byte()), source_packet(&random.bytes(length), position))
+        }
+        2 => {
+            let ends = [0, 7, 8, 8 + size - 1, 8 + size + 1, 8 + 17 * size, 8 + 16 * size];
+            let length = if random.chance(80) { random.one_of(&ends) } else { random.between(0, 40 + 17 * size) };
+            (None, random.bytes(length))
+        }
+        _ => {
+            let ends = [0, 1, setting.width, setting.width + 1, 4095];
+            let nss = if random.chance(60) { random.one_of(&ends) } else { random.between(1, setting.width) };
+            let symbols = random.between(1, 3);
+            let zero = random.chance(30);
+            let repair: Vec<Vec<u8>> = (0..symbols).map(|_| if zero { vec![0; size] } else { random.bytes(size) }).collect();
+            let dt = random.below(16) as u8;
+            let position = place(random);
+            (None, repair_packet(random.next() as u16, dt, nss as u16, position, &repair))
+        }
+    }
+}
+
+/// One run: packets around the window, made to fit one stream or not, in any order. Gives what happened.
+fn mixed_run(random: &mut Random, receivers: &mut Receivers, packets: usize) {
+    let setting = receivers.setting();
+    let width = setting.width as u64;
+    let mut stream = Stream::new(setting);
+    let mut held: Vec<Packet> = Vec::new();
+    let mut past: Vec<Packet> = Vec::new();
+    let sources = random.one_of(&[10, 40, 70]);
+    let oddity = random.one_of(&[0, 2, 15]);
+    let damage = random.one_of(&[0, 2, 10]);
+    let repeats = random.one_of(&[0, 5]);
+    let jumps = random.one_of(&[0, 0, 1, 5]);
+    let looks = if setting.width * setting.symbol_size > 2000 { 10 } else { 60 };
+    for _ in 0..packets {
+        let base = receivers.base();
+        let packet = if random.chance(oddity) {
+            odd(random, setting, base)
+        } else if random.chance(repeats) && !past.is_empty() {
+            past[random.below(past.len() as u64) as usize].clone()
+        } else if random.chance(15) && !held.is_empty() {
+            held.swap_remove(random.below(held.len() as u64) as usize)
+        } else {
+            let ahead = match random.below(100) {
+                p if p < jumps => random.below(65_600),
+                0..=30 => random.below(width),
+                31..=60 => random.below(width.min(4) + 1),
+                61..=90 => width.saturating_sub(random.below(3)),
+                _ => random.below(width + 3),
+            };
+            let position = base + ahead;
+            let made = if random.chance(sources) { stream.source(random, position) } else { None };
+            made.unwrap_or_else(|| {
+                let n = if random.chance(50) { random.between(1, setting.width.min(4)) } else { random.between(1, setting.width) };
+                stream.repair(random, position, n)
+            })
+        };
+        let packet = if random.chance(damage) { damaged(random, packet) } else { packet };
+        if random.chance(10) {
+            held.push(packet);
+            continue;
+        }
+        let _ = receivers.receive(random, packet.0, &packet.1);
+        if past.len() < 50 {
+            past.push(packet);
+        } else {
+            let at = random.below(50) as usize;
+            past[at] = packet;
+        }
+        if random.chance(looks) {
+            receivers.look_around(random);
+        }
+    }
+    receivers.look_around(random);
+}
+
+/// Packets of any kind around one window, from a fresh receiver.
+#[test]
+fn receiver_on_mixed_packets() {
+    let mut tally = Tally::default();
+    runs(2000, |seed| {
+        let random = &mut Random::new(seed);
+        let setting = setting(random, 255, 1500);
+        let mut receivers = Receivers::open(setting, random);
+        let packets = if setting.width > 100 { 30 } else { 100 };
+        mixed_run(random, &mut receivers, packets);
+        tally.add(&receivers.tally);
+    });
+    tally.told("mixed packets");
+    tally.met(&[4, 5, 6, 8, 9, 11], &[0, 2, 8, 12, 13, 14]);
+}
+
+/// The same with wide windows, long enough that they fill and move on.
+#[test]
+fn receiver_with_wide_windows() {
+    let mut tally = Tally::default();
+    runs(20, |seed| {
+        let random = &mut Random::new(seed);
+        let setting = Setting { width: random.between(60, 255), ..setting(random, 255, 24) };
+        let mut receivers = Receivers::open(setting, random);
+        mixed_run(random, &mut receivers, 400);
+        tally.add(&receivers.tally);
+    });
+    tally.told("wide windows");
+    tally.met(&[8, 11], &[0, 12, 13]);
+}
+
+/// The same with one receiver for thousands of packets, all of whose equations the second receiver keeps.
+#[test]
+fn receiver_with_long_histories() {
+    let mut tally = Tally::default();
+    runs(6, |seed| {
+        let random = &mut Random::new(seed);
+        let setting = setting(random, 12, 9);
+        let mut receivers = Receivers::open(setting, random);
+        for _ in 0..20 {
+            mixed_run(random, &mut receivers, 150);
+        }
+        tally.add(&receivers.tally);
+    });
+    tally.told("long histories");
+    tally.met(&[8], &[0, 12, 13]);
+}
+
+/// A receiver whose base stands just below this position, reached by packets as far ahead as they may be.
+fn driven(setting: Setting, position: u64, random: &mut Random) -> Receivers {
+    let mut receivers = Receivers::open(setting, random);
+    while receivers.base() < position {
+        let ahead = (position - receivers.base()).min(65_535);
+        let packet = source_packet(&[random.byte()], receivers.base() + ahead);
+        assert_eq!(receivers.receive(random, Some(1), &packet), Ok(1));
+        if ahead < 65_535 {
+            break;
+        }
+    }
+    receivers
+}
+
+/// ESIs wrap at 2^32; positions, marks and equations go on. Below the wrap's half nothing may be taken as behind.
+#[test]
+fn receiver_past_the_wrap() {
+    let mut tally = Tally::default();
+    let mut crossed = 0;
+    runs(4, |seed| {
+        let random = &mut Random::new(seed);
+        let setting = setting(random, 12, 12);
+        let below = random.below(30);
+        let receivers = driven(setting, (1 << 32) - 20 - below, random);
+        assert!(receivers.base() < 1 << 32);
+        for _ in 0..40 {
+            let mut receivers = receivers.clone();
+            receivers.tally = Tally::default();
+            mixed_run(random, &mut receivers, 100);
+            tally.add(&receivers.tally);
+            crossed += u64::from(receivers.base() > 1 << 32);
+        }
+    });
+    assert!(crossed > 0);
+    tally.told("the wrap");
+    tally.met(&[4, 5, 6, 8, 9, 11], &[0, 2, 8, 12, 13]);
+}
+
+/// A link that loses, repeats and reorders packets, but changes none.
+struct Link {
+    bursts: bool,
+    losing: bool,
+    loss: u64,
+    late: Vec<(u64, Packet)>,
+    now: u64,
+}
+
+impl Link {
+    /// What arrives when this packet is sent.
+    fn send(&mut self, random: &mut Random, packet: Packet) -> Vec<Packet> {
+        self.now += 1;
+        if self.bursts && random.chance(if self.losing { 30 } else { 5 }) {
+            self.losing = !self.losing;
+        }
+        let lost = if self.bursts { self.losing } else { random.chance(self.loss) };
+        if !lost {
+            let copies = if random.chance(5) { 2 } else { 1 };
+            for _ in 0..copies {
+                let delay = if random.chance(15) { random.below(12) } else { 0 };
+                self.late.push((self.now + delay, packet.clone()));
+            }
+        }
+        let (arrived, late) = std::mem::take(&mut self.late).into_iter().partition(|(at, _)| *at <= self.now);
+        self.late = late;
+        arrived.into_iter().map(|(_, packet)| packet).collect()
+    }
+}
+
+/// A sender, a link and a receiver. What the receiver shows and hands out is what was sent.
+#[test]
+fn sender_over_a_link() {
+    let mut tally = Tally::default();
+    runs(400, |seed| {
+        let random = &mut Random::new(seed);
+        let setting = setting(random, 255, 1500);
+        let mut senders = Senders::open(setting, random);
+        // The other end may be wider or narrower
+        let other = if random.chance(60) { setting.width } else { random.between(1, 255) };
+        let mut receivers = Receivers::open(Setting { width: other, ..setting }, random);
+        let loss = random.one_of(&[5, 20, 50]);
+        let mut link = Link { bursts: random.chance(40), losing: false, loss, late: Vec::new(), now: 0 };
+        let spacing = random.between(1, 5);
+        let dt = random.below(16) as u32;
+        for i in 0..if setting.width > 60 { 40 } else { 120 } {
+            let symbols = if random.chance(70) { 1 } else { random.between(1, setting.width.min(6)) };
+            let length = random.between(0, symbols * setting.symbol_size - 3);
+            let adu = random.bytes(length);
+            let flow = random.byte();
+            let Ok(packet) = senders.add_adu(random, flow, &adu) else { continue };
+            let mut packets = vec![(Some(flow), packet)];
+            if i % spacing == 0 {
+                let count = if random.chance(70) { 1 } else { random.between(1, 16) as u32 };
+                let dt = if random.chance(80) { dt } else { random.below(16) as u32 };
+                let key = random.next() as u16;
+                packets.extend(senders.make_repair(random, key, dt, count).map(|packet| (None, packet)));
+            }
+            for packet in packets {
+                for (flow, packet) in link.send(random, packet) {
+                    let answer = receivers.receive(random, flow, &packet);
+                    assert!(answer.is_ok() || [Err(4), Err(6), Err(8)].contains(&answer), "{answer:?}");
+                }
+            }
+            if random.chance(if other > 30 { 10 } else { 60 }) {
+                receivers.look_around(random);
+                compare_with_sent(&senders, &receivers);
+            }
+        }
+        receivers.look_around(random);
+        compare_with_sent(&senders, &receivers);
+        tally.add(&receivers.tally);
+    });
+    tally.told("a link");
+    tally.met(&[6, 8], &[0, 8, 12, 13]);
+}
+
+/// Every symbol that the receiver shows is the sender's, and every ADU that it hands out is one that was sent, with its flow.
+fn compare_with_sent(senders: &Senders, receivers: &Receivers) {
+    let (base, setting) = (receivers.base(), receivers.setting());
+    let memory = receivers.memory.get();
+    for position in base..base + setting.width as u64 {
+        let place = library::symbol_place(memory, position as u32);
+        if let Ok(place) = usize::try_from(place) {
+            assert_eq!(memory[place..place + setting.symbol_size], senders.reference.symbols[position as usize], "symbol {position}");
+        }
+        let mut out = vec![0; setting.width * setting.symbol_size];
+        let answer = library::adu(memory, position as u32, &mut out);
+        assert!(answer != -14, "no ADU sent breaks its form");
+        if answer >= 0 {
+            let found = senders.reference.adus.binary_search_by_key(&position, |adu| adu.0).expect("an ADU was sent here");
+            let (_, flow, adu) = &senders.reference.adus[found];
+            assert_eq!(answer, i64::from(*flow) * 65_536 + adu.len() as i64);
+            assert_eq!(out[..adu.len()], adu[..]);
+        }
+    }
+}
+
+/// A sender's calls with any arguments.
+#[test]
+fn sender_on_any_arguments() {
+    runs(600, |seed| {
+        let random = &mut Random::new(seed);
+        let setting = setting(random, 255, 1500);
+        let mut senders = Senders::open(setting, random);
+        for _ in 0..60 {
+            if random.chance(50) {
+                let most = setting.width * setting.symbol_size - 3;
+                let length = match random.below(8) {
+                    0 => most,
+                    1 => most + 1,
+                    2 => 0,
+                    3 => random.between(0, most + 2),
+                    _ => random.between(0, 3 * setting.symbol_size),
+                };
+                let adu = random.bytes(length.min(66_000));
+                let flow = random.byte();
+                let _ = senders.add_adu(random, flow, &adu);
+            } else {
+                let key = if random.chance(20) { random.one_of(&[0, 1, 65_530, 65_535]) } else { random.next() as u16 };
+                let dt = if random.chance(5) { random.one_of(&[16, 255, u32::MAX]) } else { random.below(16) as u32 };
+                let count = match random.below(10) {
+                    0 => random.one_of(&[0, 17, u32::MAX]),
+                    1 => 16,
+                    _ => random.between(1, 3) as u32,
+                };
+                let _ = senders.make_repair(random, key, dt, count);
+            }
+        }
+    });
+}
+
+/// ADUs of 65,535 and 65,536 bytes at both ends.
+#[test]
+fn longest_adus() {
+    let random = &mut Random::new(1);
+    let setting = Setting { scheme: 10, symbol_size: 1500, width: 50 };
+    let mut senders = Senders::open(setting, random);
+    let mut receivers = Receivers::open(setting, random);
+    for length in [65_535, 65_536, 65_540] {
+        let adu = random.bytes(length);
+        let _ = senders.add_adu(random, 9, &adu);
+        let answer = receivers.receive(random, Some(9), &source_packet(&adu, 0));
+        assert_eq!(answer, if length == 65_535 { Ok(44) } else { Err(4) });
+        receivers.look_around(random);
+    }
+}
+
+/// A sender whose ESIs wrap: some seventeen million ADUs of 255 symbols, so only where RLC8681_RUNS asks for long runs.
+#[test]
+fn sender_past_the_wrap() {
+    if std::env::var_os("RLC8681_RUNS").is_none() {
+        return;
+    }
+    let mut memory = vec![0; 32 + 255 * 4];
+    assert_eq!(library::sender_open(&mut memory, 10, 4, 255), 0);
+    let adu = vec![7; 255 * 4 - 3];
+    let mut out = vec![0; adu.len() + 4];
+    let calls = (1u64 << 32) / 255 + 1;
+    for _ in 0..calls {
+        assert_eq!(library::add_adu(&mut memory, 1, &adu, &mut out), out.len() as i64);
+    }
+    assert_eq!(library::add_adu(&mut memory, 1, &[8], &mut out), 5);
+    assert_eq!(out[1..5], ((calls * 255) as u32).to_be_bytes());
+    let mut repair = [0; 12];
+    assert_eq!(library::make_repair(&memory, 5, 15, 1, &mut repair), 12);
+    assert_eq!(repair[4..8], ((calls * 255 - 254) as u32).to_be_bytes());
+    let symbols: Vec<Vec<u8>> = {
+        let setting = Setting { scheme: 10, symbol_size: 4, width: 255 };
+        let all = [setting.cut(1, &adu), setting.cut(1, &[8])].concat();
+        all[1..].to_vec()
+    };
+    assert_eq!(repair[8..], combination(reference::Field::Gf256, 5, 15, &symbols, 4).unwrap());
+}

@@ -1,0 +1,164 @@
+//! The receiver of document 01's "plain history", with its marks of starts.
+
+use super::coefficients::{coefficients, keys};
+use super::equations::{Equation, System};
+use super::{Answer, Setting};
+use std::collections::BTreeSet;
+
+#[derive(Clone)]
+pub struct Receiver {
+    pub setting: Setting,
+    /// The window is base .. base + width - 1; positions never wrap.
+    pub base: u64,
+    pub system: System,
+    /// The positions marked as starts, from base to base + width.
+    pub marks: BTreeSet<u64>,
+}
+
+/// An ADU as handed out.
+#[derive(Clone, Debug, PartialEq, Eq)]
+pub struct Adu {
+    pub flow: u8,
+    pub bytes: Vec<u8>,
+}
+
+impl Receiver {
+    pub fn open(setting: Setting) -> Receiver {
+        Receiver { setting, base: 0, system: System::new(setting.field()), marks: BTreeSet::from([0]) }
+    }
+
+    /// How far an ESI lies past base.
+    fn distance(&self, esi: u32) -> u64 {
+        u64::from(esi.wrapping_sub((self.base % (1 << 32)) as u32))
+    }
+
+    /// The first position of a packet that names n symbols from this ESI on, or refusal 8 or 9.
+    fn place(&self, esi: u32, n: usize) -> Result<u64, u32> {
+        let d = self.distance(esi);
+        if d >= 1 << 31 {
+            return Err(8);
+        }
+        if d + n as u64 - 1 > 65_535 {
+            return Err(9);
+        }
+        Ok(self.base + d)
+    }
+
+    /// Takes a packet that names n symbols from `first` on, or refuses it (11).
+    fn accept(&mut self, first: u64, n: usize, equations: Vec<Equation>, source: bool) -> Answer {
+        let solved = self.system.admit_all(equations).map_err(|_| 11u32)?;
+        let width = self.setting.width as u64;
+        let end = first + n as u64;
+        self.base = self.base.max(end.saturating_sub(width));
+        let window = self.base..self.base + width;
+        if source {
+            self.marks.insert(first);
+            self.marks.insert(end);
+        }
+        for position in window.clone() {
+            if self.marks.contains(&position) {
+                if let Some(symbol) = self.system.known(position) {
+                    self.marks.insert(position + self.setting.symbols_of(length_in(symbol)) as u64);
+                }
+            }
+        }
+        self.marks.retain(|mark| (window.start..=window.end).contains(mark));
+        Ok(solved.iter().filter(|position| window.contains(position)).count() as u64)
+    }
+
+    /// Refusal 3 or 2 by the lengths of state memory and working memory.
+    fn room(&self, memory: usize, work: usize) -> Result<(), u32> {
+        if memory < self.setting.receiver_memory() {
+            return Err(3);
+        }
+        if work < self.setting.working_memory() {
+            return Err(2);
+        }
+        Ok(())
+    }
+
+    pub fn receive_source(&mut self, memory: usize, work: usize, flow: u8, packet: &[u8]) -> Answer {
+        self.room(memory, work)?;
+        if packet.len() < 4 {
+            return Err(5);
+        }
+        let (adu, esi) = packet.split_at(packet.len() - 4);
+        let n = self.setting.symbols_of(adu.len());
+        if adu.len() > 65_535 || n > self.setting.width {
+            return Err(4);
+        }
+        let first = self.place(u32::from_be_bytes(esi.try_into().unwrap()), n)?;
+        let symbols = self.setting.cut(flow, adu);
+        let equations = (first..).zip(&symbols).map(|(position, symbol)| Equation::new(position, &[1], symbol));
+        self.accept(first, n, equations.collect(), true)
+    }
+
+    pub fn receive_repair(&mut self, memory: usize, work: usize, packet: &[u8]) -> Answer {
+        self.room(memory, work)?;
+        let size = self.setting.symbol_size;
+        let count = packet.len().saturating_sub(8) / size;
+        if packet.len() != 8 + count * size || !(1..=16).contains(&count) {
+            return Err(5);
+        }
+        let key = u16::from_be_bytes([packet[0], packet[1]]);
+        let dt = packet[2] / 16;
+        let nss = usize::from(packet[2] % 16) * 256 + usize::from(packet[3]);
+        let esi = u32::from_be_bytes([packet[4], packet[5], packet[6], packet[7]]);
+        if nss == 0 || nss > self.setting.width {
+            return Err(6);
+        }
+        let first = self.place(esi, nss)?;
+        let mut equations = Vec::new();
+        for (key, symbol) in keys(key, count).zip(packet[8..].chunks(size)) {
+            equations.push(Equation::new(first, &coefficients(self.setting.field(), key, dt, nss)?, symbol));
+        }
+        self.accept(first, nss, equations, false)
+    }
+
+    /// The position of an ESI in the window, or refusal 8 or 12.
+    fn position(&self, memory: usize, esi: u32) -> Result<u64, u32> {
+        if memory < self.setting.receiver_memory() {
+            return Err(3);
+        }
+        match self.distance(esi) {
+            d if d >= 1 << 31 => Err(8),
+            d if d >= self.setting.width as u64 => Err(12),
+            d => Ok(self.base + d),
+        }
+    }
+
+    /// The bytes of a known symbol, or refusal 3, 8 or 12.
+    pub fn symbol(&self, memory: usize, esi: u32) -> Result<&[u8], u32> {
+        self.system.known(self.position(memory, esi)?).ok_or(12)
+    }
+
+    /// The ADU that starts at an ESI, in the order of document 01; `room` is the output's length.
+    pub fn adu(&self, memory: usize, esi: u32, room: usize) -> Result<Adu, u32> {
+        let position = self.position(memory, esi)?;
+        if !self.marks.contains(&position) {
+            return Err(13);
+        }
+        let first = self.system.known(position).ok_or(12u32)?;
+        let length = length_in(first);
+        let n = self.setting.symbols_of(length);
+        if n > self.setting.width {
+            return Err(14);
+        }
+        let mut adui = Vec::new();
+        for position in position..position + n as u64 {
+            adui.extend_from_slice(self.system.known(position).ok_or(12u32)?);
+        }
+        if adui[3 + length..].iter().any(|&b| b != 0) {
+            return Err(14);
+        }
+        if room < length {
+            return Err(2);
+        }
+        Ok(Adu { flow: adui[0], bytes: adui[3..3 + length].to_vec() })
+    }
+}
+
+/// L, in the first symbol of an ADUI.
+fn length_in(symbol: &[u8]) -> usize {
+    usize::from(symbol[1]) * 256 + usize::from(symbol[2])
+}

@@ -1,0 +1,191 @@
+//! The second sender and receiver against RFC 8681's figures, document 01's bench sheet and plain elimination. The library has no part in
+//! this file.
+
+mod reference;
+
+use reference::coefficients::{coefficients, combination, keys};
+use reference::equations::Equation;
+use reference::generator::Generator;
+use reference::random::Random;
+use reference::{dense, field, repair_packet, Field, Receiver, Sender, Setting};
+
+const FIGURE_9: [u8; 50] = [
+    37, 225, 177, 176, 21, 246, 54, 139, 168, 237, 211, 187, 62, 190, 104, 135, 210, 99, 176, 11, 207, 35, 40, 113, 179, 214, 254, 101,
+    212, 211, 226, 41, 234, 232, 203, 29, 194, 211, 112, 107, 217, 104, 197, 135, 23, 89, 210, 252, 109, 166,
+];
+
+const FIGURE_10: [u8; 50] = [
+    5, 1, 1, 0, 5, 6, 6, 11, 8, 13, 3, 11, 14, 14, 8, 7, 2, 3, 0, 11, 15, 3, 8, 1, 3, 6, 14, 5, 4, 3, 2, 9, 10, 8, 11, 13, 2, 3, 0, 11, 9,
+    8, 5, 7, 7, 9, 2, 12, 13, 6,
+];
+
+#[test]
+fn figures_9_and_10() {
+    let mut generator = Generator::new(1);
+    assert_eq!(FIGURE_9, std::array::from_fn(|_| generator.rand256()));
+    let mut generator = Generator::new(1);
+    assert_eq!(FIGURE_10, std::array::from_fn(|_| generator.rand16()));
+}
+
+#[test]
+fn draws_of_seed_1() {
+    let mut generator = Generator::new(1);
+    assert_eq!([2_545_341_989, 981_918_433, 3_715_302_833, 2_387_538_352, 3_591_001_365], std::array::from_fn(|_| generator.draw()));
+}
+
+#[test]
+fn c1_to_c3_field() {
+    assert_eq!(field::product(2, 128), 29);
+    assert_eq!(field::product(3, 7), 9);
+    assert_eq!(field::inverse(2), 142);
+    for a in 0..=255u8 {
+        for b in 0..=255u8 {
+            assert_eq!(Field::Gf256.times(a, b), field::product(b, a));
+        }
+        assert!(a == 0 || field::product(a, field::inverse(a)) == 1);
+    }
+}
+
+#[test]
+fn c4_to_c6_coefficients() {
+    assert_eq!(coefficients(Field::Gf256, 1, 15, 5), Ok(vec![37, 225, 177, 176, 21]));
+    assert_eq!(coefficients(Field::Gf2, 1, 4, 6), Ok(vec![0, 1, 1, 1, 0, 0]));
+    assert_eq!(coefficients(Field::Gf256, 1, 4, 5), Ok(vec![0, 177, 21, 0, 0]));
+}
+
+fn open(scheme: u32, symbol_size: u32, width: u32) -> (Sender, Receiver) {
+    let setting = Setting::checked(scheme, symbol_size, width).unwrap();
+    (Sender::open(setting), Receiver::open(setting))
+}
+
+const ROOM: usize = usize::MAX;
+
+fn sends(sender: &mut Sender, adus: std::ops::RangeInclusive<u8>) -> Vec<Vec<u8>> {
+    adus.map(|byte| sender.add_adu(1, &[byte], ROOM).unwrap()).collect()
+}
+
+#[test]
+fn c7_and_c8_one_lost_symbol() {
+    let (mut sender, mut receiver) = open(9, 4, 2);
+    let sources = sends(&mut sender, 0x41..=0x42);
+    assert_eq!(sources, [[0x41, 0, 0, 0, 0], [0x42, 0, 0, 0, 1]]);
+    let repair = sender.make_repair(77, 15, 1, ROOM).unwrap();
+    assert_eq!(repair, [0, 0, 0xf0, 2, 0, 0, 0, 0, 0, 0, 0, 3]);
+    assert_eq!(receiver.receive_source(ROOM, ROOM, 1, &sources[0]), Ok(1));
+    assert_eq!(receiver.receive_repair(ROOM, ROOM, &repair), Ok(1));
+    assert_eq!(receiver.symbol(ROOM, 1), Ok(&[1, 0, 1, 0x42][..]));
+}
+
+#[test]
+fn c9_longest_adu() {
+    let (mut sender, _) = open(9, 4, 2);
+    assert_eq!(sender.add_adu(1, &[0; 6], ROOM), Err(4));
+    assert!(sender.add_adu(1, &[0; 5], ROOM).is_ok());
+}
+
+#[test]
+fn c10_places() {
+    for (esi, answer) in [(65_535, Ok(1)), (65_536, Err(9)), (2_147_483_647, Err(9)), (2_147_483_648, Err(8))] {
+        let (_, mut receiver) = open(10, 4, 3);
+        assert_eq!(receiver.receive_source(ROOM, ROOM, 1, &reference::source_packet(&[1], esi)), answer);
+    }
+}
+
+#[test]
+fn c11_contradiction_of_two_unknowns() {
+    let (mut sender, mut receiver) = open(9, 4, 2);
+    sends(&mut sender, 0x41..=0x42);
+    assert_eq!(receiver.receive_repair(ROOM, ROOM, &sender.make_repair(0, 15, 1, ROOM).unwrap()), Ok(0));
+    assert_eq!((receiver.symbol(ROOM, 0), receiver.symbol(ROOM, 1)), (Err(12), Err(12)));
+    assert_eq!(receiver.receive_source(ROOM, ROOM, 1, &reference::source_packet(&[0; 5], 0)), Err(11));
+}
+
+#[test]
+fn c12_equations_outlive_departed_symbols() {
+    let (mut sender, mut receiver) = open(9, 4, 4);
+    let first = sends(&mut sender, 0x41..=0x42);
+    let over_2 = sender.make_repair(0, 15, 1, ROOM).unwrap();
+    sends(&mut sender, 0x43..=0x44);
+    let over_4 = sender.make_repair(0, 15, 1, ROOM).unwrap();
+    let last = sends(&mut sender, 0x45..=0x46);
+    assert_eq!(first.len(), 2);
+    assert_eq!(receiver.receive_repair(ROOM, ROOM, &over_2), Ok(0));
+    assert_eq!(receiver.receive_repair(ROOM, ROOM, &over_4), Ok(0));
+    assert_eq!(receiver.receive_source(ROOM, ROOM, 1, &last[0]), Ok(1));
+    assert_eq!(receiver.receive_source(ROOM, ROOM, 1, &last[1]), Ok(1));
+    assert_eq!(receiver.receive_source(ROOM, ROOM, 1, &reference::source_packet(&[0x44], 3)), Ok(2));
+    assert_eq!(receiver.symbol(ROOM, 2), Ok(&[1, 0, 1, 0x43][..]));
+}
+
+/// The system that is kept reduced and the matrix that is solved anew agree on every prefix of random histories: on what contradicts, what
+/// is known, and with which bytes.
+#[test]
+fn reduced_system_equals_plain_elimination() {
+    for seed in 0..400 {
+        let mut random = Random::new(seed);
+        let field = random.one_of(&[Field::Gf2, Field::Gf256]);
+        let size = random.between(1, 3);
+        let positions = random.between(2, 14) as u64;
+        let truth: Vec<Vec<u8>> = (0..positions).map(|_| random.bytes(size)).collect();
+        let mut system = reference::equations::System::new(field);
+        let mut history: Vec<Equation> = Vec::new();
+        for _ in 0..random.between(3, 25) {
+            let first = random.below(positions);
+            let n = random.between(1, (positions - first) as usize);
+            let (key, dt) = (random.next() as u16, random.below(16) as u8);
+            let symbols = &truth[first as usize..first as usize + n];
+            let mut packet = Vec::new();
+            for key in keys(key, random.between(1, 3)) {
+                let mut sum = combination(field, key, dt, symbols, size).unwrap();
+                if random.chance(8) {
+                    sum[0] ^= random.byte();
+                }
+                packet.push(Equation::new(first, &coefficients(field, key, dt, n).unwrap(), &sum));
+            }
+            let together: Vec<Equation> = history.iter().chain(&packet).cloned().collect();
+            let before = dense::known(field, &history).expect("the history was accepted");
+            let answer = system.admit_all(packet);
+            match dense::known(field, &together) {
+                None => assert!(answer.is_err(), "seed {seed}"),
+                Some(known) => {
+                    let mut solved = answer.expect("plain elimination finds a filling");
+                    solved.sort_unstable();
+                    let new: Vec<u64> = known.keys().filter(|p| !before.contains_key(p)).copied().collect();
+                    assert_eq!(solved, new, "seed {seed}");
+                    history = together;
+                }
+            }
+            let known = dense::known(field, &history).unwrap();
+            for position in 0..positions {
+                assert_eq!(system.known(position), known.get(&position).map(Vec::as_slice), "seed {seed}");
+            }
+        }
+    }
+}
+
+/// Marks and the ADU call: the readings that a quick look gets wrong.
+#[test]
+fn marks_of_starts() {
+    // The mark at base + width is kept: it counts once base rises.
+    let (_, mut receiver) = open(9, 4, 2);
+    receiver.receive_source(ROOM, ROOM, 1, &reference::source_packet(&[7; 5], 0)).unwrap();
+    assert_eq!(receiver.adu(ROOM, 2, ROOM), Err(12));
+    receiver.receive_repair(ROOM, ROOM, &repair_packet(0, 15, 1, 2, &[vec![3, 0, 1, 9]])).unwrap();
+    let adu = receiver.adu(ROOM, 2, ROOM).unwrap();
+    assert_eq!((adu.flow, adu.bytes), (3, vec![9]));
+    assert_eq!(receiver.adu(ROOM, 1, ROOM), Err(13));
+    assert_eq!(receiver.adu(ROOM, 0, ROOM), Err(8));
+    // A fresh receiver: position 0 is marked and not known, position 1 no start though known by repair.
+    let (_, mut receiver) = open(9, 4, 2);
+    assert_eq!((receiver.adu(ROOM, 0, ROOM), receiver.adu(ROOM, 1, ROOM), receiver.adu(ROOM, 2, ROOM)), (Err(12), Err(13), Err(12)));
+    receiver.receive_repair(ROOM, ROOM, &repair_packet(0, 15, 1, 1, &[vec![1, 0, 0, 0]])).unwrap();
+    assert_eq!(receiver.adu(ROOM, 1, ROOM), Err(13));
+    // Both kinds of 14, and the output's length last.
+    for (width, symbol, room, refusal) in
+        [(1, [1, 0, 2, 0], 9, 14), (1, [1, 0, 0, 5], 9, 14), (2, [1, 0, 2, 0], 9, 12), (1, [1, 0, 1, 5], 0, 2)]
+    {
+        let (_, mut receiver) = open(9, 4, width);
+        receiver.receive_repair(ROOM, ROOM, &repair_packet(0, 15, 1, 0, &[symbol.to_vec()])).unwrap();
+        assert_eq!(receiver.adu(ROOM, 0, room), Err(refusal));
+    }
+}

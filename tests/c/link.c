@@ -1,0 +1,157 @@
+// The library as a C program links it: the bench sheet's cases C7 to C9 and C12 through the header alone, each answer and each byte compared.
+#include "rlc8681.h"
+#include <stdio.h>
+#include <stdlib.h>
+#include <string.h>
+
+static int passed, failed;
+static void check(int good, const char *what) {
+  good ? passed++ : failed++;
+  if (!good) printf("failed: %s\n", what);
+}
+
+// The call answers this number.
+#define SAYS(call, number)                                                                        \
+  do {                                                                                            \
+    int64_t says = (call);                                                                        \
+    check(says == (number), #call " says " #number);                                              \
+    if (says != (number)) printf("        but %lld\n", (long long)says);                          \
+  } while (0)
+#define BYTES(at, ...)                                                                            \
+  do {                                                                                            \
+    const uint8_t expected[] = {__VA_ARGS__};                                                     \
+    check(memcmp((at), expected, sizeof expected) == 0, "bytes at " #at ": " #__VA_ARGS__);       \
+  } while (0)
+
+// An end's memory or an output, of just the length that is lent, and guarded past it.
+#define GUARD 16
+struct room {
+  size_t length;
+  uint8_t *bytes;
+};
+static struct room room(size_t length) {
+  struct room r = {length, malloc(length + GUARD)};
+  if (!r.bytes) exit(2);
+  memset(r.bytes, 0xa5, length + GUARD);
+  return r;
+}
+static int untouched(struct room r, size_t from) {
+  for (size_t i = from; i < r.length + GUARD; i++)
+    if (r.bytes[i] != 0xa5) return 0;
+  return 1;
+}
+#define LENT(r) (r).bytes, (r).length
+
+static struct room sender_of(uint32_t size, uint32_t width) { return room((size_t)rlc_sender_memory(size, width)); }
+static struct room receiver_of(uint32_t size, uint32_t width) { return room((size_t)rlc_receiver_memory(size, width)); }
+static struct room work_of(uint32_t size, uint32_t width) { return room((size_t)rlc_working_memory(size, width)); }
+
+static void sizes(void) {
+  SAYS(rlc_sender_memory(4, 2), 32 + 2 * 4);
+  SAYS(rlc_receiver_memory(4, 2), 64 + 2 * (2 + 4 + 4));
+  SAYS(rlc_working_memory(4, 2), 64 + 3 * (2 + 4 + 4));
+  SAYS(rlc_sender_memory(1500, 255), 32 + 255 * 1500);
+  SAYS(rlc_receiver_memory(1500, 255), 64 + 255 * 1759);
+  SAYS(rlc_working_memory(1500, 255), 64 + 256 * 1759);
+  const uint32_t wrong[][2] = {{3, 1}, {1501, 1}, {4, 0}, {4, 256}, {4 + 65536, 1}, {4, 257}, {0xffffffff, 0xffffffff}};
+  for (size_t i = 0; i < sizeof wrong / sizeof *wrong; i++) {
+    SAYS(rlc_sender_memory(wrong[i][0], wrong[i][1]), -RLC_VALUES);
+    SAYS(rlc_receiver_memory(wrong[i][0], wrong[i][1]), -RLC_VALUES);
+    SAYS(rlc_working_memory(wrong[i][0], wrong[i][1]), -RLC_VALUES);
+  }
+}
+
+// C7 and C8: two ADUs of one byte, their repair packet, and the second symbol from the first and the repair.
+static void seven_and_eight(void) {
+  struct room sender = sender_of(4, 2), receiver = receiver_of(4, 2), work = work_of(4, 2);
+  struct room one = room(32), two = room(32), repair = room(32);
+  const uint8_t a = 0x41, b = 0x42;
+  SAYS(rlc_sender_open(LENT(sender), 9, 4, 2), 0);
+  SAYS(rlc_sender_make_repair(LENT(sender), 1, 15, 1, LENT(repair)), -RLC_EMPTY);
+  SAYS(rlc_sender_add_adu(LENT(sender), 1, &a, 1, LENT(one)), 5);
+  BYTES(one.bytes, 0x41, 0, 0, 0, 0);
+  SAYS(rlc_sender_add_adu(LENT(sender), 1, &b, 1, LENT(two)), 5);
+  BYTES(two.bytes, 0x42, 0, 0, 0, 1);
+  SAYS(rlc_sender_add_adu(LENT(sender), 1, &b, 1, two.bytes, 4), -RLC_SHORT);
+
+  // Numbers that would be in range if they were cut to 8 or 16 bits.
+  const uint32_t wrong[][2] = {{16, 1}, {256, 1}, {271, 1}, {65551, 1}, {15, 0}, {15, 17}, {15, 257}, {15, 65537}, {0xffffffff, 0xffffffff}};
+  for (size_t i = 0; i < sizeof wrong / sizeof *wrong; i++)
+    SAYS(rlc_sender_make_repair(LENT(sender), 1, wrong[i][0], wrong[i][1], LENT(repair)), -RLC_RANGE);
+  SAYS(rlc_sender_make_repair(LENT(sender), 1, 15, 1, repair.bytes, 11), -RLC_SHORT);
+  check(untouched(repair, 0), "refusals leave the output");
+  SAYS(rlc_sender_make_repair(LENT(sender), 7, 15, 1, LENT(repair)), 12);
+  BYTES(repair.bytes, 0, 0, 0xf0, 2, 0, 0, 0, 0, 0, 0, 0, 3);
+  check(untouched(one, 5) && untouched(two, 5) && untouched(repair, 12), "output past the packet is as it was");
+  check(untouched(sender, sender.length), "the sender stays in its memory");
+
+  SAYS(rlc_receive_source(LENT(receiver), LENT(work), 1, one.bytes, 5), -RLC_UNOPENED);
+  SAYS(rlc_receiver_open(LENT(receiver), 9, 3, 2), -RLC_VALUES);
+  SAYS(rlc_receiver_open(LENT(receiver), 65545, 4, 2), -RLC_VALUES);
+  SAYS(rlc_receiver_open(receiver.bytes, receiver.length - 1, 9, 4, 2), -RLC_SHORT);
+  SAYS(rlc_receiver_open(LENT(receiver), 9, 4, 2), 0);
+  SAYS(rlc_symbol(LENT(receiver), 0), -RLC_UNKNOWN);
+  SAYS(rlc_receive_source(LENT(receiver), work.bytes, work.length - 1, 1, one.bytes, 5), -RLC_SHORT);
+  SAYS(rlc_receive_source(LENT(receiver), LENT(work), 1, one.bytes, 3), -RLC_FORM);
+  SAYS(rlc_receive_repair(LENT(receiver), LENT(work), repair.bytes, 9), -RLC_FORM);
+  SAYS(rlc_receive_source(LENT(receiver), LENT(work), 1, one.bytes, 5), 1);
+  SAYS(rlc_receive_repair(LENT(receiver), LENT(work), repair.bytes, 12), 1);
+  SAYS(rlc_symbol(LENT(receiver), 0), 0);
+  SAYS(rlc_symbol(LENT(receiver), 1), 0);
+  SAYS(rlc_symbol(LENT(receiver), 2), -RLC_UNKNOWN);
+  SAYS(rlc_symbol(LENT(receiver), 0xffffffff), -RLC_BEHIND);
+  SAYS(rlc_symbol(LENT(sender), 0), -RLC_UNOPENED);
+  one.bytes[0] = 0x43;
+  SAYS(rlc_receive_source(LENT(receiver), LENT(work), 1, one.bytes, 5), -RLC_CONTRADICTION);
+  check(untouched(receiver, receiver.length) && untouched(work, work.length), "the receiver stays in its memory");
+}
+
+// C9: an ADU of 5 bytes fits two symbols of 4, one of 6 does not.
+static void nine(void) {
+  struct room sender = sender_of(4, 2), out = room(32);
+  const uint8_t adu[6] = {1, 2, 3, 4, 5, 6};
+  SAYS(rlc_sender_open(LENT(sender), 10, 4, 2), 0);
+  SAYS(rlc_sender_add_adu(LENT(sender), 1, adu, 6, LENT(out)), -RLC_LONG);
+  SAYS(rlc_sender_add_adu(LENT(sender), 1, adu, 5, LENT(out)), 9);
+  BYTES(out.bytes, 1, 2, 3, 4, 5, 0, 0, 0, 0);
+  SAYS(rlc_sender_add_adu(LENT(sender), 1, adu, 0, LENT(out)), 4);
+  BYTES(out.bytes, 0, 0, 0, 2);
+}
+
+// C12: what two repair packets say of symbols that have left the window still counts.
+static void twelve(void) {
+  struct room sender = sender_of(4, 4), receiver = receiver_of(4, 4), work = work_of(4, 4), repair[2], source[6];
+  SAYS(rlc_sender_open(LENT(sender), 9, 4, 4), 0);
+  for (int i = 0; i < 6; i++) {
+    const uint8_t adu = 0x41 + i;
+    source[i] = room(5);
+    SAYS(rlc_sender_add_adu(LENT(sender), 1, &adu, 1, LENT(source[i])), 5);
+    BYTES(source[i].bytes, adu, 0, 0, 0, i);
+    if (i == 1 || i == 3) {
+      struct room *r = &repair[i / 2];
+      *r = room(12);
+      SAYS(rlc_sender_make_repair(LENT(sender), 0, 15, 1, LENT(*r)), 12);
+    }
+  }
+  BYTES(repair[0].bytes, 0, 0, 0xf0, 2, 0, 0, 0, 0, 0, 0, 0, 3);
+  BYTES(repair[1].bytes, 0, 0, 0xf0, 4, 0, 0, 0, 0, 0, 0, 0, 4);
+  SAYS(rlc_receiver_open(LENT(receiver), 9, 4, 4), 0);
+  SAYS(rlc_receive_repair(LENT(receiver), LENT(work), LENT(repair[0])), 0);
+  SAYS(rlc_receive_repair(LENT(receiver), LENT(work), LENT(repair[1])), 0);
+  SAYS(rlc_receive_source(LENT(receiver), LENT(work), 1, LENT(source[4])), 1);
+  SAYS(rlc_receive_source(LENT(receiver), LENT(work), 1, LENT(source[5])), 1);
+  SAYS(rlc_symbol(LENT(receiver), 2), -RLC_UNKNOWN);
+  SAYS(rlc_receive_source(LENT(receiver), LENT(work), 1, LENT(source[3])), 2);
+  SAYS(rlc_symbol(LENT(receiver), 1), -RLC_BEHIND);
+  for (uint32_t esi = 2; esi < 6; esi++) SAYS(rlc_symbol(LENT(receiver), esi), 0);
+  check(untouched(sender, sender.length) && untouched(receiver, receiver.length) && untouched(work, work.length), "all stay in their memory");
+}
+
+int main(void) {
+  sizes();
+  seven_and_eight();
+  nine();
+  twelve();
+  printf("%d passed, %d failed\n", passed, failed);
+  return failed != 0;
+}
