@@ -43,7 +43,9 @@ enum rlc_refusal {
     RLC_AHEAD = 9,          /* too far ahead */
     RLC_DRAWS = 10,         /* sixteen zero draws */
     RLC_CONTRADICTION = 11, /* contradiction with the packets accepted before */
-    RLC_UNKNOWN = 12        /* not known, or past the window */
+    RLC_UNKNOWN = 12,       /* not known, or past the window */
+    RLC_NO_START = 13,      /* no start */
+    RLC_PADDING = 14        /* ADUI needs more than the width, or padding not zero */
 };
 
 /*
@@ -102,6 +104,21 @@ int64_t rlc_receive_repair(uint8_t *memory, size_t memory_length, uint8_t *work,
  * Refusals: RLC_UNOPENED, RLC_BEHIND, RLC_UNKNOWN.
  */
 int64_t rlc_symbol(const uint8_t *memory, size_t memory_length, uint32_t esi);
+
+/*
+ * Where in memory the symbol with an ESI stands, as an offset: the symbol is the E bytes from memory + offset on. They are there to be read, and stand
+ * there until memory is next lent to a call that writes it.
+ * Refusals: those of rlc_symbol.
+ */
+int64_t rlc_symbol_place(const uint8_t *memory, size_t memory_length, uint32_t esi);
+
+/*
+ * Hands out the ADU whose first symbol has an ESI, where all its symbols are known: writes it at the front of out. Answers flow x 65,536 + length of the
+ * ADU, which has 0 to 65,535 bytes.
+ * Refusals: RLC_UNOPENED, RLC_BEHIND, RLC_UNKNOWN (past the window), RLC_NO_START, RLC_UNKNOWN (first symbol), RLC_PADDING (more symbols than the width),
+ * RLC_UNKNOWN (another symbol), RLC_PADDING (padding not zero), RLC_SHORT (out).
+ */
+int64_t rlc_adu(const uint8_t *memory, size_t memory_length, uint32_t esi, uint8_t *out, size_t out_length);
 
 #ifdef __cplusplus
 }

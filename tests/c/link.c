@@ -1,4 +1,5 @@
-// The library as a C program links it: the bench sheet's cases C7 to C9 and C12 through the header alone, each answer and each byte compared.
+// The library as a C program links it: the bench sheet's cases C7 to C9 and C12, and the ADU call's refusals, through the header alone; each answer
+// and each byte is compared.
 #include "rlc8681.h"
 #include <stdio.h>
 #include <stdlib.h>
@@ -21,6 +22,39 @@ static void check(int good, const char *what) {
   do {                                                                                            \
     const uint8_t expected[] = {__VA_ARGS__};                                                     \
     check(memcmp((at), expected, sizeof expected) == 0, "bytes at " #at ": " #__VA_ARGS__);       \
+  } while (0)
+
+// The receiver shows the symbol with an ESI, and it has these four bytes, in the memory lent.
+#define SHOWS(receiver, esi, ...)                                                                 \
+  do {                                                                                            \
+    SAYS(rlc_symbol(LENT(receiver), esi), 0);                                                     \
+    int64_t place = rlc_symbol_place(LENT(receiver), esi);                                        \
+    check(place >= 0 && (size_t)place + 4 <= (receiver).length, "a symbol lies in the memory");   \
+    if (place >= 0) BYTES((receiver).bytes + place, __VA_ARGS__);                                 \
+  } while (0)
+#define HIDES(receiver, esi, refusal)                                                             \
+  do {                                                                                            \
+    SAYS(rlc_symbol(LENT(receiver), esi), -(refusal));                                            \
+    SAYS(rlc_symbol_place(LENT(receiver), esi), -(refusal));                                      \
+  } while (0)
+
+// The receiver hands out the ADU at an ESI, with its flow and these bytes, and leaves the output past it.
+#define HANDS(receiver, esi, flow, ...)                                                           \
+  do {                                                                                            \
+    struct room out = room(32);                                                                   \
+    const size_t length = sizeof((uint8_t[]){__VA_ARGS__});                                       \
+    SAYS(rlc_adu(LENT(receiver), esi, LENT(out)), (flow) * INT64_C(65536) + (int64_t)length);     \
+    BYTES(out.bytes, __VA_ARGS__);                                                                \
+    check(untouched(out, length), "output past the ADU is as it was");                            \
+    SAYS(rlc_adu(LENT(receiver), esi, out.bytes, length - 1), -RLC_SHORT);                        \
+    free(out.bytes);                                                                              \
+  } while (0)
+#define WITHHOLDS(receiver, esi, refusal)                                                         \
+  do {                                                                                            \
+    struct room out = room(32);                                                                   \
+    SAYS(rlc_adu(LENT(receiver), esi, LENT(out)), -(refusal));                                    \
+    check(untouched(out, 0), "a refusal leaves the output");                                      \
+    free(out.bytes);                                                                              \
   } while (0)
 
 // An end's memory or an output, of just the length that is lent, and guarded past it.
@@ -90,32 +124,46 @@ static void seven_and_eight(void) {
   SAYS(rlc_receiver_open(LENT(receiver), 65545, 4, 2), -RLC_VALUES);
   SAYS(rlc_receiver_open(receiver.bytes, receiver.length - 1, 9, 4, 2), -RLC_SHORT);
   SAYS(rlc_receiver_open(LENT(receiver), 9, 4, 2), 0);
-  SAYS(rlc_symbol(LENT(receiver), 0), -RLC_UNKNOWN);
+  HIDES(receiver, 0, RLC_UNKNOWN);
+  WITHHOLDS(receiver, 0, RLC_UNKNOWN);
   SAYS(rlc_receive_source(LENT(receiver), work.bytes, work.length - 1, 1, one.bytes, 5), -RLC_SHORT);
   SAYS(rlc_receive_source(LENT(receiver), LENT(work), 1, one.bytes, 3), -RLC_FORM);
   SAYS(rlc_receive_repair(LENT(receiver), LENT(work), repair.bytes, 9), -RLC_FORM);
   SAYS(rlc_receive_source(LENT(receiver), LENT(work), 1, one.bytes, 5), 1);
   SAYS(rlc_receive_repair(LENT(receiver), LENT(work), repair.bytes, 12), 1);
-  SAYS(rlc_symbol(LENT(receiver), 0), 0);
-  SAYS(rlc_symbol(LENT(receiver), 1), 0);
-  SAYS(rlc_symbol(LENT(receiver), 2), -RLC_UNKNOWN);
-  SAYS(rlc_symbol(LENT(receiver), 0xffffffff), -RLC_BEHIND);
-  SAYS(rlc_symbol(LENT(sender), 0), -RLC_UNOPENED);
+  SHOWS(receiver, 0, 1, 0, 1, 0x41);
+  SHOWS(receiver, 1, 1, 0, 1, 0x42);
+  HIDES(receiver, 2, RLC_UNKNOWN);
+  HIDES(receiver, 0xffffffff, RLC_BEHIND);
+  HIDES(sender, 0, RLC_UNOPENED);
+  HANDS(receiver, 0, 1, 0x41);
+  HANDS(receiver, 1, 1, 0x42);
+  WITHHOLDS(receiver, 2, RLC_UNKNOWN);
+  WITHHOLDS(receiver, 0xffffffff, RLC_BEHIND);
+  WITHHOLDS(sender, 0, RLC_UNOPENED);
   one.bytes[0] = 0x43;
   SAYS(rlc_receive_source(LENT(receiver), LENT(work), 1, one.bytes, 5), -RLC_CONTRADICTION);
   check(untouched(receiver, receiver.length) && untouched(work, work.length), "the receiver stays in its memory");
 }
 
-// C9: an ADU of 5 bytes fits two symbols of 4, one of 6 does not.
+// C9: an ADU of 5 bytes fits two symbols of 4, one of 6 does not. It is handed out whole, and so is an empty ADU.
 static void nine(void) {
-  struct room sender = sender_of(4, 2), out = room(32);
+  struct room sender = sender_of(4, 2), out = room(32), receiver = receiver_of(4, 3), work = work_of(4, 3);
   const uint8_t adu[6] = {1, 2, 3, 4, 5, 6};
   SAYS(rlc_sender_open(LENT(sender), 10, 4, 2), 0);
   SAYS(rlc_sender_add_adu(LENT(sender), 1, adu, 6, LENT(out)), -RLC_LONG);
   SAYS(rlc_sender_add_adu(LENT(sender), 1, adu, 5, LENT(out)), 9);
   BYTES(out.bytes, 1, 2, 3, 4, 5, 0, 0, 0, 0);
-  SAYS(rlc_sender_add_adu(LENT(sender), 1, adu, 0, LENT(out)), 4);
+  SAYS(rlc_receiver_open(LENT(receiver), 10, 4, 3), 0);
+  SAYS(rlc_receive_source(LENT(receiver), LENT(work), 255, out.bytes, 9), 2);
+  SHOWS(receiver, 0, 255, 0, 5, 1);
+  SHOWS(receiver, 1, 2, 3, 4, 5);
+  HANDS(receiver, 0, 255, 1, 2, 3, 4, 5);
+  WITHHOLDS(receiver, 1, RLC_NO_START);
+  SAYS(rlc_sender_add_adu(LENT(sender), 0, adu, 0, LENT(out)), 4);
   BYTES(out.bytes, 0, 0, 0, 2);
+  SAYS(rlc_receive_source(LENT(receiver), LENT(work), 0, out.bytes, 4), 1);
+  SAYS(rlc_adu(LENT(receiver), 2, out.bytes, 0), 0);
 }
 
 // C12: what two repair packets say of symbols that have left the window still counts.
@@ -140,11 +188,30 @@ static void twelve(void) {
   SAYS(rlc_receive_repair(LENT(receiver), LENT(work), LENT(repair[1])), 0);
   SAYS(rlc_receive_source(LENT(receiver), LENT(work), 1, LENT(source[4])), 1);
   SAYS(rlc_receive_source(LENT(receiver), LENT(work), 1, LENT(source[5])), 1);
-  SAYS(rlc_symbol(LENT(receiver), 2), -RLC_UNKNOWN);
+  HIDES(receiver, 2, RLC_UNKNOWN);
   SAYS(rlc_receive_source(LENT(receiver), LENT(work), 1, LENT(source[3])), 2);
-  SAYS(rlc_symbol(LENT(receiver), 1), -RLC_BEHIND);
-  for (uint32_t esi = 2; esi < 6; esi++) SAYS(rlc_symbol(LENT(receiver), esi), 0);
+  HIDES(receiver, 1, RLC_BEHIND);
+  for (uint8_t esi = 2; esi < 6; esi++) SHOWS(receiver, esi, 1, 0, 1, 0x41 + esi);
+  WITHHOLDS(receiver, 2, RLC_NO_START);
+  for (uint8_t esi = 3; esi < 6; esi++) HANDS(receiver, esi, 1, 0x41 + esi);
   check(untouched(sender, sender.length) && untouched(receiver, receiver.length) && untouched(work, work.length), "all stay in their memory");
+}
+
+// The ADU call's own small examples: a start that only repair knows, an ADUI of more symbols than the width, and padding that is not zero.
+static void thirteen_and_fourteen(void) {
+  struct room receiver = receiver_of(4, 2), narrow = receiver_of(4, 1), work = work_of(4, 2);
+  const uint8_t second[] = {0, 0, 0xf0, 1, 0, 0, 0, 1, 1, 0, 1, 0x42};
+  const uint8_t longer[] = {0, 0, 0xf0, 1, 0, 0, 0, 0, 1, 0, 2, 0x41}, padded[] = {0, 0, 0xf0, 1, 0, 0, 0, 0, 1, 0, 0, 7};
+  SAYS(rlc_receiver_open(LENT(receiver), 9, 4, 2), 0);
+  SAYS(rlc_receive_repair(LENT(receiver), LENT(work), second, sizeof second), 1);
+  SHOWS(receiver, 1, 1, 0, 1, 0x42);
+  WITHHOLDS(receiver, 1, RLC_NO_START);
+  SAYS(rlc_receiver_open(LENT(narrow), 9, 4, 1), 0);
+  SAYS(rlc_receive_repair(LENT(narrow), LENT(work), longer, sizeof longer), 1);
+  WITHHOLDS(narrow, 0, RLC_PADDING);
+  SAYS(rlc_receiver_open(LENT(narrow), 9, 4, 1), 0);
+  SAYS(rlc_receive_repair(LENT(narrow), LENT(work), padded, sizeof padded), 1);
+  WITHHOLDS(narrow, 0, RLC_PADDING);
 }
 
 int main(void) {
@@ -152,6 +219,7 @@ int main(void) {
   seven_and_eight();
   nine();
   twelve();
+  thirteen_and_fourteen();
   printf("%d passed, %d failed\n", passed, failed);
   return failed != 0;
 }

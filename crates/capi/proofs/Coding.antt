@@ -30,6 +30,10 @@ value-small n l =
 pub value-large : (n : ℕ) → largest ≤ n → pos largest ≡ coded (value n)
 value-large n l = let same : largest ≡ min n largest = omega (arith, l) in ap pos same
 
+-- The length alone is past the largest number.
+pub adu-large : (flow n : ℕ) → largest ≤ n → pos largest ≡ coded (value (flow * 65536 + n))
+adu-large flow n l = value-large (flow * 65536 + n) (omega (arith, l))
+
 -- The number that an inner function gave, handed on.
 pub handed : {z w : ℤ} → mag z < 2 ^ 63 → z ≡ w → toZ w64 (ofZ w64 z) ≡ w
 handed fits e = toZ-ofZ {w = w64} (record { sfits = fits }) ∙ e
@@ -52,11 +56,11 @@ area count bytes a b = mul-le-mul a b
 pub asked-valid : (size width : ℕ) {r : Checked} → r ≡ checkedOf (settingOf 10 size width) → (s : Setting) → r ≡ Good s → Valid s
 asked-valid size width e s good = setting-names _ _ _ s (setting-good _ s e good) .valid
 
-module _ (size width : ℕ) {r : Checked} (e : r ≡ checkedOf (settingOf 10 size width)) (f : Setting → ℕ) where
+module _ (size width : ℕ) {r : Checked} (e : r ≡ checkedOf (settingOf 10 size width)) (f : Setting → ℕ) {z : ℤ} (fits : mag z < 2 ^ 63) where
   -- The numbers named no setting.
-  pub asked-none : {z : ℤ} → mag z < 2 ^ 63 → r ≡ Bad → z ≡ coded (refusal 1) → toZ w64 (ofZ w64 z) ≡ coded (asked f (settingOf 10 size width))
-  asked-none fits bad h = rw (setting-bad (settingOf 10 size width) e bad) (handed fits h)
+  pub asked-none : r ≡ Bad → z ≡ coded (refusal 1) → toZ w64 (ofZ w64 z) ≡ coded (asked f (settingOf 10 size width))
+  asked-none bad h = rw (setting-bad (settingOf 10 size width) e bad) (handed fits h)
 
   -- They named this one.
-  pub asked-some : (s : Setting) {z : ℤ} → mag z < 2 ^ 63 → r ≡ Good s → z ≡ coded (value (f s)) → toZ w64 (ofZ w64 z) ≡ coded (asked f (settingOf 10 size width))
-  asked-some s fits good h = rw (setting-good (settingOf 10 size width) s e good) (handed fits h)
+  pub asked-some : (s : Setting) → r ≡ Good s → z ≡ coded (value (f s)) → toZ w64 (ofZ w64 z) ≡ coded (asked f (settingOf 10 size width))
+  asked-some s good h = rw (setting-good (settingOf 10 size width) s e good) (handed fits h)

@@ -7,9 +7,10 @@ ghost use Rattle.wire.specs.Settings.{settingOf};
 ghost use Rattle.sender.specs.State as sender;
 ghost use Rattle.sender.specs.Promises.{Opens, Adds, Repairs};
 ghost use Rattle.receiver.specs.History.{value, refusal, memorySize, workingSize, source-call, repair-call};
-ghost use Rattle.receiver.specs.Promises.{Opened, Received, SymbolAnswered, said};
+ghost use Rattle.receiver.specs.Promises.{Opened, Received, SymbolAnswered, PlaceAnswered, AduAnswered, said};
 ghost use Rattle.receiver.specs.Layout.{receiverLayout};
-ghost use Rattle.capi.specs.Coding.{coded, senderSaid, Codes, asked};
+ghost use Rattle.capi.specs.Coding.{coded, senderSaid, handedSaid, Codes, asked};
+use starts::Handed;
 use wire::Checked;
 use wire::Esi;
 use wire::Refusal;
@@ -64,6 +65,26 @@ fn coded_receiver(answer: receiver::Answer) -> i64
     match answer {
         receiver::Answer::Done(n) => coded_value(n),
         receiver::Answer::Refused(why) => coded_refusal(why),
+    }
+}
+
+// A flow and a length as they are coded.
+fn coded_adu(flow: u8, len: usize) -> i64
+    ensures { λ r. ⌜ r ≡ coded (value (flow * 65536 + len)) ⌝ }
+{
+    if len < 9223372036854775807 {
+        return coded_value(flow as usize * 65536 + len);
+    }
+    9223372036854775807
+}
+
+// An answer of the ADU call.
+fn coded_handed(handed: Handed) -> i64
+    ensures { λ r. ⌜ r ≡ coded (handedSaid handed) ⌝ }
+{
+    match handed {
+        Handed::Adu(flow, len) => coded_adu(flow, len),
+        Handed::Withheld(why) => coded_refusal(why),
     }
 }
 
@@ -166,4 +187,18 @@ pub extern "C" fn rlc_symbol(memory: &[u8], esi: u32) -> i64
     ensures { λ r. ⌜ Codes said (SymbolAnswered receiverLayout (now (memory .entry)) esi) r ⌝ }
 {
     coded_receiver(receiver::symbol(memory, Esi(esi)))
+}
+
+#[no_mangle]
+pub extern "C" fn rlc_symbol_place(memory: &[u8], esi: u32) -> i64
+    ensures { λ r. ⌜ Codes said (PlaceAnswered receiverLayout (now (memory .entry)) esi) r ⌝ }
+{
+    coded_receiver(receiver::symbol_place(memory, Esi(esi)))
+}
+
+#[no_mangle]
+pub extern "C" fn rlc_adu(memory: &[u8], esi: u32, out: &mut [u8]) -> i64
+    ensures { λ r. ⌜ Codes handedSaid (AduAnswered receiverLayout (now (memory .entry)) esi (now (out .entry)) (now (out .exit))) r ⌝ }
+{
+    coded_handed(receiver::adu(memory, Esi(esi), out))
 }

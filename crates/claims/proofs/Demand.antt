@@ -47,19 +47,28 @@ module _ (L : Layout) (s : Setting) (v : Valid s) where
   did m m′ a t (refused n) (e, q) h = (e, subst (λ x. L .Holds x s t) (sym q) h)
   did m m′ a t (done n t′) p h = p
 
-  step : (m : List ℕ) (l : Log) (t : Step) → Stands m l → OfBytes (t .call) → Received L (t .call) m (t .memory) (t .working) (t .left) (t .answer)
-      → Judged s l (read s l t) (said (t .answer)) × Stands (t .memory) (logged s l (read s l t) (said (t .answer)))
+  -- A call on a memory that holds the state x.
+  pub called : (m : List ℕ) (l : Log) (t : Step) (x : State s) → L .Holds m s x → Tracks s some-bytes l x → OfBytes (t .call)
+      → Received L (t .call) m (t .memory) (t .working) (t .left) (t .answer)
+      → let o = receiving s x (length (t .working)) (t .call) in
+      (said (t .answer) ≡ saidOf o) × Judged s l (read s l t) (said (t .answer))
+      × Tracks s some-bytes (logged s l (read s l t) (said (t .answer))) (stateAfter x o) × L .Holds (t .memory) s (stateAfter x o)
   unfolding receiving
-  step m l t g b p =
-      let x = g .state in
+  called m l t x held k b p =
       let room = length (t .working) in
       let r = reading s (x .base) room (t .call) in
-      let same : r ≡ read s l t = ap (λ y. reading s y room (t .call)) (g .tracks .base-is) in
-      let h = judged s some-bytes l x r (g .tracks) (λ q e. reading-fits s some-bytes (baseOf l) room (t .call) q b (sym same ∙ e)) in
-      let (e, z) = did m (t .memory) (t .answer) x (responds s x r) (p .follows s x (g .held)) (g .held) in
-      let k = subst (λ a. Judged s l r a × Tracks s some-bytes (logged s l r a) (stateAfter x (responds s x r))) (sym e) h in
-      let (j, n) = subst (λ y. Judged s l y (said (t .answer)) × Tracks s some-bytes (logged s l y (said (t .answer))) (stateAfter x (responds s x r))) same k in
-      (j, record { state = stateAfter x (responds s x r); held = z; tracks = n })
+      let same : r ≡ read s l t = ap (λ y. reading s y room (t .call)) (k .base-is) in
+      let h = judged s some-bytes l x r k (λ q e. reading-fits s some-bytes (baseOf l) room (t .call) q b (sym same ∙ e)) in
+      let (e, z) = did m (t .memory) (t .answer) x (responds s x r) (p .follows s x held) held in
+      let i = subst (λ a. Judged s l r a × Tracks s some-bytes (logged s l r a) (stateAfter x (responds s x r))) (sym e) h in
+      let (j, n) = subst (λ y. Judged s l y (said (t .answer)) × Tracks s some-bytes (logged s l y (said (t .answer))) (stateAfter x (responds s x r))) same i in
+      (e, j, n, z)
+
+  step : (m : List ℕ) (l : Log) (t : Step) → Stands m l → OfBytes (t .call) → Received L (t .call) m (t .memory) (t .working) (t .left) (t .answer)
+      → Judged s l (read s l t) (said (t .answer)) × Stands (t .memory) (logged s l (read s l t) (said (t .answer)))
+  step m l t g b p =
+      let (e, j, n, z) = called m l t (g .state) (g .held) (g .tracks) b p in
+      (j, record { state = stateAfter (g .state) (receiving s (g .state) (length (t .working)) (t .call)); held = z; tracks = n })
 
   pub stands : (ts : List Step) (m : List ℕ) (l : Log) → Stands m l → Run L m ts → Stands (final m ts) (goes-on s l ts)
   stands [] m l g p = g

@@ -1,10 +1,13 @@
 -- The modules of the proofs.
 pub mod Symbols
 pub mod Sending
+pub mod Adus
 pub mod Carrying
 pub mod Demand
+pub mod Handing
 pub mod Reading
 pub mod Sent
+pub mod SentAdus
 pub mod NotEmpty
 pub mod ReceiverUnopened
 pub mod Receiver

@@ -4,6 +4,8 @@ use Rattle.claims.specs.Receiver.{Receiver-claims}
 use Rattle.claims.proofs.Demand.{demand-3, no-choice}
 use Rattle.claims.proofs.Reading.{reads}
 use Rattle.claims.proofs.Sent.{sender-fills, sent-accepted, sent-shown}
+use Rattle.claims.proofs.Sending.{sender-sends}
+use Rattle.claims.proofs.SentAdus.{start-gives, junk-gives, sent-written, sent-starts, sent-handed}
 use Rattle.claims.proofs.NotEmpty.{runs-exist}
 use Rattle.claims.proofs.ReceiverUnopened.{receiver-unopened}
 
@@ -16,5 +18,11 @@ receiver-claims = record {
   sender-fills = sender-fills;
   sent-accepted = sent-accepted;
   sent-shown = sent-shown receiverLayout;
+  sender-sends = sender-sends;
+  start-gives = start-gives;
+  junk-gives = junk-gives;
+  sent-written = sent-written;
+  sent-starts = sent-starts;
+  sent-handed = sent-handed;
   unopened = receiver-unopened;
 }

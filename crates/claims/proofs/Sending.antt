@@ -4,11 +4,13 @@ use mathlib.Core.Bool.{Bool, true, false, cond, _||_, not}
 use mathlib.Core.Option.{Option, none, some}
 use Prim.Native.Nat.{ℕ, _+_, _*_, _%_, _^_, _≤_, _<_}
 use native.Mathlib.Omega.{arith}
-use mathlib.Core.List.{List, [], _∷_, _++_, map, append-assoc}
+use mathlib.Core.List.{List, [], _∷_, _++_, map, append-assoc, append-nil}
+use lib.Seq.{append-snoc}
 use lib.ListN.{length, take, length-drop, length-take, take-append-drop}
 use lib.Dec.{ltb, eqb, lit<}
 use borrow.Author.Tests.{ltb-false, eqb-false, not-false}
 use Rattle.memory.specs.Part.{splice}
+use Rattle.memory.specs.Number.{Bytes}
 use Rattle.memory.proofs.Parts.{take-new}
 use Rattle.wire.specs.declared.Scheme.{Scheme}
 use Rattle.wire.specs.declared.Scheme.the-variants.{Gf2, Gf256}
@@ -25,7 +27,9 @@ use Rattle.sender.specs.Repair.{repairSymbol, writtenKey}
 use Rattle.sender.specs.Calls.{Outcome, refused, done, refuseIf, opening, adding, repairOf, repairing}
 use Rattle.sender.specs.Promises.{bytes, refusal, said, Follows}
 use Rattle.sender.proofs.Heads.{opened}
-use Rattle.claims.specs.SenderRun.{SenderCall, added, repaired, Calls, symbolsOf, repair, packetsOf, Wrote, wrote-source, wrote-repair, AllWrote, Sender-symbols, Sender-packets}
+use Rattle.claims.specs.SenderRun.{SenderCall, added, repaired, Calls, SenderRun, symbolsOf, Packet, repair, packetsOf}
+use Rattle.claims.specs.SenderRun.{Wrote, wrote-source, wrote-repair, AllWrote, Sender-symbols, Sender-packets}
+use Rattle.claims.specs.SentAdus.{Begins, Sent, sent-source, sent-repair, AllSent, Sender-sends}
 use Rattle.claims.proofs.Symbols.{are-symbols}
 
 -- ---- an outcome that is done passed its tests
@@ -53,6 +57,15 @@ impossible n k e = let z : _≡_ {A = ℕ} 0 1 = cc in omega arith
 front : (n : ℕ) (p out out′ : List ℕ) → bytes n ≡ bytes (length p) → out′ ≡ splice 0 p out → take n out′ ≡ p
 front n p out out′ e o = let l : length p ≡ n = cc in rw o (take-new n p out l)
 
+-- the symbols of calls, and of those after them
+pub symbols-append : (E : ℕ) (k l : List SenderCall) → symbolsOf E (k ++ l) ≡ symbolsOf E k ++ symbolsOf E l
+symbols-append E [] l = refl
+symbols-append E (added flow adu out (Done n) m′ out′ ∷ k) l =
+    let new = sourceSymbols flow adu E in
+    ap (λ (xs : List (List ℕ)). new ++ xs) (symbols-append E k l) ∙ sym (append-assoc new (symbolsOf E k) (symbolsOf E l))
+symbols-append E (added flow adu out (Refused n) m′ out′ ∷ k) l = symbols-append E k l
+symbols-append E (repaired key dt count out r out′ ∷ k) l = symbols-append E k l
+
 module _ (t : Setting) where
   abbrev holding : List (List ℕ) → Sender
   holding xs = record { setting = t; symbols = xs }
@@ -79,7 +92,8 @@ module _ (t : Setting) where
         holds = rw r (f .holds);
       }
 
-  added-refused : (xs : List (List ℕ)) (m out m′ out′ : List ℕ) (k : _) (o : Outcome) → Follows o m out (Refused k) m′ out′ → Holds m (holding xs) → Holds m′ (holding xs)
+  added-refused : (xs : List (List ℕ)) (m out m′ out′ : List ℕ) (k : _) (o : Outcome) → Follows o m out (Refused k) m′ out′ → Holds m (holding xs)
+      → Holds m′ (holding xs)
   added-refused xs m out m′ out′ k (refused j) f h = rw (f .memory) h
   added-refused xs m out m′ out′ k (done p s) f h = absurd (impossible (length p) _ (sym (f .answer)))
 
@@ -105,33 +119,73 @@ module _ (t : Setting) where
       let most : length (window x) ≤ 255 = simp length-drop (omega (arith, v .width-most)) in
       let start : length (take (windowStart x) xs) ≡ windowStart x = simp length-take (omega arith) in
       let packet : repairOf x written dt count ≡ take n out′ = q ∙ sym (front n p out out′ (f .answer) (f .output)) in
-      let from : ℕ → List ℕ = λ k. repairPacket written dt (length (window x)) (k % 2 ^ 32) (map (repairSymbol (t .scheme) dt (t .size) (window x)) (keys written count)) in
+      let symbols = map (repairSymbol (t .scheme) dt (t .size) (window x)) (keys written count) in
+      let from : ℕ → List ℕ = λ k. repairPacket written dt (length (window x)) (k % 2 ^ 32) symbols in
       let packet′ : from (length (take (windowStart x) xs)) ≡ take n out′ = ap from start ∙ packet in
       rw (← packet′)
-      (wrote-repair (take (windowStart x) xs) (window x) more written dt count (written-small (t .scheme) key dt h) (ltb-false 15 dt (r .0)) (omega arith) most (w .0) (w .1)
+      (wrote-repair (take (windowStart x) xs) (window x) more written dt count (written-small (t .scheme) key dt h) (ltb-false 15 dt (r .0))
+      (omega arith) most (w .0) (w .1)
       (not-false (allOk (t .scheme) dt (length (window x)) (keys written count)) (d .0))
       (rw (← append-assoc, take-append-drop)))
 
   -- ---- the list
 
-  ran : (xs : List (List ℕ)) (m : List ℕ) (l : List SenderCall) → Holds m (holding xs) → Calls m l → AllWrote (t .scheme) (t .size) (xs ++ symbolsOf (t .size) l) (packetsOf l)
-  ran xs m [] h c = tt
-  ran xs m (added flow adu out (Done n) m′ out′ ∷ l) h (f, b, p, c) =
+  -- the memory after some calls holds what they took, and the others go on from there
+  ran : (xs : List (List ℕ)) (m : List ℕ) (before after : List SenderCall) → Holds m (holding xs) → Calls m (before ++ after)
+      → (m′ : List ℕ) × Holds m′ (holding (xs ++ symbolsOf (t .size) before)) × Calls m′ after
+  ran xs m [] after h c = (m, rw append-nil h, c)
+  ran xs m (added flow adu out (Done n) m′ out′ ∷ l) after h (f, b, p, c) =
+      let new = sourceSymbols flow adu (t .size) in
       let a = added-done xs flow adu n m out m′ out′ _ refl (p .follows (holding xs) h) in
-      let new = sourceSymbols flow adu (t .size) in (
-        (length xs, rw (← a .packet) (wrote-source xs (symbolsOf (t .size) l) flow adu f b (a .short) refl)),
-        rw (← append-assoc xs new (symbolsOf (t .size) l)) (ran (xs ++ new) m′ l (a .holds) c),
+      rw (← append-assoc xs new (symbolsOf (t .size) l)) (ran (xs ++ new) m′ l after (a .holds) c)
+  ran xs m (added flow adu out (Refused k) m′ out′ ∷ l) after h (f, b, p, c) =
+      ran xs m′ l after (added-refused xs m out m′ out′ k (adding (holding xs) flow adu (length out)) (p .follows (holding xs) h) h) c
+  ran xs m (repaired key dt count out r out′ ∷ l) after h (k, p, c) = ran xs m l after h c
+
+  abbrev held : List SenderCall → Sender
+  held before = holding (symbolsOf (t .size) before)
+
+  -- what comes after some calls, with one more before it
+  moved : (l before : List SenderCall) (x : SenderCall) (after : List SenderCall) → l ≡ before ++ (x ∷ after) → l ≡ (before ++ (x ∷ [])) ++ after
+  moved l before x after e = e ∙ sym (append-snoc before x after)
+
+  grown : (before : List SenderCall) (x : SenderCall) (m : List ℕ) → Holds m (holding (symbolsOf (t .size) before ++ symbolsOf (t .size) (x ∷ [])))
+      → Holds m (held (before ++ (x ∷ [])))
+  grown before x m h = rw (symbols-append (t .size) before (x ∷ [])) h
+
+  sends : (l before after : List SenderCall) (m : List ℕ) → l ≡ before ++ after → Holds m (held before) → Calls m after
+      → AllSent (t .scheme) (t .size) l (packetsOf after)
+  sends l before [] m e h c = tt
+  sends l before (added flow adu out (Done n) m′ out′ ∷ after) m e h (f, b, p, c) =
+      let xs = symbolsOf (t .size) before in
+      let a = added-done xs flow adu n m out m′ out′ _ refl (p .follows (holding xs) h) in
+      let x = added flow adu out (Done n) m′ out′ in
+      let g : Begins (t .size) l (length xs) flow adu
+      = record { before = before; after = after; out = out; answer = n; m′ = m′; out′ = out′; split = e; place = refl } in (
+        (length xs, rw (← a .packet) (sent-source g)),
+        sends l (before ++ (x ∷ [])) after m′ (moved l before x after e) (grown before x m′ (rw append-nil (a .holds))) c,
       )
-  ran xs m (added flow adu out (Refused k) m′ out′ ∷ l) h (f, b, p, c) =
-      ran xs m′ l (added-refused xs m out m′ out′ k (adding (holding xs) flow adu (length out)) (p .follows (holding xs) h) h) c
-  ran xs m (repaired key dt count out (Done n) out′ ∷ l) h (k, p, c) =
-      ((length (take (windowStart (holding xs)) xs), repaired-done xs (symbolsOf (t .size) l) key dt count n m out out′ k h _ refl (p .follows (holding xs) h)), ran xs m l h c)
-  ran xs m (repaired key dt count out (Refused j) out′ ∷ l) h (k, p, c) = ran xs m l h c
+  sends l before (added flow adu out (Refused k) m′ out′ ∷ after) m e h (f, b, p, c) =
+      let x = added flow adu out (Refused k) m′ out′ in
+      let g = added-refused (symbolsOf (t .size) before) m out m′ out′ k (adding (held before) flow adu (length out)) (p .follows (held before) h) h in
+      sends l (before ++ (x ∷ [])) after m′ (moved l before x after e) (grown before x m′ (rw append-nil g)) c
+  sends l before (repaired key dt count out (Done n) out′ ∷ after) m e h (k, q, c) =
+      let xs = symbolsOf (t .size) before in
+      let x = repaired key dt count out (Done n) out′ in
+      let w = repaired-done xs (symbolsOf (t .size) after) key dt count n m out out′ k h _ refl (q .follows (holding xs) h) in
+      let p : ℕ = length (take (windowStart (holding xs)) xs) in
+      let s : symbolsOf (t .size) l ≡ xs ++ symbolsOf (t .size) after = ap (symbolsOf (t .size)) e ∙ symbols-append (t .size) before (x ∷ after) in (
+        (p, sent-repair {p = p} {x = take n out′} (rw s w)),
+        sends l (before ++ (x ∷ [])) after m (moved l before x after e) (grown before x m (rw append-nil h)) c,
+      )
+  sends l before (repaired key dt count out (Refused j) out′ ∷ after) m e h (k, p, c) =
+      let x = repaired key dt count out (Refused j) out′ in
+      sends l (before ++ (x ∷ [])) after m (moved l before x after e) (grown before x m (rw append-nil h)) c
 
 -- ---- the opening
 
-opened-holds : (t : Setting) (m m′ : List ℕ) (r : Answer) (o : Outcome) → opening (schemeNumber (t .scheme)) (t .size) (t .width) (length m) ≡ o → Follows o m [] r m′ []
-    → said r ≡ bytes 0 → Holds m′ (fresh t)
+opened-holds : (t : Setting) (m m′ : List ℕ) (r : Answer) (o : Outcome) → opening (schemeNumber (t .scheme)) (t .size) (t .width) (length m) ≡ o
+    → Follows o m [] r m′ [] → said r ≡ bytes 0 → Holds m′ (fresh t)
 unfolding opening
 opened-holds t m m′ r (refused k) e f a = absurd (impossible 0 k (sym a ∙ f .answer))
 opened-holds t m m′ r (done p s) e f a = go (settingOf (schemeNumber (t .scheme)) (t .size) (t .width)) refl
@@ -151,10 +205,52 @@ opened-holds t m m′ r (done p s) e f a = go (settingOf (schemeNumber (t .schem
         let g : fresh t ≡ s = cc in
         rw g (f .holds)
 
+run-holds : (t : Setting) (l : List SenderCall) (r : SenderRun t l) → Holds (r .after) (fresh t)
+run-holds t l r = opened-holds t (r .before) (r .after) (r .answer) _ refl (r .opened) (r .answered)
+
+pub run-size : (t : Setting) (l : List SenderCall) → SenderRun t l → 4 ≤ t .size
+run-size t l r = opened (r .after) (headerOf (fresh t)) (run-holds t l r .header) .valid .size-least
+
 pub sender-symbols : Sender-symbols
-sender-symbols t l r =
-    let h = opened-holds t (r .before) (r .after) (r .answer) _ refl (r .opened) (r .answered) in
-    are-symbols (t .size) (omega (arith, opened (r .after) (headerOf (fresh t)) (h .header) .valid .size-least)) (r .after) l (r .calls)
+sender-symbols t l r = are-symbols (t .size) (omega (arith, run-size t l r)) (r .after) l (r .calls)
+
+pub sender-sends : Sender-sends
+sender-sends t l r = sends t l [] l (r .after) refl (run-holds t l r) (r .calls)
+
+-- ---- an ADU that was taken
+
+-- a flow, bytes, and no more than its length's two bytes can say
+pub record Taken (flow : ℕ) (adu : List ℕ) : Type 0 where
+  pub flow-byte : flow < 256
+  pub adu-bytes : Bytes adu
+  pub short : length adu ≤ 65535
+
+pub begun : (t : Setting) (l : List SenderCall) → SenderRun t l → (p flow : ℕ) (adu : List ℕ) → Begins (t .size) l p flow adu → Taken flow adu
+begun t l r p flow adu b =
+    let x = added flow adu (b .out) (Done (b .answer)) (b .m′) (b .out′) in
+    let (m, h, c) = ran t [] (r .after) (b .before) (x ∷ b .after) (run-holds t l r) (rw (b .split) at (r .calls)) in
+    let xs = symbolsOf (t .size) (b .before) in
+    let (f, g, q, d) = c in
+    let a = added-done t xs flow adu (b .answer) m (b .out) (b .m′) (b .out′) _ refl (q .follows (holding t xs) h) in
+    record { flow-byte = f; adu-bytes = g; short = a .short }
+
+-- its symbols stand among the sender's
+pub begun-symbols : (E : ℕ) (l : List SenderCall) (p flow : ℕ) (adu : List ℕ) (b : Begins E l p flow adu)
+    → symbolsOf E l ≡ symbolsOf E (b .before) ++ (sourceSymbols flow adu E ++ symbolsOf E (b .after))
+begun-symbols E l p flow adu b = ap (symbolsOf E) (b .split) ∙ symbols-append E (b .before) _
+
+-- a packet of the sender's is of its symbols
+pub sent-wrote : (t : Setting) (l : List SenderCall) → SenderRun t l → (x : Packet) (p : ℕ) → Sent (t .scheme) (t .size) l x p
+    → Wrote (t .scheme) (t .size) (symbolsOf (t .size) l) x p
+sent-wrote t l r x p (sent-source {flow = flow} {adu = adu} b) =
+    let g = begun t l r p flow adu b in
+    rw (b .place) (wrote-source (symbolsOf (t .size) (b .before)) (symbolsOf (t .size) (b .after)) flow adu (g .flow-byte) (g .adu-bytes) (g .short)
+    (begun-symbols (t .size) l p flow adu b))
+sent-wrote t l r x p (sent-repair w) = w
 
 pub sender-packets : Sender-packets
-sender-packets t l r = ran t [] (r .after) l (opened-holds t (r .before) (r .after) (r .answer) _ refl (r .opened) (r .answered)) (r .calls)
+sender-packets t l r = all-wrote (packetsOf l) (sender-sends t l r)
+  where
+    all-wrote : (xs : List Packet) → AllSent (t .scheme) (t .size) l xs → AllWrote (t .scheme) (t .size) (symbolsOf (t .size) l) xs
+    all-wrote [] s = tt
+    all-wrote (x ∷ xs) ((p, s), ss) = ((p, sent-wrote t l r x p s), all-wrote xs ss)

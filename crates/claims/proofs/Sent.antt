@@ -1,6 +1,5 @@
 -- The sender's symbols satisfy the sender's packets, which are accepted and shown.
-use mathlib.Core.Path.{_≡_, refl, sym, ap, _∙_, subst}
-use mathlib.Core.Option.{Option, none, some}
+use mathlib.Core.Path.{_≡_, refl, ap, _∙_, subst}
 use mathlib.Core.List.{List, [], _∷_, _++_, map}
 use Prim.Native.Nat.{ℕ, _+_, _-_, _%_, _^_, _≤_, _<_}
 use native.Mathlib.Nat.{mod-lt, add-zero}
@@ -9,32 +8,29 @@ use lib.Dec.{lit<}
 use lib.ListN.{length, getD, length-map}
 use Rattle.wire.specs.declared.Setting.{Setting}
 use Rattle.wire.specs.Numbers.{distanceOf}
-use Rattle.wire.specs.Settings.{schemeNumber, settingOf, Valid}
+use Rattle.wire.specs.Settings.{Valid}
 use Rattle.wire.specs.Packets.{Sized, symbolCount, sourceSymbols, sourcePacket, repairPacket}
-use Rattle.wire.proofs.Settings.{setting-names}
 use Rattle.wire.proofs.Reading.{source-adu, source-esi, repair-symbols, repair-key, density-threshold, protected-count, first-esi}
 use Rattle.coefficients.specs.Coefficients.{coefficientsOf, keys, listsOf}
 use Rattle.coefficients.proofs.Lists.{length-keys}
 use Rattle.rows.specs.Combination.{combination}
 use Rattle.rows.proofs.Combinations.{length-combination}
 use Rattle.sender.specs.Repair.{repairSymbol}
-use Rattle.sender.specs.Calls.{openingWith, opening}
-use Rattle.sender.specs.Promises.{bytes, refusal as refused, Follows}
 use Rattle.receiver.specs.History.{Filling, Located, source, repair, Satisfied, All, source-call, repair-call, Reading, fails}
 use Rattle.receiver.specs.History.{located, workingSize, readPacket, reading, Log, fresh, baseOf, Said, value, refusal, IsValue, logged}
 use Rattle.receiver.specs.Promises.{Layout, said}
 use Rattle.receiver.proofs.Readings.{source-read, repair-read, reading-passed}
-use Rattle.claims.specs.SenderRun.{SenderCall, SenderRun, symbolsOf, AreSymbols, Packet}
+use Rattle.claims.specs.SenderRun.{SenderCall, symbolsOf, AreSymbols, Packet}
 use Rattle.claims.specs.SenderRun.{Wrote, wrote-source, wrote-repair}
 use Rattle.claims.specs.Run.{Step, read, goes-on, history}
 use Rattle.claims.specs.Carrying.{Carries}
 use Rattle.claims.specs.Sent.{callOf, named, Near, AsWritten, Peers, Sender-fills, Sent-accepted, Sent-shown}
-use Rattle.claims.proofs.Sending.{sender-symbols}
+use Rattle.claims.proofs.Sending.{run-size, sender-symbols}
 use Rattle.claims.proofs.Carrying.{stretch, filler, filler-carries}
 use Rattle.claims.proofs.Reading.{reads}
 
 -- A position near the base is found again by its ESI, unless it lies behind.
-found-again : (p base : ℕ) → p < base + 2 ^ 31 → base < p + 2 ^ 31 → distanceOf (p % 2 ^ 32) (base % 2 ^ 32) < 2 ^ 31
+pub found-again : (p base : ℕ) → p < base + 2 ^ 31 → base < p + 2 ^ 31 → distanceOf (p % 2 ^ 32) (base % 2 ^ 32) < 2 ^ 31
     → base + distanceOf (p % 2 ^ 32) (base % 2 ^ 32) ≡ p
 found-again p base a b h = omega arith
 
@@ -76,7 +72,7 @@ module _ (s : Setting) (z : 0 < s .size) (all : List (List ℕ)) where
       let esi-is = source-esi adu (p % 2 ^ 32) (mod-lt p (lit< tt)) in
       let here = found-again p base (n .ahead) (n .behind) (rw esi-is at (r .near)) in
       subst (λ x. Satisfied E x f) (r .says)
-      (rw (esi-is, source-adu adu (p % 2 ^ 32), here) (stretch E f before (sourceSymbols flow adu E) after all e c))
+      (rw (esi-is, source-adu adu (p % 2 ^ 32), here) (stretch E 0 f before (sourceSymbols flow adu E) after all e c p (add-zero p)))
 
   repair-satisfied : (before window after : List (List ℕ)) (key dt count : ℕ) → key < 2 ^ 16 → dt ≤ 15 → length window ≤ 255
       → all ≡ before ++ (window ++ after) → (base : ℕ) → Near (length before) base → (q : Located)
@@ -99,10 +95,11 @@ module _ (s : Setting) (z : 0 < s .size) (all : List (List ℕ)) where
         repair-symbols key dt m (p % 2 ^ 32) E xs (repairs-sized window key dt count) z,
         repairs-count window key dt count,
       )
-      (ap (λ (x : List (List ℕ)). map (λ (l : List ℕ). combination E l x) (listsOf scheme dt m (keys key count))) (stretch E f before window after all e c)
+      (ap (λ (x : List (List ℕ)). map (λ (l : List ℕ). combination E l x) (listsOf scheme dt m (keys key count)))
+      (stretch E 0 f before window after all e c p (add-zero p))
       ∙ repairs-combine window dt (keys key count)))
 
-  written-satisfied : (x : Packet) (p : ℕ) → Wrote scheme E all x p → (base : ℕ) → Near p base → (q : Located) → readPacket s base (callOf x) ≡ located q
+  pub written-satisfied : (x : Packet) (p : ℕ) → Wrote scheme E all x p → (base : ℕ) → Near p base → (q : Located) → readPacket s base (callOf x) ≡ located q
       → (f : Filling E) → Carries E 0 all f → Satisfied E q f
   written-satisfied x p (wrote-source before after flow adu i j l e) base near q h f g = source-satisfied before after flow adu e base near q h f g
   written-satisfied x p (wrote-repair before window after key dt count k d w v i j o e) base near q h f g =
@@ -144,20 +141,8 @@ module _ (s : Setting) (z : 0 < s .size) (all : List (List ℕ)) where
       let n = protected-count key dt m (length before % 2 ^ 32) xs (omega arith) (omega arith) in
       let g = reads s w base room d enough (omega arith) .repairs key dt m xs i j u (omega (arith, n)) (repairs-sized window key dt count)
       (omega (arith, many)) (omega (arith, many)) (rw many ok) .taken (omega arith) (omega (arith, n)) in
-      (_, subst (λ y. reading s base room (repair-call (repairPacket key dt m (y % 2 ^ 32) xs)) ≡ located (repair y m (listsOf scheme dt m (keys key (length xs))) xs)) here g)
-
-impossible : (n k : ℕ) → bytes n ≡ refused k → ⊥
-impossible n k e = let z : _≡_ {A = ℕ} 0 1 = cc in omega arith
-
--- A sender that was opened has symbols of some bytes.
-run-bytes : (t : Setting) (l : List SenderCall) → SenderRun t l → 0 < t .size
-unfolding opening
-run-bytes t l r = go (settingOf (schemeNumber (t .scheme)) (t .size) (t .width)) refl (r .opened)
-  where
-    go : (o : Option Setting) → settingOf (schemeNumber (t .scheme)) (t .size) (t .width) ≡ o
-        → Follows (openingWith o (length (r .before))) (r .before) [] (r .answer) (r .after) [] → 0 < t .size
-    go none e k = absurd (impossible 0 1 (sym (r .answered) ∙ k .answer))
-    go (some u) e k = let n = setting-names _ _ _ u e in omega (arith, n .size, n .valid .size-least)
+      let lists = listsOf scheme dt m (keys key (length xs)) in
+      (_, subst (λ y. reading s base room (repair-call (repairPacket key dt m (y % 2 ^ 32) xs)) ≡ located (repair y m lists xs)) here g)
 
 pub sender-fills : Sender-fills
 sender-fills s v all ts w f c = filled s (omega (arith, v .size-least)) all ts fresh w f c tt
@@ -166,14 +151,20 @@ module _ (t s : Setting) (l : List SenderCall) (k : Peers t s l) where
   abbrev all : List (List ℕ)
   all = symbolsOf (s .size) l
 
-  abbrev some-bytes : 0 < s .size
-  some-bytes = subst (λ n. 0 < n) (k .size) (run-bytes t l (k .run))
+  pub peer-size : 4 ≤ s .size
+  peer-size = subst (λ n. 4 ≤ n) (k .size) (run-size t l (k .run))
+
+  some-bytes : 0 < s .size
+  some-bytes = omega (arith, peer-size)
+
+  pub peer-symbols : AreSymbols (s .size) all
+  peer-symbols = subst (λ E. AreSymbols E (symbolsOf E l)) (k .size) (sender-symbols t l (k .run))
 
   abbrev f : Filling (s .size)
   f = filler (s .size) all
 
   carries : Carries (s .size) 0 all f
-  carries = filler-carries (s .size) all (subst (λ E. AreSymbols E (symbolsOf E l)) (k .size) (sender-symbols t l (k .run)))
+  carries = filler-carries (s .size) all peer-symbols
 
   accepted : (ts : List Step) → AsWritten s all fresh ts → All (s .size) (history s ts .accepted) f
   accepted ts w = filled s some-bytes all ts fresh w f carries tt
@@ -184,8 +175,9 @@ sent-accepted t s l k v ts w x p o a b c room enough r j =
     let base = baseOf (history s ts) in
     let (q, e) = read-ahead s z (all t s l k) x p o base a b c v room enough in
     let near : Near p base = record { ahead = omega arith; behind = omega arith } in
-    j .accepted .1
-    (q, e, (f t s l k, (written-satisfied s z (all t s l k) x p o base near q (reading-passed s base room (callOf x) q e) (f t s l k) (carries t s l k), accepted t s l k ts w)))
+    let h = reading-passed s base room (callOf x) q e in
+    let sat = written-satisfied s z (all t s l k) x p o base near q h (f t s l k) (carries t s l k) in
+    j .accepted .1 (q, e, (f t s l k, (sat, accepted t s l k ts w)))
 
 pub sent-shown : (L : Layout) → Sent-shown L
 sent-shown L t s l k ts m d w i h n a p e memory part g q =

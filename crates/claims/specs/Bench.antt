@@ -22,23 +22,32 @@ use Rattle.sender.specs.declared.Header.{Header}
 use Rattle.sender.specs.State.{Sender, fresh, headerIn}
 use Rattle.sender.specs.Repair.{repairSymbol}
 use Rattle.sender.specs.Calls.{Outcome, refused, done, opening, adding, repairing}
+use Rattle.starts.specs.Adu.{joint, Handing, hands, withholds, need, handing}
+use Rattle.starts.specs.Starts.{Starts, zeroth, pass}
 use Rattle.receiver.specs.Symbol.{bytesOf}
 use Rattle.receiver.specs.History.{Call, source-call, repair-call, placeOf, check, placed, readSource, readRepair, reading, workingSize}
 use Rattle.receiver.specs.History.{Said, value, refusal as refuses}
 use Rattle.receiver.specs.Model as receiver
-use Rattle.receiver.specs.Model.{State, saidOf, stateAfter, receiving, Finding, shows, hides, finding}
+use Rattle.receiver.specs.Model.{State, saidOf, stateAfter, receiving, Finding, shows, hides, finding, startsAfter, marking, aduAt}
 
 -- what the symbol call and the part show for an ESI: an answer, and bytes
 pub record Sight : Type 0 where
   pub answer : Said
   pub bytes : List ℕ
 
--- a line of the sheet: numbers, the bytes of a packet, or the number of a refusal; or what packet calls answered, and what was shown after them
+-- an ADU call: the ESI, and how many bytes of output it has
+pub record Ask : Type 0 where
+  pub esi : ℕ
+  pub room : ℕ
+
+-- a line of the sheet: numbers, the bytes of a packet, or the number of a refusal; or what packet calls answered, and what was shown or handed out
+-- after them
 pub data Line : Type 0 where
   numbers : List ℕ → Line
   packet : List ℕ → Line
   refusal : ℕ → Line
   received : (answers : List Said) (sights : List Sight) → Line
+  handed : (answers : List Said) (adus : List Handing) → Line
 
 -- ---- a sender
 
@@ -86,6 +95,21 @@ module _ (s : Setting) where
   abbrev case : List Call → List ℕ → Line
   case cs es = received (answers (receiver.opened s) cs) (map (λ e. seen (finding s (state (receiver.opened s) cs) e)) es)
 
+  -- the marks after them
+  abbrev marks : State s → Starts → List Call → Starts
+  marks t M [] = M
+  marks t M (c ∷ cs) =
+      let r = reading s (t .base) (workingSize s) c in
+      let o = receiving s t (workingSize s) c in
+      marks (stateAfter t o) (marking s t M r o) cs
+
+  -- the calls of a list from a fresh receiver, and what is handed out after them
+  abbrev handing-case : List Call → List Ask → Line
+  handing-case cs asks =
+      let t = state (receiver.opened s) cs in
+      let M = marks (receiver.opened s) zeroth cs in
+      handed (answers (receiver.opened s) cs) (map (λ (a : Ask). aduAt s t M (a .room) (a .esi)) asks)
+
 -- scheme 9 and scheme 10, E 4
 abbrev gf2 : ℕ → Setting
 gf2 w = record { scheme = Gf2; size = 4; width = w }
@@ -110,6 +134,17 @@ repair-of n b = repair-call (0 ∷ 0 ∷ 0xF0 ∷ n ∷ 0 ∷ 0 ∷ 0 ∷ 0 ∷ 
 -- a repair packet of key 1 and a DT over one symbol, its bytes zero
 abbrev zero-at : (dt : ℕ) → Call
 zero-at dt = repair-call (0 ∷ 1 ∷ dt * 16 ∷ 1 ∷ 0 ∷ 0 ∷ 0 ∷ 0 ∷ 0 ∷ 0 ∷ 0 ∷ 0 ∷ [])
+
+-- a repair packet over the one symbol at a small ESI, which is these bytes
+abbrev symbol-at : (esi a b c d : ℕ) → Call
+symbol-at e a b c d = repair-call (0 ∷ 0 ∷ 0xF0 ∷ 1 ∷ 0 ∷ 0 ∷ 0 ∷ e ∷ a ∷ b ∷ c ∷ d ∷ [])
+
+-- the source packet of an ADU of five bytes, which takes two symbols, at ESI 0
+abbrev five : Call
+five = source-call 1 (0x11 ∷ 1 ∷ 0 ∷ 1 ∷ 0x55 ∷ 0 ∷ 0 ∷ 0 ∷ 0 ∷ [])
+
+abbrev ask : (esi room : ℕ) → Ask
+ask e n = record { esi = e; room = n }
 
 -- a symbol that is shown, and a refusal
 abbrev known : List ℕ → Sight
@@ -158,6 +193,26 @@ pub bench :
     -- DT 4, 7 and 8, in both schemes: the coefficient is zero at 4
     ∷ case (gf2 1) (zero-at 4 ∷ zero-at 7 ∷ zero-at 8 ∷ []) []
     ∷ case (gf256 1) (zero-at 4 ∷ zero-at 7 ∷ zero-at 8 ∷ []) []
+    -- the ADU call of a fresh receiver: the first position is a start but not known, the second no start, then past the window and behind
+    ∷ handing-case (gf2 2) [] (ask 0 0 ∷ ask 1 0 ∷ ask 2 0 ∷ ask 2147483647 0 ∷ ask 2147483648 0 ∷ [])
+    -- 13: position 1, known by repair
+    ∷ handing-case (gf2 2) (symbol-at 1 1 0 1 0x42 ∷ []) (ask 1 1 ∷ [])
+    -- 14: L 2 with width 1; padding not zero, which comes before a short output
+    ∷ handing-case (gf2 1) (symbol-at 0 1 0 2 0x41 ∷ []) (ask 0 2 ∷ [])
+    ∷ handing-case (gf2 2) (symbol-at 0 1 0 0 0x41 ∷ []) (ask 0 0 ∷ []) ∷ handing-case (gf2 2) (symbol-at 0 1 0 1 0x41 ∷ []) (ask 0 1 ∷ ask 0 0 ∷ [])
+    -- an empty ADU; an ADU of exactly 2 symbols, with output enough and one byte short; its first symbol alone; L that runs past the window
+    ∷ handing-case (gf2 2) (empty-at 0 0 0 0 ∷ []) (ask 0 0 ∷ [])
+    ∷ handing-case (gf2 2) (five ∷ []) (ask 0 5 ∷ ask 0 4 ∷ ask 1 5 ∷ [])
+    ∷ handing-case (gf2 2) (symbol-at 0 1 0 5 0x11 ∷ []) (ask 0 5 ∷ [])
+    ∷ handing-case (gf2 2) (adu 0x41 0 ∷ symbol-at 1 1 0 5 0x42 ∷ []) (ask 1 5 ∷ [])
+    -- the mark at base + width stays; a mark past it comes back, but not if its position has left
+    ∷ handing-case (gf2 2) (five ∷ symbol-at 2 1 0 1 0x43 ∷ []) (ask 2 1 ∷ [])
+    ∷ handing-case (gf2 2) (adu 0x41 0 ∷ symbol-at 1 1 0 5 0x42 ∷ symbol-at 2 0x43 0x44 0x45 0x46 ∷ symbol-at 3 1 0 1 0x47 ∷ []) (ask 3 1 ∷ [])
+    ∷ handing-case (gf2 2) (adu 0x41 0 ∷ symbol-at 1 1 0 5 0x42 ∷ symbol-at 3 1 0 1 0x47 ∷ []) (ask 3 1 ∷ [])
+    -- a position that becomes known marks the next in the same call, and so on
+    ∷ handing-case (gf2 4) (symbol-at 1 1 0 1 0x42 ∷ symbol-at 2 1 0 1 0x43 ∷ symbol-at 0 1 0 1 0x41 ∷ []) (ask 0 1 ∷ ask 1 1 ∷ ask 2 1 ∷ ask 3 1 ∷ [])
+    -- a start inside of an ADU, marked by a packet that agrees with it: the filling's bytes from there on, which are no ADU of the sender's
+    ∷ handing-case (gf2 2) (five ∷ adu 0x55 1 ∷ []) (ask 0 5 ∷ ask 1 1 ∷ [])
     ∷ []
     ≡ numbers (29 ∷ []) ∷ numbers (9 ∷ []) ∷ numbers (142 ∷ [])
     ∷ numbers (37 ∷ 225 ∷ 177 ∷ 176 ∷ 21 ∷ []) ∷ numbers (0 ∷ 1 ∷ 1 ∷ 1 ∷ 0 ∷ 0 ∷ []) ∷ numbers (0 ∷ 177 ∷ 21 ∷ 0 ∷ 0 ∷ [])
@@ -174,6 +229,19 @@ pub bench :
     ∷ received [] (says 12 ∷ says 12 ∷ says 12 ∷ says 8 ∷ says 8 ∷ [])
     ∷ received (value 2 ∷ []) (known (1 ∷ 0 ∷ 2 ∷ 7 ∷ []) ∷ known (7 ∷ 0 ∷ 0 ∷ 0 ∷ []) ∷ []) ∷ received (refuses 9 ∷ []) []
     ∷ received (value 0 ∷ value 1 ∷ value 0 ∷ []) [] ∷ received (value 0 ∷ value 1 ∷ value 0 ∷ []) []
+    ∷ handed [] (withholds 12 ∷ withholds 13 ∷ withholds 12 ∷ withholds 12 ∷ withholds 8 ∷ [])
+    ∷ handed (value 1 ∷ []) (withholds 13 ∷ [])
+    ∷ handed (value 1 ∷ []) (withholds 14 ∷ [])
+    ∷ handed (value 1 ∷ []) (withholds 14 ∷ []) ∷ handed (value 1 ∷ []) (hands 1 (0x41 ∷ []) ∷ withholds 2 ∷ [])
+    ∷ handed (value 1 ∷ []) (hands 1 [] ∷ [])
+    ∷ handed (value 2 ∷ []) (hands 1 (0x11 ∷ 1 ∷ 0 ∷ 1 ∷ 0x55 ∷ []) ∷ withholds 2 ∷ withholds 13 ∷ [])
+    ∷ handed (value 1 ∷ []) (withholds 12 ∷ [])
+    ∷ handed (value 1 ∷ value 1 ∷ []) (withholds 12 ∷ [])
+    ∷ handed (value 2 ∷ value 1 ∷ []) (hands 1 (0x43 ∷ []) ∷ [])
+    ∷ handed (value 1 ∷ value 1 ∷ value 1 ∷ value 1 ∷ []) (hands 1 (0x47 ∷ []) ∷ [])
+    ∷ handed (value 1 ∷ value 1 ∷ value 1 ∷ []) (withholds 13 ∷ [])
+    ∷ handed (value 1 ∷ value 1 ∷ value 1 ∷ []) (hands 1 (0x41 ∷ []) ∷ hands 1 (0x42 ∷ []) ∷ hands 1 (0x43 ∷ []) ∷ withholds 12 ∷ [])
+    ∷ handed (value 2 ∷ value 0 ∷ []) (hands 1 (0x11 ∷ 1 ∷ 0 ∷ 1 ∷ 0x55 ∷ []) ∷ hands 1 (0x55 ∷ []) ∷ [])
     ∷ []
 unfolding
     computing product inverse inverse-below nonzeroFrom bitOf byteOf extend coefficientsOf combination
@@ -186,4 +254,5 @@ unfolding
     decoder.embed decoder.advance-by decoder.insert-all
     model.insert model.known model.settle model.settle-by model.reduce model.place model.place-free model.lead model.at
     model.axpy model.scale model.symbol model.push model.extend model.advance
+    joint need handing pass startsAfter aduAt
 bench = refl

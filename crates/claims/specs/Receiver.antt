@@ -3,6 +3,7 @@ use Rattle.receiver.specs.Layout.{receiverLayout}
 use Rattle.claims.specs.Demand.{Every-list, No-choice}
 use Rattle.claims.specs.Reading.{Reads}
 use Rattle.claims.specs.Sent.{Sender-fills, Sent-accepted, Sent-shown}
+use Rattle.claims.specs.SentAdus.{Sender-sends, Start-gives, Junk-gives, Sent-written, Sent-starts, Sent-handed}
 use Rattle.claims.specs.NotEmpty.{Runs-exist}
 use Rattle.claims.specs.ReceiverUnopened.{Receiver-unopened}
 
@@ -14,4 +15,10 @@ pub record Receiver-claims : Type 0 where
   pub sender-fills : Sender-fills
   pub sent-accepted : Sent-accepted
   pub sent-shown : Sent-shown receiverLayout
+  pub sender-sends : Sender-sends
+  pub start-gives : Start-gives
+  pub junk-gives : Junk-gives
+  pub sent-written : Sent-written
+  pub sent-starts : Sent-starts
+  pub sent-handed : Sent-handed
   pub unopened : Receiver-unopened

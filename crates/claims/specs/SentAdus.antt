@@ -1,19 +1,18 @@
 -- A sender's ADUs at the receiver: what is handed out at the start of one, and that packets of the sender's alone mark no other position.
 use mathlib.Core.Path.{_≡_}
 use mathlib.Core.List.{List, [], _∷_, _++_}
-use Prim.Native.Nat.{ℕ, _+_, _%_, _^_}
-use lib.ListN.{length}
+use Prim.Native.Nat.{ℕ, _+_, _%_, _^_, _≤_}
+use lib.ListN.{length, take, drop}
 use Rattle.wire.specs.declared.Scheme.{Scheme}
 use Rattle.wire.specs.declared.Setting.{Setting}
-use Rattle.wire.specs.Settings.{Valid}
-use Rattle.wire.specs.Packets.{sourcePacket}
+use Rattle.wire.specs.Packets.{symbolCount, sourceSymbols, sourcePacket}
 use Rattle.sender.specs.declared.Answer.the-variants.{Done}
 use Rattle.receiver.specs.History.{Filling, Located, All, Log, fresh, baseOf, IsValue, logged, Start}
 use Rattle.receiver.specs.Promises.{said}
 use Rattle.claims.specs.SenderRun.{SenderCall, added, SenderRun, symbolsOf, Packet, source, repair, packetsOf, Wrote}
 use Rattle.claims.specs.Run.{Step, read, history}
 use Rattle.claims.specs.Carrying.{Carries}
-use Rattle.claims.specs.Sent.{callOf, Near, Peers}
+use Rattle.claims.specs.Sent.{callOf, Near, AsWritten, Peers}
 use Rattle.claims.specs.Handing.{HoldsAdu}
 
 module _ (E : ℕ) (l : List SenderCall) where
@@ -56,6 +55,14 @@ Start-gives =
     → (p flow : ℕ) (adu : List ℕ) → HoldsAdu s qs base p flow adu
     → (flow′ : ℕ) (adu′ : List ℕ) → Begins (s .size) l (p + offset) flow′ adu′ → (flow ≡ flow′) × (adu ≡ adu′)
 
+-- At any other position too, where the sender has symbols there, what is handed out is those symbols. So a chain of starts that began on bytes that are no
+-- ADU's first can give the sender's bytes cut at a wrong place, with the flow and length that they happen to spell there; it can't give other bytes.
+abbrev pub Junk-gives : Type 0
+Junk-gives =
+    (s : Setting) (qs : List Located) (base offset : ℕ) (all : List (List ℕ)) (f : Filling (s .size)) → All (s .size) qs f → Carries (s .size) offset all f
+    → (p flow : ℕ) (adu : List ℕ) → HoldsAdu s qs base p flow adu → p + offset + symbolCount (s .size) (length adu) ≤ length all
+    → sourceSymbols flow adu (s .size) ≡ take (symbolCount (s .size) (length adu)) (drop (p + offset) all)
+
 -- All packets that the list accepts are this sender's, and stood less than 2^31 positions from base on arrival.
 module _ (s : Setting) (l : List SenderCall) where
   abbrev pub AsSent : Log → List Step → Type 0
@@ -64,15 +71,20 @@ module _ (s : Setting) (l : List SenderCall) where
       (IsValue (said (t .answer)) → (x : Packet) × (p : ℕ) × (callOf x ≡ t .call) × Sent (s .scheme) (s .size) l x p × Near p (baseOf log))
       × AsSent (logged s log (read s log t) (said (t .answer))) ts
 
+-- Then all of them are as it wrote them: what is claimed of such packets is claimed of these.
+abbrev pub Sent-written : Type 0
+Sent-written =
+    (t s : Setting) (l : List SenderCall) → Peers t s l → (ts : List Step) → AsSent s l fresh ts → AsWritten s (symbolsOf (s .size) l) fresh ts
+
 -- Then every start is the first symbol of one of its ADUs, or the end of all.
 abbrev pub Sent-starts : Type 0
 Sent-starts =
-    (t s : Setting) (l : List SenderCall) → Peers t s l → Valid s → (ts : List Step) → AsSent s l fresh ts
+    (t s : Setting) (l : List SenderCall) → Peers t s l → (ts : List Step) → AsSent s l fresh ts
     → (p : ℕ) → Start s (history s ts .accepted) p → Boundary (s .size) l p
 
 -- And what is handed out is an ADU that it took, with its flow.
 abbrev pub Sent-handed : Type 0
 Sent-handed =
-    (t s : Setting) (l : List SenderCall) → Peers t s l → Valid s → (ts : List Step) → AsSent s l fresh ts
+    (t s : Setting) (l : List SenderCall) → Peers t s l → (ts : List Step) → AsSent s l fresh ts
     → (p flow : ℕ) (adu : List ℕ) → Start s (history s ts .accepted) p → HoldsAdu s (history s ts .accepted) (baseOf (history s ts)) p flow adu
     → Begins (s .size) l p flow adu

@@ -22,7 +22,9 @@ use Rattle.elimination.specs.Window as window
 use Rattle.receiver.specs.declared.Header.{Header}
 use Rattle.receiver.specs.History.{source, repair, Place, behind, ahead, placeOf, Call, source-call, repair-call, Reading, fails}
 use Rattle.receiver.specs.History.{located, check, placed, readSource, readRepair, reading}
-use Rattle.receiver.specs.Model.{State, Outcome, refused, done, added, responds, receiving}
+use Rattle.starts.specs.Starts.{Starts, also, moved, seen}
+use Rattle.starts.proofs.Agreeing.{Agree, also-agree, moved-agree, pass-agree}
+use Rattle.receiver.specs.Model.{State, Outcome, refused, done, added, responds, receiving, stateAfter, startsAfter, marking}
 use Rattle.receiver.specs.Layout.{headerOf, Holds}
 
 -- ---- Memory
@@ -215,3 +217,76 @@ module _ (s : Setting) where
       subst (λ S. Alike s (responds s t (reading s (t .base) room c)) (responds s (record { base = u .base; window = S }) (reading s (u .base) room c)))
       (k .window)
       (responds-alike (t .base) (u .base) (t .window) _ _ (k .row) (k .esi) (reading-shifted (t .base) (u .base) s room c (k .esi)))
+
+-- ---- Marks
+
+module _ (s : Setting) where
+  open Setting s using (size as E, width as w)
+
+  -- After a packet that is read at two bases, marks that agree do.
+  naming-agree : (b c d n k : ℕ) (M N : Starts) → Agree w M N → Agree w (also (b + d - (b + k)) (also (b + d + n - (b + k)) M))
+      (also (c + d - (c + k)) (also (c + d + n - (c + k)) N))
+  naming-agree b c d n k M N a i l =
+      let e : b + d - (b + k) ≡ c + d - (c + k) = omega arith in
+      let f : b + d + n - (b + k) ≡ c + d + n - (c + k) = omega arith in
+      ap₂ (λ x y. also x (also y M) i) e f
+      ∙ also-agree w (also (c + d + n - (c + k)) M) (also (c + d + n - (c + k)) N) (also-agree w M N a (c + d + n - (c + k))) (c + d - (c + k)) i l
+
+  rising-agree : (b c k : ℕ) (M N : Starts) → Agree w M N → Agree w (moved w (b + k - b) M) (moved w (c + k - c) N)
+  rising-agree b c k M N a i l =
+      let e : b + k - b ≡ c + k - c = omega arith in
+      ap (λ x. moved w x M i) e ∙ moved-agree w M N a (c + k - c) i l
+
+  module _ (b c : ℕ) (S : model.State (Coded E) w) (M N : Starts) (a : Agree w M N) where
+    abbrev one : State s
+    one = record { base = b; window = S }
+
+    abbrev other : State s
+    other = record { base = c; window = S }
+
+    source-agree : (d k : ℕ) (vs : List (List ℕ)) (o : Option (model.State (Coded E) w))
+        → Agree w (marking s one M (located (source (b + d) vs)) (added s one (decoder.and-then o (λ T. some (record { base = b + k; window = T })))))
+        (marking s other N (located (source (c + d) vs)) (added s other (decoder.and-then o (λ T. some (record { base = c + k; window = T })))))
+    unfolding startsAfter
+    source-agree d k vs none i l = a i l
+    source-agree d k vs (some T) i l =
+        pass-agree w E (seen E w T) _ _ (naming-agree b c d (length vs) k _ _ (rising-agree b c k M N a)) w (omega arith) i l
+
+    repair-agree : (d n k : ℕ) (cs vs : List (List ℕ)) (o : Option (model.State (Coded E) w))
+        → Agree w (marking s one M (located (repair (b + d) n cs vs)) (added s one (decoder.and-then o (λ T. some (record { base = b + k; window = T })))))
+        (marking s other N (located (repair (c + d) n cs vs)) (added s other (decoder.and-then o (λ T. some (record { base = c + k; window = T })))))
+    unfolding startsAfter
+    repair-agree d n k cs vs none i l = a i l
+    repair-agree d n k cs vs (some T) i l = pass-agree w E (seen E w T) _ _ (rising-agree b c k M N a) w (omega arith) i l
+
+    source-packet : (d n : ℕ) (vs : List (List ℕ)) (rows : List (Row (Coded E) n))
+        → Agree w (marking s one M (located (source (b + d) vs)) (added s one (decoder.receive one (packet s b d n rows))))
+        (marking s other N (located (source (c + d) vs)) (added s other (decoder.receive other (packet s c d n rows))))
+    source-packet d n vs rows i l =
+        rw (receive-at s b d n rows S, receive-at s c d n rows S) (source-agree d (rise s d n) vs (inserted s d n rows S) i l)
+
+    repair-packet : (d n : ℕ) (cs vs : List (List ℕ)) (rows : List (Row (Coded E) n))
+        → Agree w (marking s one M (located (repair (b + d) n cs vs)) (added s one (decoder.receive one (packet s b d n rows))))
+        (marking s other N (located (repair (c + d) n cs vs)) (added s other (decoder.receive other (packet s c d n rows))))
+    repair-packet d n cs vs rows i l =
+        rw (receive-at s b d n rows S, receive-at s c d n rows S) (repair-agree d n (rise s d n) cs vs (inserted s d n rows S) i l)
+
+    marking-shifted : (r q : Reading) → Shifted b c r q → Agree w (marking s one M r (responds s one r)) (marking s other N q (responds s other q))
+    unfolding packets.source packets.repair
+    marking-shifted r q (both-fail n) i l = a i l
+    marking-shifted r q (both-source d vs) i l = source-packet d (length vs) vs _ i l
+    marking-shifted r q (both-repair d n cs vs) i l = repair-packet d n cs vs _ i l
+
+  -- The marks after a packet call.
+  pub marking-alike : (t u : State s) (room : ℕ) (c : Call) (M N : Starts) → Same s t u → Agree w M N
+      → Agree w (marking s t M (reading s (t .base) room c) (receiving s t room c)) (marking s u N (reading s (u .base) room c) (receiving s u room c))
+  unfolding receiving
+  marking-alike t u room c M N k a =
+      subst (λ S. Agree w (marking s t M (reading s (t .base) room c) (responds s t (reading s (t .base) room c)))
+      (marking s (record { base = u .base; window = S }) N (reading s (u .base) room c) (responds s (record { base = u .base; window = S }) (reading s (u .base) room c))))
+      (k .window)
+      (marking-shifted (t .base) (u .base) (t .window) M N a _ _ (reading-shifted (t .base) (u .base) s room c (k .esi)))
+
+  pub same-after : (o p : Outcome s) → Alike s o p → (t u : State s) → Same s t u → Same s (stateAfter t o) (stateAfter u p)
+  same-after o p (both-refused n) t u k = k
+  same-after o p (both-done n x y e) t u k = e

@@ -1,16 +1,16 @@
 -- A packet's rows joined with the state's, and the header with the new base: the memory holds the state after the packet.
 use mathlib.Core.Path.{_≡_, refl, sym, ap, ap₂, _∙_, subst}
-use mathlib.Core.Option.{Option, some, Option·some-injective}
+use mathlib.Core.Option.{some, Option·some-injective}
 use mathlib.Core.List.{List}
 use Prim.Native.Nat.{ℕ, _+_, _%_, _^_, _≤_, _<_}
 use native.Mathlib.Nat.{mod-lt}
 use native.Mathlib.Omega.{arith}
-use lib.ListN.{length, take, drop}
-use lib.Seq.{take-take}
+use lib.ListN.{length, take, drop, getD}
+use lib.Seq.{take-take, getD-take}
 use Rattle.memory.specs.Part.{part, splice}
 use Rattle.memory.specs.Number.{number, bytes}
 use Rattle.memory.proofs.Number.{number-bytes, length-bytes}
-use Rattle.memory.proofs.Parts.{length-splice, take-splice, past-splice, part-before, part-splice}
+use Rattle.memory.proofs.Parts.{length-splice, take-splice, past-splice, part-before, part-splice, getD-before, getD-past}
 use Rattle.wire.specs.declared.Setting.{Setting}
 use Rattle.wire.specs.Numbers.{esiAfter}
 use Rattle.wire.specs.Settings.{settingIn}
@@ -21,10 +21,10 @@ use Rattle.decoder.specs.Receiver as decoder
 use Rattle.decoder.proofs.Bytes.{laws}
 use Rattle.decoder.proofs.History as history
 use Rattle.elimination.specs.Window as window
-use Rattle.elimination.specs.Packet as packet
 use Rattle.elimination.specs.Place.{Committed}
 use Rattle.elimination.proofs.Rows.{fits-kept}
 use Rattle.elimination.proofs.Holding.{window-header}
+use Rattle.starts.specs.Marks.{flagAt}
 use Rattle.receiver.specs.declared.Header.{Header}
 use Rattle.receiver.specs.declared.packet.PacketPlace.{PacketPlace}
 use Rattle.receiver.specs.History.{memorySize}
@@ -66,6 +66,16 @@ module _ (row esi : ℕ) (m : List ℕ) (long : 64 ≤ length m) where
   rebased-past n h =
       past-splice n 12 (bytes 4 esi) m₁ (omega (arith, length-bytes 4 esi)) (omega (arith, length-first))
       ∙ past-splice n 8 (bytes 2 row) m (omega (arith, length-bytes 2 row)) (omega arith)
+
+  -- The bytes of marks.
+  rebased-spare : (k : ℕ) → 10 ≤ k → k < 12 → getD (rebased row esi m) k 0 ≡ getD m k 0
+  rebased-spare k h l =
+      getD-before k 12 (bytes 4 esi) m₁ l (omega (arith, length-first)) ∙ getD-past k 8 (bytes 2 row) m (omega (arith, length-bytes 2 row)) (omega arith)
+
+  rebased-rows : (k : ℕ) → 16 ≤ k → getD (rebased row esi m) k 0 ≡ getD m k 0
+  rebased-rows k h =
+      getD-past k 12 (bytes 4 esi) m₁ (omega (arith, length-bytes 4 esi)) (omega (arith, length-first))
+      ∙ getD-past k 8 (bytes 2 row) m (omega (arith, length-bytes 2 row)) (omega arith)
 
   pub rebased-row : row < 65536 → number (part 8 2 (rebased row esi m)) ≡ row
   rebased-row h =
@@ -122,6 +132,16 @@ module _ (h : Header) (place : PacketPlace) (kept count esi : ℕ) (work m m₁ 
       past =
           ap (drop (memorySize (h .setting))) stored ∙ rebased-past (place .shape .base) esi m₁ long (memorySize (h .setting)) (omega arith)
           ∙ f .unchanged .past;
+    };
+    marks = record {
+      header = λ k l g.
+          ap (λ x. getD x k 0) stored ∙ rebased-spare (place .shape .base) esi m₁ long k l g
+          ∙ sym (getD-take 64 m₁ k 0 (omega arith)) ∙ ap (λ x. getD x k 0) (f .unchanged .header) ∙ getD-take 64 m k 0 (omega arith);
+      rows = λ r l.
+          let w = h .setting .width in
+          let E = h .setting .size in
+          ap (λ x. getD x (flagAt w E r) 0) stored ∙ rebased-rows (place .shape .base) esi m₁ long (flagAt w E r) (omega arith)
+          ∙ f .unchanged .flags r (w + E + 1) l (omega arith) (omega arith);
     };
     outcome = λ s t es k row g.
         let is = header-held m h s t has k in

@@ -4,6 +4,7 @@ pub mod Counting
 pub mod Answers
 pub mod Readings
 pub mod Places
+pub mod Starting
 pub mod Building
 pub mod Congruent
 pub mod Naming
@@ -14,8 +15,10 @@ pub mod Opening
 pub mod Locating
 pub mod Finishing
 pub mod Gathering
+pub mod Marking
 pub mod Receiving
 pub mod Sourcing
 pub mod SourceCall
 pub mod Repairing
 pub mod RepairCall
+pub mod Giving

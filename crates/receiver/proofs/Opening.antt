@@ -1,6 +1,6 @@
 -- Opening: what it answers, and that the memory it leaves holds a fresh receiver.
 use mathlib.Core.Path.{_≡_, refl, sym, ap, ap₂, _∙_, subst}
-use mathlib.Core.Option.{Option, none, some, Option·some-injective}
+use mathlib.Core.Option.{none, some, Option·some-injective}
 use mathlib.Core.List.{List}
 use Prim.Native.Nat.{ℕ, _+_, _%_, _≤_, _<_}
 use native.Mathlib.Nat.{mod-eq-of-lt, zero-add}
@@ -19,17 +19,21 @@ use Rattle.wire.proofs.Settings.{setting-names, setting-written, setting-kept}
 use Rattle.decoder.specs.Receiver as decoder
 use Rattle.decoder.proofs.Bytes.{laws}
 use Rattle.decoder.proofs.History as history
-use Rattle.elimination.specs.Window as window
 use Rattle.elimination.specs.Place.{Emptied}
+use Rattle.starts.specs.Starts.{zeroth}
+use Rattle.starts.specs.Marks as marks
+use Rattle.starts.specs.Contracts.{Begun}
 use Rattle.receiver.specs.declared.Answer.the-variants.{Done, Refused}
 use Rattle.receiver.specs.History.{memorySize}
 use Rattle.receiver.specs.Model.{opened}
 use Rattle.receiver.specs.Header.{headerIn}
 use Rattle.receiver.specs.Promises.{Contained, Opened}
-use Rattle.receiver.specs.Layout.{headerOf, Holds, receiverLayout}
+use Rattle.receiver.specs.Layout.{headerOf, Holds, Marks, receiverLayout}
 use Rattle.receiver.specs.Inner.{freshHeader}
 use Rattle.receiver.proofs.Cases.{IsRefusal}
 use Rattle.receiver.proofs.Headers.{found}
+use Rattle.receiver.proofs.Gathering.{contained-more}
+use Rattle.receiver.proofs.Marking.{only-contained, only-holds}
 
 module _ (n E w : ℕ) (m : List ℕ) where
   pub opening-values : settingOf n E w ≡ none → Opened receiverLayout n E w m m (Refused Values)
@@ -38,6 +42,7 @@ module _ (n E w : ℕ) (m : List ℕ) where
     refused = λ k q. refl;
     contained = λ s q. record { same = refl; past = refl };
     holds = λ s q r. absurd (subst IsRefusal r tt);
+    starts = λ s q r. absurd (subst IsRefusal r tt);
   }
 
   pub opening-short : (s : Setting) → settingOf n E w ≡ some s → length m < memorySize s → Opened receiverLayout n E w m m (Refused Short)
@@ -46,6 +51,7 @@ module _ (n E w : ℕ) (m : List ℕ) where
     refused = λ k q. refl;
     contained = λ t q. record { same = refl; past = refl };
     holds = λ t q r. absurd (subst IsRefusal r tt);
+    starts = λ t q r. absurd (subst IsRefusal r tt);
   }
 
 -- The memory that opening leaves.
@@ -103,16 +109,24 @@ module _ (s : Setting) (v : Valid s) (m m′ : List ℕ) (room : memorySize s �
       k .kept .past ∙ past-splice (memorySize s) 8 (zeros 56) x (omega arith) (omega (arith, length-splice 0 (settingBytes 2 s) m (omega arith)))
       ∙ past-splice (memorySize s) 0 (settingBytes 2 s) m (omega arith) (omega arith)
 
-  left : (n E w : ℕ) → settingOf n E w ≡ some s → Opened receiverLayout n E w m m′ (Done 0)
-  left n E w e = record {
-    answer = rw (e, le-ltb (length m) (memorySize s) room);
-    refused = λ i q. absurd (subst IsRefusal (sym q) tt);
-    contained = λ t q.
-        subst (λ x. Contained (memorySize x) m m′) (Option·some-injective s t (sym e ∙ q)) (record { same = length-is; past = past-is });
-    holds = λ t q r. subst (λ x. Holds m′ x (opened x)) (Option·some-injective s t (sym e ∙ q)) held;
-  }
+  module _ (m″ : List ℕ) (f : Begun (s .width) (s .size) 0 m′ m″) where
+    marked : Marks m″ s (opened s) zeroth
+    unfolding decoder.fresh
+    marked =
+        subst (λ b. marks.Marks (s .width) (s .size) b m″ zeroth) (sym (mod-eq-of-lt (omega (arith, v .width-least)))) (f .marks)
 
-pub opening-done : (n E w : ℕ) (s : Setting) → settingOf n E w ≡ some s → (m m₁ m′ : List ℕ) → memorySize s ≤ length m → m₁ ≡ freshHeader s m
-    → Emptied (s .width) (s .size) m₁ m′ → Opened receiverLayout n E w m m′ (Done 0)
-opening-done n E w s e m m₁ m′ room f k =
-    left s (setting-names n E w s e .valid) m m′ room (subst (λ x. Emptied (s .width) (s .size) x m′) f k) n E w e
+    left : (n E w : ℕ) → settingOf n E w ≡ some s → Opened receiverLayout n E w m m″ (Done 0)
+    left n E w e = record {
+      answer = rw (e, le-ltb (length m) (memorySize s) room);
+      refused = λ i q. absurd (subst IsRefusal (sym q) tt);
+      contained = λ t q.
+          subst (λ x. Contained (memorySize x) m m″) (Option·some-injective s t (sym e ∙ q))
+          (contained-more (record { same = length-is; past = past-is }) (only-contained s m′ m″ (f .only)));
+      holds = λ t q r. subst (λ x. Holds m″ x (opened x)) (Option·some-injective s t (sym e ∙ q)) (only-holds s (opened s) m′ m″ held (f .only));
+      starts = λ t q r. subst (λ x. Marks m″ x (opened x) zeroth) (Option·some-injective s t (sym e ∙ q)) marked;
+    }
+
+pub opening-done : (n E w : ℕ) (s : Setting) → settingOf n E w ≡ some s → (m m₁ m₂ m′ : List ℕ) → memorySize s ≤ length m → m₁ ≡ freshHeader s m
+    → Emptied (s .width) (s .size) m₁ m₂ → Begun (s .width) (s .size) 0 m₂ m′ → Opened receiverLayout n E w m m′ (Done 0)
+opening-done n E w s e m m₁ m₂ m′ room f k b =
+    left s (setting-names n E w s e .valid) m m₂ room (subst (λ x. Emptied (s .width) (s .size) x m₂) f k) m′ b n E w e

@@ -7,7 +7,9 @@ use Rattle.wire.specs.declared.Setting.{Setting}
 use Rattle.wire.specs.Numbers.{distanceOf}
 use Rattle.decoder.specs.Model.{known}
 use Rattle.receiver.specs.History.{behind, ahead, placeOf, Reading, fails, check, placed}
-use Rattle.receiver.specs.Model.{State, hides, shown, finding}
+use Rattle.starts.specs.Adu.{withholds, need, handing}
+use Rattle.starts.specs.Starts.{Starts, seen}
+use Rattle.receiver.specs.Model.{State, hides, shown, finding, aduAt}
 
 pub distance-is : (base d : ℕ) → d < 2 ^ 32 → distanceOf ((base + d) % 2 ^ 32) (base % 2 ^ 32) ≡ d
 distance-is base d h = omega arith
@@ -47,3 +49,18 @@ module _ (s : Setting) (t : State s) (d : ℕ) (small : d < 2 ^ 32) where
   pub found-behind : 2 ^ 31 ≤ d → finding s t ((t .base + d) % 2 ^ 32) ≡ hides 8
   unfolding finding
   found-behind h = rw (place-behind (t .base) d small h)
+
+-- The ADU call.
+module _ (s : Setting) (t : State s) (M : Starts) (room d : ℕ) (small : d < 2 ^ 32) where
+  pub adu-inside : d < 2 ^ 31 → d < s .width
+      → aduAt s t M room ((t .base + d) % 2 ^ 32) ≡ handing (s .size) (s .width) room M (seen (s .size) (s .width) (t .window)) d
+  unfolding aduAt need
+  adu-inside h k = rw (place-ahead (t .base) d small h, lt-ltb d (s .width) k)
+
+  pub adu-past : d < 2 ^ 31 → s .width ≤ d → aduAt s t M room ((t .base + d) % 2 ^ 32) ≡ withholds 12
+  unfolding aduAt need
+  adu-past h k = rw (place-ahead (t .base) d small h, le-ltb d (s .width) k)
+
+  pub adu-behind : 2 ^ 31 ≤ d → aduAt s t M room ((t .base + d) % 2 ^ 32) ≡ withholds 8
+  unfolding aduAt
+  adu-behind h = rw (place-behind (t .base) d small h)

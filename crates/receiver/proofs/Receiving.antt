@@ -18,6 +18,8 @@ use Rattle.decoder.specs.Receiver as decoder
 use Rattle.decoder.specs.Packets as packets
 use Rattle.elimination.specs.Window.{place, Fits}
 use Rattle.elimination.specs.Packet as packet
+use Rattle.starts.specs.Starts.{Starts, moved, pass, seen}
+use Rattle.starts.specs.MarkSteps.{owning}
 use Rattle.receiver.specs.declared.Answer.{Answer}
 use Rattle.receiver.specs.declared.Answer.the-variants.{Done, Refused}
 use Rattle.receiver.specs.declared.Header.{Header}
@@ -27,11 +29,11 @@ use Rattle.receiver.specs.declared.packet.Gathered.{Gathered}
 use Rattle.receiver.specs.declared.packet.Gathered.the-variants.{All, Contradiction}
 use Rattle.receiver.specs.History.{Located, source, repair, first, named, placeOf, placed, Call, Reading, fails, located, check, memorySize, workingSize, reading}
 use Rattle.receiver.specs.History.{value}
-use Rattle.receiver.specs.Model.{State, packetOf, added, responds, receiving}
+use Rattle.receiver.specs.Model.{State, Outcome, packetOf, added, responds, receiving, stateAfter, naming, startsAfter, marking}
 use Rattle.receiver.specs.Header.{headerIn}
 use Rattle.receiver.specs.Promises.{Contained, Follows, Received}
-use Rattle.receiver.specs.Layout.{headerOf, Holds, receiverLayout}
-use Rattle.receiver.specs.Steps.{placeAt, placeFound, Comes, WorksOn, firsts, Lies, Gathers, Finished}
+use Rattle.receiver.specs.Layout.{headerOf, Holds, Marks, receiverLayout}
+use Rattle.receiver.specs.Steps.{placeAt, placeFound, Comes, WorksOn, firsts, Lies, Gathers, PlacedBy, Accepted}
 use Rattle.receiver.proofs.Cases.{IsRefusal, numeral}
 use Rattle.receiver.proofs.Headers.{header-fits}
 use Rattle.receiver.proofs.Locating.{distance, found-at, at-placed, out-placed, out-other}
@@ -45,7 +47,12 @@ received-unopened c m v e = record {
   refused = λ n q. refl;
   contained = λ h q. absurd (Option·none-ne-some h (sym e ∙ q));
   follows = λ s t k. absurd (Option·none-ne-some (headerOf s t) (sym e ∙ k .header));
+  starts = λ s t M k _. absurd (Option·none-ne-some (headerOf s t) (sym e ∙ k .header));
 }
+
+-- The marks after a call, by what was read of it and what it came to.
+abbrev MarksBy : (s : Setting) (t : State s) (M : Starts) (m′ : List ℕ) → Reading → Outcome s → Type 0
+MarksBy s t M m′ x y = Marks m′ s (stateAfter t y) (marking s t M x y)
 
 -- ---- What a place asks of the memories
 
@@ -92,13 +99,20 @@ module _ (h : Header) (e n : ℕ) (at : PacketPlace) (q : PlaceIs at ≡ placeFo
           rise = omega (arith, f .fits);
         })
 
-    -- What finishing asks, once the equations are gathered.
-    pub finish-asks : (v′ : List ℕ) (r : Gathered) (kept : ℕ) → r ≡ All kept
-        → WorksOn (at .shape .width) (at .shape .size) v′ r
+    placed-by : (own : ℕ) → own ≤ n → n ≤ h .setting .width → PlacedBy h at own
+    placed-by own l f =
+        let d : ℕ = distance h e n in
+        subst (λ x. PlacedBy h x own) (sym place-is) (record { width = refl; size = refl; base = refl; room = omega arith })
+
+    -- What accepting asks, once the equations are gathered.
+    pub accept-asks : (v′ : List ℕ) (r : Gathered) (kept own : ℕ) → r ≡ All kept
+        → WorksOn (at .shape .width) (at .shape .size) v′ r → own ≤ n → n ≤ h .setting .width
         → (headerIn m ≡ some h) × packet.Works (h .setting .width) (h .setting .size) kept v′ × (at .shape .base < 65536) × (at .rise ≤ 65536)
-    finish-asks v′ r kept z g =
+        × PlacedBy h at own
+    accept-asks v′ r kept own z g l f =
         let k = subst (WorksOn (at .shape .width) (at .shape .size) v′) z g in
-        (has, subst (λ (p : PacketPlace). packet.Works (p .shape .width) (p .shape .size) kept v′) place-is k, ready .small, ready .rise)
+        let works = subst (λ (p : PacketPlace). packet.Works (p .shape .width) (p .shape .size) kept v′) place-is k in
+        (has, works, ready .small, ready .rise, placed-by own l f)
 
 -- ---- The model's answer
 
@@ -161,6 +175,8 @@ module _ (c : Call) (m v : List ℕ) (h : Header) (has : headerIn m ≡ some h) 
     follows = λ s t k.
         subst (λ x. Follows receiverLayout s (responds s t x) m m (Refused r)) (sym (reads (λ b. fails (numberOf r)) says s t (header-held m h s t has k)))
         (refl, refl);
+    starts = λ s t M k g.
+        subst (λ x. MarksBy s t M m x (responds s t x)) (sym (reads (λ b. fails (numberOf r)) says s t (header-held m h s t has k))) g;
   }
 
   -- Working memory is too short.
@@ -234,6 +250,28 @@ module _ (c : Call) (m v : List ℕ) (h : Header) (has : headerIn m ≡ some h) 
           subst (λ y. Follows receiverLayout s (responds s t y) m m′ a) (sym (reads (λ b. located (q (b + d))) says s t e))
           (subst (λ y. Follows receiverLayout s (added s t y) m m′ a) (sym (received-by s t p (at .rise) rises o i)) x)
 
+      -- And so are the marks.
+      marks-by : (M : Starts) (m′ : List ℕ) (o : Option (model.State (Coded (s .size)) (s .width)))
+          → decoder.insert-all (decoder.over (Coded (s .size)) (s .width) (t .base + at .rise) p) (decoder.advance-by (at .rise) (t .window)) ≡ o
+          → MarksBy s t M m′ (located (q (t .base + d))) (added s t (decoder.and-then o (λ S. some (record { base = t .base + at .rise; window = S }))))
+          → MarksBy s t M m′ (reading s (t .base) (length v) c) (receiving s t (length v) c)
+      unfolding receiving
+      marks-by M m′ o i x =
+          subst (λ y. MarksBy s t M m′ y (responds s t y)) (sym (reads (λ b. located (q (b + d))) says s t e))
+          (subst (λ y. MarksBy s t M m′ (located (q (t .base + d))) (added s t y)) (sym (received-by s t p (at .rise) rises o i)) x)
+
+      -- The marks that the model makes of the packet.
+      models : (M : Starts) (T : model.State (Coded (s .size)) (s .width)) (own : ℕ)
+          → ((N : Starts) → naming s (t .base + at .rise) (q (t .base + d)) N ≡ owning (at .offset) own N)
+          → pass (s .size) (seen (s .size) (s .width) T) (s .width) (owning (at .offset) own (moved (s .width) (at .rise) M))
+          ≡ startsAfter s t (record { base = t .base + at .rise; window = T }) (q (t .base + d)) M
+      unfolding startsAfter
+      models M T own owns =
+          let rose : t .base + at .rise - t .base ≡ at .rise = omega arith in
+          ap (λ N. pass (s .size) (seen (s .size) (s .width) T) (s .width) N)
+          (sym (owns (moved (s .width) (at .rise) M))
+          ∙ ap (λ x. naming s (t .base + at .rise) (q (t .base + d)) (moved (s .width) x M)) (sym rose))
+
     pub received-contradiction : r ≡ Contradiction → Received receiverLayout c m m v v′ (Refused refusals.Contradiction)
     received-contradiction z = record {
       unopened = ((λ x. let y = ap numeral x in absurd (omega (arith, y))), (λ x. absurd (Option·none-ne-some h (sym x ∙ has))));
@@ -243,10 +281,17 @@ module _ (c : Call) (m v : List ℕ) (h : Header) (has : headerIn m ≡ some h) 
           subst (λ (y : Header). Contained (memorySize (y .setting)) m m × Contained (workingSize (y .setting)) v v′)
           (Option·some-injective h h′ (sym has ∙ x)) (contained-none, work-kept);
       follows = λ s t k. does-by s t k m (Refused refusals.Contradiction) none (subst (Comes _ _ _ _ v′ _) z (comes s t k)) (refl, refl);
+      starts = λ s t M k g. marks-by s t k M m none (subst (Comes _ _ _ _ v′ _) z (comes s t k)) g;
     }
 
-    pub received-done : (kept known : ℕ) (m′ : List ℕ) → r ≡ All kept → Finished h at kept known v′ m m′ → Received receiverLayout c m m′ v v′ (Done known)
-    received-done kept known m′ z done = record {
+    row-is : (s : Setting) (t : State s) → Holds m s t → at .shape .base ≡ (t .base + at .rise) % s .width
+    row-is s t k =
+        subst (λ (y : PacketPlace). y .shape .base ≡ (t .base + y .rise) % s .width) (sym (here s t k)) (mod-add-mod (t .base) (s .width) (d + n - s .width))
+
+    -- It has `own` symbols of its own.
+    pub received-done : (own : ℕ) → ((s : Setting) (b : ℕ) (N : Starts) → naming s (b + at .rise) (q (b + d)) N ≡ owning (at .offset) own N)
+        → (kept known : ℕ) (m′ : List ℕ) → r ≡ All kept → Accepted h at kept own known v′ m m′ → Received receiverLayout c m m′ v v′ (Done known)
+    received-done own owns kept known m′ z done = record {
       unopened = ((λ x. absurd (subst IsRefusal (sym x) tt)), (λ x. absurd (Option·none-ne-some h (sym x ∙ has))));
       untouched = λ x. absurd (Option·none-ne-some h (sym x ∙ has));
       refused = λ n x. absurd (subst IsRefusal (sym x) tt);
@@ -254,8 +299,10 @@ module _ (c : Call) (m v : List ℕ) (h : Header) (has : headerIn m ≡ some h) 
           subst (λ (y : Header). Contained (memorySize (y .setting)) m m′ × Contained (workingSize (y .setting)) v v′)
           (Option·some-injective h h′ (sym has ∙ x)) (done .contained, work-kept);
       follows = λ s t k.
-          let row : at .shape .base ≡ (t .base + at .rise) % s .width =
-          subst (λ (y : PacketPlace). y .shape .base ≡ (t .base + y .rise) % s .width) (sym (here s t k)) (mod-add-mod (t .base) (s .width) (d + n - s .width)) in
-          let (T, i, held, counted) = done .outcome s t _ k row (subst (Comes _ _ _ _ v′ _) z (comes s t k)) in
+          let (T, i, held, counted, marks) = done .outcome s t _ k (row-is s t k) (subst (Comes _ _ _ _ v′ _) z (comes s t k)) in
           does-by s t k m′ (Done known) (some T) i (ap value counted, held);
+      starts = λ s t M k g.
+          let (T, i, held, counted, marks) = done .outcome s t _ k (row-is s t k) (subst (Comes _ _ _ _ v′ _) z (comes s t k)) in
+          marks-by s t k M m′ (some T) i
+          (subst (λ N. Marks m′ s (record { base = t .base + at .rise; window = T }) N) (models s t k M T own (owns s (t .base))) (marks M g));
     }

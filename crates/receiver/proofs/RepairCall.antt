@@ -35,7 +35,7 @@ use Rattle.receiver.specs.Model.{packetOf}
 use Rattle.receiver.specs.Header.{headerIn}
 use Rattle.receiver.specs.Promises.{Received}
 use Rattle.receiver.specs.Layout.{receiverLayout}
-use Rattle.receiver.specs.Steps.{placeFound, firsts, Gathers, Finished}
+use Rattle.receiver.specs.Steps.{placeFound, firsts, Gathers, Accepted}
 use Rattle.receiver.specs.RepairSteps.{equationAt}
 use Rattle.receiver.proofs.Locating.{distance}
 use Rattle.receiver.proofs.Repairing.{repair-equations}
@@ -179,9 +179,9 @@ module _ (p m v : List ℕ) (h : Header) (has : headerIn m ≡ some h) (lent : w
                 (within-bounds 1 width (f .nss) fits .0) (within-bounds 1 width (f .nss) fits .1) (packetAt) (λ x. refl) named-nss
                 located-next (λ w E. equationAt w E (f .nss) lists p) spelt v′ r gathered
 
-            pub call-done : (kept known : ℕ) (m′ : List ℕ) → r ≡ All kept → Finished h at kept known v′ m m′
+            pub call-done : (kept known : ℕ) (m′ : List ℕ) → r ≡ All kept → Accepted h at kept 0 known v′ m m′
                 → Received receiverLayout c m m′ v v′ (Done known)
             call-done =
                 received-done c m v h has (f .nss) d (f .count) at (place-is h (f .first .0) (f .nss) at found)
                 (within-bounds 1 width (f .nss) fits .0) (within-bounds 1 width (f .nss) fits .1) (packetAt) (λ x. refl) named-nss
-                located-next (λ w E. equationAt w E (f .nss) lists p) spelt v′ r gathered
+                located-next (λ w E. equationAt w E (f .nss) lists p) spelt v′ r gathered 0 (λ s b N. refl)

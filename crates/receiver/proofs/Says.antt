@@ -57,6 +57,13 @@ bytes-small zero u i = lit< tt
 bytes-small (suc E) u zero = u .0 .1
 bytes-small (suc E) u (suc i) = bytes-small E (u .1) i
 
+bytes-sized : (E : ℕ) (u : Symbol E) → length (bytesOf E u) ≡ E
+bytes-sized zero u = refl
+bytes-sized (suc E) u = ap suc (bytes-sized E (u .1))
+
+pub bytes-whole : (E : ℕ) (u : Symbol E) → Whole E (bytesOf E u)
+bytes-whole E u = record { sized = bytes-sized E u; small = bytes-small E u }
+
 -- ---- A combination, byte by byte
 
 -- The symbol whose bytes are these.
@@ -153,11 +160,11 @@ abbrev pub Formed : ℕ → Located → Type 0
 Formed E (source p symbols) = Wholes E symbols
 Formed E (repair p n coefficients symbols) = Wholes E symbols × AllBytes coefficients × (length coefficients ≡ length symbols)
 
-abbrev head : List (List ℕ) → List ℕ
+abbrev pub head : List (List ℕ) → List ℕ
 head [] = []
 head (v ∷ vs) = v
 
-abbrev rest : List (List ℕ) → List (List ℕ)
+abbrev pub rest : List (List ℕ) → List (List ℕ)
 rest [] = []
 rest (v ∷ vs) = vs
 

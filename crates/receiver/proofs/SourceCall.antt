@@ -1,5 +1,5 @@
 -- The call for a source packet: its checks in the history's order, and one law for each way it ends.
-use mathlib.Core.Path.{_≡_, refl, sym, ap, _∙_, subst}
+use mathlib.Core.Path.{_≡_, refl, sym, ap, ap₂, _∙_, subst}
 use mathlib.Core.Bool.{Bool, true, false, cond}
 use mathlib.Core.Option.{some}
 use mathlib.Core.List.{List}
@@ -9,7 +9,7 @@ use native.Mathlib.Omega.{arith}
 use lib.ListN.{length}
 use lib.Dec.{leb}
 use lib.Seq.{length-take-le}
-use borrow.Author.Tests.{le-leb, lt-leb}
+use borrow.Author.Tests.{le-leb, lt-leb, lt-ltb}
 use Rattle.memory.specs.Part.{part}
 use Rattle.wire.specs.declared.Setting.{Setting}
 use Rattle.wire.specs.declared.Refusal.{Refusal}
@@ -22,6 +22,8 @@ use Rattle.wire.specs.Headers.{sourceFields, sourceHeaderOf}
 use Rattle.wire.proofs.Adui as adui
 use Rattle.decoder.specs.Bytes.{Coded}
 use Rattle.decoder.specs.Receiver as decoder
+use Rattle.starts.specs.Starts.{Starts, also}
+use Rattle.starts.specs.MarkSteps.{owning}
 use Rattle.receiver.specs.declared.Answer.the-variants.{Done, Refused}
 use Rattle.receiver.specs.declared.Header.{Header}
 use Rattle.receiver.specs.declared.packet.PacketPlace.{PacketPlace}
@@ -29,11 +31,11 @@ use Rattle.receiver.specs.declared.packet.PlaceFound.the-variants.{Place
 use Rattle.receiver.specs.declared.packet.Gathered.{Gathered}
 use Rattle.receiver.specs.declared.packet.Gathered.the-variants.{All, Contradiction}
 use Rattle.receiver.specs.History.{Located, source, Call, source-call, located, check, placeOf, placed, workingSize, readSource, reading}
-use Rattle.receiver.specs.Model.{packetOf}
+use Rattle.receiver.specs.Model.{packetOf, naming}
 use Rattle.receiver.specs.Header.{headerIn}
 use Rattle.receiver.specs.Promises.{Received}
 use Rattle.receiver.specs.Layout.{receiverLayout}
-use Rattle.receiver.specs.Steps.{placeFound, firsts, Gathers, Finished}
+use Rattle.receiver.specs.Steps.{placeFound, firsts, Gathers, Accepted}
 use Rattle.receiver.specs.SourceSteps.{equationOf}
 use Rattle.receiver.proofs.Headers.{headed}
 use Rattle.receiver.proofs.Locating.{distance}
@@ -162,10 +164,22 @@ module _ (flow : ℕ) (p m v : List ℕ) (h : Header) (has : headerIn m ≡ some
               (reading-at c m v h has (f .first .0) count (λ b d. located (q (b + d))) says at found)
               (λ w E. equationOf w E flow (sourceAdu p)) spelt v′ r all-gathered
 
-          pub call-done : (kept known : ℕ) (m′ : List ℕ) → r ≡ All kept → Finished h at kept known v′ m m′
+          -- Its symbols are its own.
+          owns : (s : Setting) (b : ℕ) (N : Starts) → naming s (b + at .rise) (q (b + distance h (f .first .0) count)) N ≡ owning (at .offset) count N
+          owns s b N =
+              let d : ℕ = distance h (f .first .0) count in
+              let l : length (sourceSymbols flow (sourceAdu p) E) ≡ count = adui.symbols-count flow (sourceAdu p) E ∙ counted in
+              let i = place-is h (f .first .0) count at found in
+              let o : at .offset ≡ d - (d + count - width) = ap (λ y. y .offset) i in
+              let z : at .rise ≡ d + count - width = ap (λ y. y .rise) i in
+              let x : b + d - (b + at .rise) ≡ at .offset = omega (arith, z, o) in
+              let y : b + d + length (sourceSymbols flow (sourceAdu p) E) - (b + at .rise) ≡ at .offset + count = omega (arith, z, o, l, fits) in
+              ap₂ (λ (j k : ℕ). also j (also k N)) x y ∙ sym (ap (λ t. cond t (also (at .offset) (also (at .offset + count) N)) N) (lt-ltb 0 count some-symbol))
+
+          pub call-done : (kept known : ℕ) (m′ : List ℕ) → r ≡ All kept → Accepted h at kept count known v′ m m′
               → Received receiverLayout c m m′ v v′ (Done known)
           call-done =
               received-done c m v h has count (distance h (f .first .0) count) count at (place-is h (f .first .0) count at found) some-symbol fits q
               (λ x. refl) (λ x. adui.symbols-count flow (sourceAdu p) E ∙ counted)
               (reading-at c m v h has (f .first .0) count (λ b d. located (q (b + d))) says at found)
-              (λ w E. equationOf w E flow (sourceAdu p)) spelt v′ r all-gathered
+              (λ w E. equationOf w E flow (sourceAdu p)) spelt v′ r all-gathered count owns

@@ -17,13 +17,13 @@ use Rattle.wire.specs.Settings.{settingOf}
 use Rattle.starts.specs.declared.Handed.{Handed}
 use Rattle.starts.specs.declared.Handed.the-variants.{Withheld}
 use Rattle.starts.specs.Adu.{HandedAs, Leaves}
-use Rattle.starts.specs.Starts.{Starts}
+use Rattle.starts.specs.Starts.{Starts, zeroth}
 use Rattle.receiver.specs.declared.Answer.{Answer}
 use Rattle.receiver.specs.declared.Answer.the-variants.{Done, Refused}
 use Rattle.receiver.specs.declared.Header.{Header}
 use Rattle.receiver.specs.Symbol.{bytesOf}
-use Rattle.receiver.specs.History.{Call, memorySize, workingSize, Said, value, refusal}
-use Rattle.receiver.specs.Model.{State, opened, Outcome, refused, done, receiving, Finding, shows, hides, finding, aduAt}
+use Rattle.receiver.specs.History.{Call, reading, memorySize, workingSize, Said, value, refusal}
+use Rattle.receiver.specs.Model.{State, opened, Outcome, refused, done, stateAfter, receiving, marking, Finding, shows, hides, finding, aduAt}
 use Rattle.receiver.specs.Header.{headerIn}
 
 -- Document 01's number of an answer.
@@ -59,6 +59,8 @@ module _ (L : Layout) where
     pub refused : (n : ℕ) → said a ≡ refusal n → m′ ≡ m
     pub contained : (s : Setting) → settingOf scheme E w ≡ some s → Contained (memorySize s) m m′
     pub holds : (s : Setting) → settingOf scheme E w ≡ some s → said a ≡ value 0 → Holds m′ s (opened s)
+    -- Position 0 is marked.
+    pub starts : (s : Setting) → settingOf scheme E w ≡ some s → said a ≡ value 0 → Marks m′ s (opened s) zeroth
 
   -- A packet call did what it comes to.
   abbrev pub Follows : (s : Setting) → Outcome s → (m m′ : List ℕ) → Answer → Type 0
@@ -73,6 +75,9 @@ module _ (L : Layout) where
     pub refused : (n : ℕ) → said a ≡ refusal n → m′ ≡ m
     pub contained : (h : Header) → headerIn m ≡ some h → Contained (memorySize (h .setting)) m m′ × Contained (workingSize (h .setting)) v v′
     pub follows : (s : Setting) (t : State s) → Holds m s t → Follows s (receiving s t (length v) c) m m′ a
+    -- And the marks are those that it comes to.
+    pub starts : (s : Setting) (t : State s) (M : Starts) → Holds m s t → Marks m s t M
+        → let o = receiving s t (length v) c in Marks m′ s (stateAfter t o) (marking s t M (reading s (t .base) (length v) c) o)
 
   -- The symbol call found this: it answers 0 for a known symbol, else a refusal.
   abbrev pub Finds : {E : ℕ} → Finding E → Answer → Type 0

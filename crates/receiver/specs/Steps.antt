@@ -6,7 +6,7 @@ use mathlib.Core.Option.{none, some}
 use mathlib.Core.List.{List, [], _∷_, _++_}
 use Prim.Native.Nat.{ℕ, zero, suc, _+_, _-_, _%_, _^_, _≤_, _<_}
 use lib.Dec.{ltb, leb}
-use lib.ListN.{length}
+use lib.ListN.{length, getD}
 use Rattle.wire.specs.declared.Setting.{Setting}
 use Rattle.wire.specs.declared.Refusal.the-variants.{Behind, Ahead}
 use Rattle.wire.specs.Numbers.{distanceOf}
@@ -19,6 +19,9 @@ use Rattle.elimination.specs.declared.gather.Verdict.the-variants as verdict
 use Rattle.elimination.specs.Window.{place, row, equation, Window}
 use Rattle.elimination.specs.Gather.{Laid}
 use Rattle.elimination.specs.Packet as packet
+use Rattle.starts.specs.Starts.{Starts, moved, pass, seen}
+use Rattle.starts.specs.Marks.{flagAt}
+use Rattle.starts.specs.MarkSteps.{owning}
 use Rattle.receiver.specs.declared.Header.{Header}
 use Rattle.receiver.specs.declared.packet.PacketPlace.{PacketPlace}
 use Rattle.receiver.specs.declared.packet.PlaceFound.{PlaceFound}
@@ -29,7 +32,7 @@ use Rattle.receiver.specs.Symbol.{Symbol}
 use Rattle.receiver.specs.History.{memorySize}
 use Rattle.receiver.specs.Model.{State}
 use Rattle.receiver.specs.Promises.{Contained}
-use Rattle.receiver.specs.Layout.{Holds}
+use Rattle.receiver.specs.Layout.{Holds, Marks}
 
 -- ---- The packet's place
 
@@ -43,6 +46,7 @@ placeAt h d n =
       rise = rise;
       stay = width - rise;
       first = (h .row + d) % width;
+      offset = d - rise;
     }
 
 -- Where n symbols lie, the first of them with the ESI e: refusals 8 and 9.
@@ -120,9 +124,32 @@ module _ (at : PacketPlace) where
 
 -- ---- The state after the packet
 
+-- The marks, and the bytes of the header that they have, are as they were.
+pub record SameMarks (w E : ℕ) (m m′ : List ℕ) : Type 0 where
+  pub header : (k : ℕ) → 10 ≤ k → k < 12 → getD m′ k 0 ≡ getD m k 0
+  pub rows : (r : ℕ) → r < w → getD m′ (flagAt w E r) 0 ≡ getD m (flagAt w E r) 0
+
+-- The place is one by the header, with room for `own` symbols from its offset on.
+pub record PlacedBy (h : Header) (at : PacketPlace) (own : ℕ) : Type 0 where
+  pub width : at .shape .width ≡ h .setting .width
+  pub size : at .shape .size ≡ h .setting .size
+  pub base : at .shape .base ≡ (h .row + at .rise) % at .shape .width
+  pub room : at .offset + own ≤ at .shape .width
+
 -- The packet's rows in working memory have joined the state's, and the base has risen: the memory holds what the model says of the equations
 -- `es` of which these rows are, and `count` positions have become known.
 pub record Finished (h : Header) (at : PacketPlace) (kept count : ℕ) (work m m′ : List ℕ) : Type 0 where
+  pub contained : Contained (memorySize (h .setting)) m m′
+  pub marks : SameMarks (h .setting .width) (h .setting .size) m m′
+  pub outcome : (s : Setting) (t : State s) (es : List (model.Row (Coded (s .size)) (s .width))) → Holds m s t
+      → at .shape .base ≡ (t .base + at .rise) % s .width
+      → packet.Gathered (s .width) (s .size) (t .base + at .rise) (decoder.advance-by (at .rise) (t .window)) work kept es
+      → (T : model.State (Coded (s .size)) (s .width)) × (decoder.insert-all es (decoder.advance-by (at .rise) (t .window)) ≡ some T)
+      × Holds m′ s (record { base = t .base + at .rise; window = T })
+      × (count ≡ decoder.newly t (record { base = t .base + at .rise; window = T }))
+
+-- And the marks are those that the packet with `own` symbols of its own makes.
+pub record Accepted (h : Header) (at : PacketPlace) (kept own count : ℕ) (work m m′ : List ℕ) : Type 0 where
   pub contained : Contained (memorySize (h .setting)) m m′
   pub outcome : (s : Setting) (t : State s) (es : List (model.Row (Coded (s .size)) (s .width))) → Holds m s t
       → at .shape .base ≡ (t .base + at .rise) % s .width
@@ -130,3 +157,5 @@ pub record Finished (h : Header) (at : PacketPlace) (kept count : ℕ) (work m m
       → (T : model.State (Coded (s .size)) (s .width)) × (decoder.insert-all es (decoder.advance-by (at .rise) (t .window)) ≡ some T)
       × Holds m′ s (record { base = t .base + at .rise; window = T })
       × (count ≡ decoder.newly t (record { base = t .base + at .rise; window = T }))
+      × ((M : Starts) → Marks m s t M → Marks m′ s (record { base = t .base + at .rise; window = T })
+      (pass (s .size) (seen (s .size) (s .width) T) (s .width) (owning (at .offset) own (moved (s .width) (at .rise) M))))

@@ -1,5 +1,5 @@
-// The receiver: opening, the two packet calls, and the calls that show a symbol (RFC 8681, section 3.4; document 01).
-ghost use Rattle.receiver.specs.Promises.{Opened, Received, SymbolAnswered, PartShown, PlaceAnswered};
+// The receiver: opening, the two packet calls, the calls that show a symbol, and the ADU call (RFC 8681, section 3.4; document 01).
+ghost use Rattle.receiver.specs.Promises.{Opened, Received, SymbolAnswered, PartShown, PlaceAnswered, AduAnswered};
 ghost use Rattle.receiver.specs.History.{source-call, repair-call};
 ghost use Rattle.receiver.specs.Layout.{receiverLayout};
 
@@ -13,6 +13,7 @@ use coefficients::Filled;
 use elimination::Shape;
 use packet::Gathered;
 use packet::PlaceFound;
+use starts::Handed;
 use wire::Checked;
 use wire::Esi;
 use wire::Refusal;
@@ -57,14 +58,13 @@ pub fn open(mem: &mut [u8], scheme: usize, size: usize, width: usize) -> Answer
         return Answer::Refused(Refusal::Short);
     }
     front::write_header(mem, setting);
-    elimination::place::clear(
-        mem,
-        Shape {
-            width: setting.width,
-            size: setting.size,
-            base: 0,
-        },
-    );
+    let shape = Shape {
+        width: setting.width,
+        size: setting.size,
+        base: 0,
+    };
+    elimination::place::clear(mem, shape);
+    starts::marks::begin(mem, shape);
     Answer::Done(0)
 }
 
@@ -98,6 +98,29 @@ pub fn symbol_place(mem: &[u8], esi: Esi) -> Answer
     }
 }
 
+// Hands out the ADU that starts at an ESI, with its flow, to the front of the output.
+pub fn adu(mem: &[u8], esi: Esi, out: &mut [u8]) -> Handed
+    ensures { λ r. ⌜ AduAnswered receiverLayout (now (mem .entry)) (esi .0) (now (out .entry)) (now (out .exit)) r ⌝ }
+{
+    let Found::HeaderIs(header) = front::read_header(mem) else {
+        return Handed::Withheld(Refusal::Unopened);
+    };
+    let width = header.setting.width;
+    let d = esi.distance(header.base) as usize;
+    if d >= 2147483648 {
+        return Handed::Withheld(Refusal::Behind);
+    }
+    if d >= width {
+        return Handed::Withheld(Refusal::Unknown);
+    }
+    let shape = Shape {
+        width,
+        size: header.setting.size,
+        base: header.row,
+    };
+    starts::hand::hand_out(mem, shape, d, out)
+}
+
 // Receives a source packet that came with a flow. The state is only read until all its symbols are known to agree with it. Gives how many
 // positions of the window became known.
 pub fn receive_source(mem: &mut [u8], work: &mut [u8], flow: u8, packet: &[u8]) -> Answer
@@ -129,7 +152,7 @@ pub fn receive_source(mem: &mut [u8], work: &mut [u8], flow: u8, packet: &[u8]) 
     let Gathered::All(kept) = source::gather_source(mem, work, place, flow, adu, count) else {
         return Answer::Refused(Refusal::Contradiction);
     };
-    Answer::Done(packet::finish(mem, work, header, place, kept))
+    Answer::Done(packet::accept(mem, work, header, place, kept, count))
 }
 
 // Receives a repair packet. The state is only read until all its symbols are known to agree with it. Gives how many positions of the window
@@ -167,5 +190,5 @@ pub fn receive_repair(mem: &mut [u8], work: &mut [u8], packet: &[u8]) -> Answer
     else {
         return Answer::Refused(Refusal::Contradiction);
     };
-    Answer::Done(packet::finish(mem, work, header, place, kept))
+    Answer::Done(packet::accept(mem, work, header, place, kept, 0))
 }

@@ -7,21 +7,23 @@ ghost use Rattle.wire.specs.Settings.{Valid};
 ghost use Rattle.elimination.specs.Window.{Fits};
 ghost use Rattle.elimination.specs.Packet.{Works};
 ghost use Rattle.receiver.specs.Header.{headerIn};
-ghost use Rattle.receiver.specs.Steps.{placeFound, gatheredBy, EquationAdmitted, Finished};
+ghost use Rattle.receiver.specs.Steps.{placeFound, gatheredBy, EquationAdmitted, PlacedBy, Finished, Accepted};
 use super::Header;
 use elimination::Shape;
 use elimination::gather;
 use elimination::gather::Verdict;
+use starts::marks;
 use wire::Esi;
 use wire::Refusal;
 
 // Where a packet lies: the window that it brings about, by how much the base rises for it, how many positions stay, and the row of its first
-// position.
+// position and the distance of that from the new base.
 pub struct PacketPlace {
     pub shape: Shape,
     pub rise: usize,
     pub stay: usize,
     pub first: usize,
+    pub offset: usize,
 }
 
 // Where a packet lies, or why it is refused.
@@ -67,6 +69,7 @@ pub fn locate(header: Header, first: Esi, n: usize) -> PlaceFound
         rise,
         stay: excess(width, rise),
         first: (header.row + d) % width,
+        offset: d - rise,
     })
 }
 
@@ -103,8 +106,8 @@ pub fn admit_equation(
     gathered_by(kept, verdict)
 }
 
-// The packet is accepted: its rows, `kept` in working memory, join the state's, and the base rises. Gives how many positions have become known.
-pub fn finish(mem: &mut [u8], work: &[u8], header: Header, place: PacketPlace, kept: usize) -> usize
+// The packet's rows, `kept` in working memory, join the state's, and the base rises. Gives how many positions have become known.
+fn finish(mem: &mut [u8], work: &[u8], header: Header, place: PacketPlace, kept: usize) -> usize
     requires { ⌜ (headerIn (now mem) ≡ some header) × Works (header .setting .width) (header .setting .size) kept (now work)
         × (place .shape .base < 65536) × (place .rise ≤ 65536) ⌝ }
     ensures { λ n. ⌜ Finished header place kept n (now (work .entry)) (now (mem .entry)) (now (mem .exit)) ⌝ }
@@ -120,4 +123,23 @@ pub fn finish(mem: &mut [u8], work: &[u8], header: Header, place: PacketPlace, k
     memory::store_u16(mem, 8, place.shape.base as u16);
     memory::store_u32(mem, 12, next.0);
     count
+}
+
+// The packet is accepted, with `own` symbols of its own: its rows join the state's, the base rises, and the marks follow. Gives how many positions
+// have become known.
+pub fn accept(
+    mem: &mut [u8],
+    work: &[u8],
+    header: Header,
+    place: PacketPlace,
+    kept: usize,
+    own: usize,
+) -> usize
+    requires { ⌜ (headerIn (now mem) ≡ some header) × Works (header .setting .width) (header .setting .size) kept (now work)
+        × (place .shape .base < 65536) × (place .rise ≤ 65536) × PlacedBy header place own ⌝ }
+    ensures { λ n. ⌜ Accepted header place kept own n (now (work .entry)) (now (mem .entry)) (now (mem .exit)) ⌝ }
+{
+    let known = finish(mem, work, header, place, kept);
+    marks::update(mem, place.shape, header.row, place.rise, place.offset, own);
+    known
 }

@@ -2,3 +2,5 @@ pub mod Adu
 pub mod Starts
 pub mod Marks
 pub mod Contracts
+pub mod HandSteps
+pub mod MarkSteps

@@ -17,7 +17,8 @@ valid p = asked-valid _ _ (p .before .before .setting-of .ensures) (setting p) (
 
 returns : tie.Need-returns
 returns c =
-    asked-none _ _ (c .before .before .before .setting-of .ensures) memorySize (c .coded-refusal .ok) (c .before .enum-told .given .1) (c .coded-refusal .ensures)
+    let e = c .before .before .before .setting-of .ensures in
+    asked-none _ _ e memorySize (c .coded-refusal .ok) (c .before .enum-told .given .1) (c .coded-refusal .ensures)
 
 add-coded-size : tie.Need-add-coded-size
 add-coded-size c = let v = valid (c .before .before) in omega (arith, v .width-most, v .size-most)
@@ -31,7 +32,7 @@ coded-size-requires c κs = let v = valid (c .before .before) in (search needs, 
 returns-2 : tie.Need-returns-2
 returns-2 c =
     let p = c .before .before .before in
-    asked-some _ _ (p .before .before .setting-of .ensures) memorySize (setting p) (c .coded-size .ok) (p .setting .given .1) (c .coded-size .ensures)
+    asked-some _ _ (p .before .before .setting-of .ensures) memorySize (c .coded-size .ok) (setting p) (p .setting .given .1) (c .coded-size .ensures)
 
 pub rlc-receiver-memory-spec : {M : Type 1} → statement M
 rlc-receiver-memory-spec =

@@ -43,12 +43,28 @@ clear-requires c κs =
     setting-fits (setting p) _ (valid p)
     (omega (arith, c .before .before .before .write-header .kept .0, c .before .before .before .before .before .before .memory-size .ensures, c .before .before .before .before .before .if1 .left))
 
+begin-requires : tie.Need-begin-requires
+begin-requires c κs =
+    let p3 = c .before .before .before in
+    let p7 = p3 .before .before .before .before in
+    let p9 = p7 .before .before in
+    let p10 = p9 .before in
+    let p12 = p10 .before .before in
+    let v = valid p12 in (
+      setting-fits (setting p12) _ v (omega (arith, p3 .clear .ensures .kept .size, p7 .write-header .kept .0, p10 .memory-size .ensures, p9 .if1 .left)),
+      omega (arith, v .width-least),
+    )
+
 returns-3 : tie.Need-returns-3
 returns-3 c =
-    let p = c .before .before .before .before .before .before .before .before .before .before .before in
-    let size = c .before .before .before .before .before .before .before .before .before .memory-size .ensures in
-    let room = c .before .before .before .before .before .before .before .before .if1 .left in
-    opening-done _ _ _ (setting p) (has p) _ _ _ (rw size at room) (c .before .before .before .before .before .before .write-header .ensures) (c .before .before .clear .ensures)
+    let p2 = c .before .before in
+    let p6 = p2 .before .before .before .before in
+    let p10 = p6 .before .before .before .before in
+    let p12 = p10 .before .before in
+    let p13 = p12 .before in
+    let p15 = p13 .before .before in
+    opening-done _ _ _ (setting p15) (has p15) _ _ _ _ (rw (p13 .memory-size .ensures) at (p12 .if1 .left)) (p10 .write-header .ensures)
+    (p6 .clear .ensures) (p2 .begin .ensures)
 
 pub open-spec : {M : Type 1} → statement M
 open-spec =
@@ -62,5 +78,6 @@ open-spec =
     returns-2
     write-header-requires
     clear-requires
+    begin-requires
     (λ c. search needs)
     returns-3)

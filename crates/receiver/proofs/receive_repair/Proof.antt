@@ -17,7 +17,7 @@ use Rattle.receiver.specs.declared.Header.{Header}
 use Rattle.receiver.specs.History.{workingSize}
 use Rattle.receiver.specs.Header.{headerIn}
 use Rattle.receiver.proofs.Headers.{header-is, header-none, headed}
-use Rattle.receiver.proofs.Receiving.{received-unopened, received-short, finish-asks}
+use Rattle.receiver.proofs.Receiving.{received-unopened, received-short, accept-asks}
 use Rattle.receiver.proofs.RepairCall.{sized, call-form, call-range, call-out, call-draws, gather-asks, call-contradicts, call-done}
 use borrow.Author.Needs.{needs}
 use Rattle.receiver.proofs.receive_repair.Statement.{statement}
@@ -121,11 +121,20 @@ returns-7 c =
     call-contradicts _ _ _ (header p) (has p) (lent (c .before .before .before .before .before .before .before .before .before .before .before .before .before .before .before .before .before .before .before .before .before .before .before .before)) (fields q) (read q) (fits (c .before .before .before .before .before .before .before .before .before .before .before .before .before .before .before .before .before .before)) _ (sym (c .before .before .before .before .before .before .before .before .before .before .before .before .before .before .before .at .given .1) ∙ c .before .before .before .before .before .before .before .before .before .before .before .before .before .before .before .before .before .locate .ensures)
     (lists-were-done drawn done) _ _ (drawn .bytes done) _ _ (c .before .before .before .before .gather-repair .ensures) (c .enum-told5 .given .1)
 
-finish-requires : tie.Need-finish-requires
-finish-requires c κs =
-    let a = c .before .before .before .before .before .before .before .before .before .before .before .before .before .before .before .before .before .before .before .before .before .before .before .before .before .before .before .before .before .before .before .before .before .before .before .before .before .before .args in
-    let p = c .before .before .before .before .before .before .before .before .before .before .before .before .before .before .before .before .before .before .before .before .before .before .before .before .before .before .before .before .before .before .before in
-    finish-asks (header p) _ _ _ (sym (c .before .before .before .before .before .before .before .before .before .before .before .before .before .before .before .before .before .before .at .given .1) ∙ c .before .before .before .before .before .before .before .before .before .before .before .before .before .before .before .before .before .before .before .before .locate .ensures) _ (a .work .now) (has p) (lent (c .before .before .before .before .before .before .before .before .before .before .before .before .before .before .before .before .before .before .before .before .before .before .before .before .before .before .before)) _ (c .before .before .before .before .before .before .before .gather-repair .result) _ (c .before .before .before .kept .given .1) (c .before .before .before .before .before .before .before .gather-repair .ensures .works)
+accept-requires : tie.Need-accept-requires
+accept-requires c κs =
+    let p3 = c .before .before .before in
+    let p7 = p3 .before .before .before .before in
+    let p18 = p7 .before .before .before .before .before .before .before .before .before .before .before in
+    let p20 = p18 .before .before in
+    let p21 = p20 .before in
+    let p24 = p21 .before .before .before in
+    let p27 = p24 .before .before .before in
+    let p31 = p27 .before .before .before .before in
+    let p38 = p31 .before .before .before .before .before .before .before in
+    accept-asks (header p31) _ _ _ (sym (p18 .at .given .1) ∙ p20 .locate .ensures) _ (p38 .args .work .now) (has p31) (lent p27)
+    _ (p7 .gather-repair .result) _ _ (p3 .kept .given .1) (p7 .gather-repair .ensures .works) (omega arith)
+    (within-bounds 1 (header p31 .setting .width) (fields p24 .nss) (fits p21) .1)
 
 returns-8 : tie.Need-returns-8
 returns-8 c =
@@ -134,7 +143,7 @@ returns-8 c =
     let drawn = c .before .before .before .before .before .before .before .before .before .before .before .before .before .before .before .before .before .fill-lists .ensures in
     let done = c .before .before .before .before .before .before .before .before .before .before .before .before .before .before .enum-told3 .given .1 in
     call-done _ _ _ (header p) (has p) (lent (c .before .before .before .before .before .before .before .before .before .before .before .before .before .before .before .before .before .before .before .before .before .before .before .before .before .before .before .before .before .before)) (fields q) (read q) (fits (c .before .before .before .before .before .before .before .before .before .before .before .before .before .before .before .before .before .before .before .before .before .before .before .before)) _ (sym (c .before .before .before .before .before .before .before .before .before .before .before .before .before .before .before .before .before .before .before .before .before .at .given .1) ∙ c .before .before .before .before .before .before .before .before .before .before .before .before .before .before .before .before .before .before .before .before .before .before .before .locate .ensures)
-    (lists-were-done drawn done) _ _ (drawn .bytes done) _ _ (c .before .before .before .before .before .before .before .before .before .before .gather-repair .ensures) _ _ _ (c .before .before .before .before .before .before .kept .given .1) (c .before .before .finish .ensures)
+    (lists-were-done drawn done) _ _ (drawn .bytes done) _ _ (c .before .before .before .before .before .before .before .before .before .before .gather-repair .ensures) _ _ _ (c .before .before .before .before .before .before .kept .given .1) (c .before .before .accept .ensures)
 
 pub receive-repair-spec : {M : Type 1} → statement M
 receive-repair-spec =
@@ -175,7 +184,7 @@ receive-repair-spec =
     (λ c. search needs)
     (λ c. search needs)
     returns-7
-    finish-requires
+    accept-requires
     (λ c. search needs)
     (λ c. search needs)
     returns-8)

@@ -13,7 +13,7 @@ use Rattle.receiver.specs.History.{workingSize}
 use Rattle.receiver.specs.Header.{headerIn}
 use Rattle.receiver.specs.Steps.{placeFound}
 use Rattle.receiver.proofs.Headers.{header-is, header-none, Headed, headed}
-use Rattle.receiver.proofs.Receiving.{received-unopened, received-short, place-width, place-size, ready, finish-asks}
+use Rattle.receiver.proofs.Receiving.{received-unopened, received-short, place-width, place-size, ready, accept-asks}
 use Rattle.receiver.proofs.SourceCall.{Fields, source-fields, adu-length, source-none}
 use Rattle.receiver.proofs.SourceCall.{call-form, call-long, call-many, call-out, call-contradicts, call-done}
 use borrow.Author.Needs.{needs}
@@ -115,12 +115,13 @@ returns-7 c =
     (p .before .before .before .before .before .before .if2 .left) _ (p .before .before .before .before .before .symbol-count .ensures) (p .before .before .before .if3 .left) (place p) (found p) _ _ (c .before .before .before .before .before .before .before .part .ensures .bytes)
     (gathered .result) (gathered .ensures) (c .enum-told3 .given .1)
 
-finish-requires : tie.Need-finish-requires
-finish-requires c κs =
+accept-requires : tie.Need-accept-requires
+accept-requires c κs =
     let p = c .before .before .before .before .before .before .before .before .before .before .before .before in
+    let start = read-header p .before .before .before .before .before .before .before in
     let gathered = c .before .before .before .before .before .before .before .gather-source in
-    finish-asks _ _ _ (place p) (found p) _ (p .before .before .before .before .before .before .before .before .before .before .before .before .before .before .before .before .before .before .before .before .before .before .before .args .work .now) (has (read-header p)) (long-enough p) _ (gathered .result) _
-    (c .before .before .before .kept .given .1) (gathered .ensures .works)
+    accept-asks _ _ _ (place p) (found p) _ (start .args .work .now) (has (read-header p)) (long-enough p)
+    _ (gathered .result) _ _ (c .before .before .before .kept .given .1) (gathered .ensures .works) (omega arith) (p .before .before .before .if3 .left)
 
 returns-8 : tie.Need-returns-8
 returns-8 c =
@@ -128,7 +129,7 @@ returns-8 c =
     let gathered = c .before .before .before .before .before .before .before .before .before .before .gather-source in
     call-done _ _ _ _ (header (read-header p)) (has (read-header p)) (long-enough p) (fields (read-fields p)) (reads (read-fields p))
     (p .before .before .before .before .before .before .if2 .left) _ (p .before .before .before .before .before .symbol-count .ensures) (p .before .before .before .if3 .left) (place p) (found p) _ _ (c .before .before .before .before .before .before .before .before .before .before .before .before .before .part .ensures .bytes)
-    (gathered .result) (gathered .ensures) _ _ _ (c .before .before .before .before .before .before .kept .given .1) (c .before .before .finish .ensures)
+    (gathered .result) (gathered .ensures) _ _ _ (c .before .before .before .before .before .before .kept .given .1) (c .before .before .accept .ensures)
 
 pub receive-source-spec : {M : Type 1} → statement M
 receive-source-spec =
@@ -164,7 +165,7 @@ receive-source-spec =
     (λ c. search needs)
     (λ c. search needs)
     returns-7
-    finish-requires
+    accept-requires
     (λ c. search needs)
     (λ c. search needs)
     returns-8)

@@ -1,4 +1,5 @@
 -- `receiver::packet::locate` meets its contract.
+use native.Mathlib.Omega.{arith}
 use Rattle.receiver.proofs.Locating.{found-behind, found-ahead, found-place}
 use borrow.Author.Needs.{needs}
 use Rattle.receiver.proofs.packet.locate.Statement.{statement}
@@ -15,6 +16,9 @@ returns-2 c =
     let a = c .before .before .before .args in
     let d = c .before .before .distance in
     found-ahead (a .header) (a .first .0) (a .n) (d .result) (d .ensures) (c .before .if1 .left) (c .if2 .taken)
+
+sub-t15 : tie.Need-sub-t15
+sub-t15 c = omega (arith, c .before .before .before .excess .ensures)
 
 returns-3 : tie.Need-returns-3
 returns-3 c =
@@ -40,4 +44,5 @@ locate-spec =
     (λ c κs. search needs)
     (λ c. search needs)
     (λ c. search needs)
+    sub-t15
     returns-3)

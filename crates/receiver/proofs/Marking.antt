@@ -1,0 +1,139 @@
+-- A memory in which nothing but marks has changed holds the same state; and the marks after a packet.
+use mathlib.Core.Path.{_≡_, refl, sym, ap, _∙_, subst}
+use mathlib.Core.Option.{Option, none, some}
+use mathlib.Core.List.{List}
+use Prim.Native.Nat.{ℕ, _+_, _-_, _%_, _≤_, _<_}
+use native.Mathlib.Nat.{mod-lt, mod-add-mod}
+use native.Mathlib.Decide.{decLt}
+use native.Mathlib.Omega.{arith}
+use lib.ListN.{length, drop, getD, length-drop}
+use lib.Seq.{ext-getD, getD-drop}
+use lib.Dec.{ltb}
+use Rattle.memory.specs.Part.{part}
+use Rattle.memory.proofs.Parts.{length-part, getD-part}
+use Rattle.wire.specs.declared.Setting.{Setting}
+use Rattle.wire.specs.Settings.{settingIn}
+use Rattle.wire.proofs.Settings.{setting-kept}
+use Rattle.elimination.specs.Window as window
+use Rattle.starts.specs.Starts.{Starts, moved, pass, seen}
+use Rattle.starts.specs.Marks as marks
+use Rattle.starts.specs.MarkSteps.{owning, Updated}
+use Rattle.starts.proofs.Only.{only-window, header-no-mark, past-no-mark, mark-row, mark-past}
+use Rattle.receiver.specs.declared.Header.{Header}
+use Rattle.receiver.specs.declared.packet.PacketPlace.{PacketPlace}
+use Rattle.receiver.specs.History.{memorySize}
+use Rattle.receiver.specs.Model.{State}
+use Rattle.receiver.specs.Header.{headerWith, headerIn}
+use Rattle.receiver.specs.Promises.{Contained}
+use Rattle.receiver.specs.Layout.{headerOf, Holds, Marks}
+use Rattle.receiver.specs.Steps.{SameMarks, PlacedBy, Finished, Accepted}
+use Rattle.receiver.proofs.Headers.{headed, header-fits}
+use Rattle.receiver.proofs.Gathering.{contained-more}
+use Rattle.receiver.proofs.Finishing.{header-held}
+
+-- ---- nothing but marks has changed
+
+module _ (w E : ℕ) (m m′ : List ℕ) (o : marks.OnlyMarks w E m m′) (long : 64 ≤ length m) where
+  -- A part of the header without byte 10.
+  part-kept : (a n : ℕ) → a + n ≤ 64 → ((i : ℕ) → i < n → a + i ≡ 10 → ⊥) → part a n m′ ≡ part a n m
+  part-kept a n h away =
+      let l : length (part a n m′) ≡ n = length-part a n m′ (omega (arith, o .size)) in
+      ext-getD 0 (part a n m′) (part a n m) (l ∙ sym (length-part a n m (omega arith)))
+      (λ i k.
+      let j : i < n = omega (arith, l) in
+      getD-part a n i m′ j ∙ o .others (a + i) (header-no-mark w E (a + i) (omega arith) (away i j)) ∙ sym (getD-part a n i m j))
+
+  setting-same : settingIn 2 m′ ≡ settingIn 2 m
+  unfolding part
+  setting-same = setting-kept 2 m′ m (part-kept 0 8 (omega arith) (λ i l e. omega arith))
+
+  head-same : (s : Option Setting) → headerWith m′ s ≡ headerWith m s
+  head-same none = refl
+  head-same (some s) =
+      rw (o .size, part-kept 8 2 (omega arith) (λ i l e. omega arith), part-kept 12 4 (omega arith) (λ i l e. omega arith))
+
+  pub header-same : headerIn m′ ≡ headerIn m
+  unfolding headerIn
+  header-same = ap (headerWith m′) setting-same ∙ head-same (settingIn 2 m)
+
+pub only-contained : (s : Setting) (m m′ : List ℕ) → marks.OnlyMarks (s .width) (s .size) m m′ → Contained (memorySize s) m m′
+only-contained s m m′ o = record {
+  same = o .size;
+  past =
+      ext-getD 0 (drop (memorySize s) m′) (drop (memorySize s) m)
+      (length-drop (memorySize s) m′ ∙ ap (λ n. n - memorySize s) (o .size) ∙ sym (length-drop (memorySize s) m))
+      (λ i h.
+      getD-drop (memorySize s) m′ i 0 ∙ o .others (memorySize s + i) (past-no-mark (s .width) (s .size) (memorySize s + i) (omega arith))
+      ∙ sym (getD-drop (memorySize s) m i 0));
+}
+
+pub only-holds : (s : Setting) (t : State s) (m m′ : List ℕ) → Holds m s t → marks.OnlyMarks (s .width) (s .size) m m′ → Holds m′ s t
+only-holds s t m m′ k o =
+    let f = header-fits m (headerOf s t) (k .header) in
+    record {
+      header = header-same (s .width) (s .size) m m′ o (omega (arith, f .room)) ∙ k .header;
+      reduced = k .reduced;
+      rows = only-window (f .some-width) o (t .base) (t .window) (k .rows);
+    }
+
+-- ---- the marks have not changed
+
+pub same-marks : (w E base : ℕ) (m m′ : List ℕ) (M : Starts) → 0 < w → SameMarks w E m m′ → marks.Marks w E base m M → marks.Marks w E base m′ M
+same-marks w E base m m′ M pos f h i l = go (decLt i w) ∙ h i l
+  where
+    go : Dec (i < w) → marks.marked w E base m′ i ≡ marks.marked w E base m i
+    go (yes a) =
+        let r = (base + i) % w in
+        let e = mark-row w E base i r a refl in
+        ap (λ k. ltb 0 (getD m′ k 0)) (sym e) ∙ ap (ltb 0) (f .rows r (mod-lt (base + i) pos)) ∙ ap (λ k. ltb 0 (getD m k 0)) e
+    go (no a) =
+        let e = mark-past w E base i (omega arith) in
+        ap (λ k. ltb 0 (getD m′ k 0)) (sym e) ∙ ap (ltb 0) (f .header 10 (omega arith) (omega arith)) ∙ ap (λ k. ltb 0 (getD m k 0)) e
+
+-- ---- a packet is accepted
+
+-- What following it with the marks asks.
+pub update-asks : (h : Header) (at : PacketPlace) (own : ℕ) (m m₁ : List ℕ) → headerIn m ≡ some h → PlacedBy h at own
+    → Contained (memorySize (h .setting)) m m₁
+    → window.Fits (at .shape .width) (at .shape .size) m₁ × (h .row < at .shape .width) × (at .shape .base ≡ (h .row + at .rise) % at .shape .width)
+    × (at .offset + own ≤ at .shape .width)
+update-asks h at own m m₁ has placed k =
+    let g = header-fits m h has in
+    let f : window.Fits (h .setting .width) (h .setting .size) m₁ = record {
+      some-width = g .some-width;
+      wide = g .wide;
+      some-symbol = g .some-symbol;
+      long = g .long;
+      room = omega (arith, g .room, k .same);
+    } in
+    let fits = subst (λ w. window.Fits w (at .shape .size) m₁) (sym (placed .width))
+    (subst (λ E. window.Fits (h .setting .width) E m₁) (sym (placed .size)) f) in
+    (fits, subst (λ w. h .row < w) (sym (placed .width)) (headed m h has .row-lt), placed .base, placed .room)
+
+pub accepted : (h : Header) (at : PacketPlace) (kept own count : ℕ) (work m m₁ m₂ : List ℕ) → headerIn m ≡ some h → PlacedBy h at own
+    → Finished h at kept count work m m₁ → Updated (at .shape .width) (at .shape .size) (h .row) (at .rise) (at .offset) own m₁ m₂
+    → Accepted h at kept own count work m m₂
+accepted h at kept own count work m m₁ m₂ has placed f u =
+    let u′ : Updated (h .setting .width) (h .setting .size) (h .row) (at .rise) (at .offset) own m₁ m₂ =
+    subst (λ x. Updated (h .setting .width) x (h .row) (at .rise) (at .offset) own m₁ m₂) (placed .size)
+    (subst (λ x. Updated x (at .shape .size) (h .row) (at .rise) (at .offset) own m₁ m₂) (placed .width) u) in
+    record {
+      contained = contained-more (f .contained) (only-contained (h .setting) m₁ m₂ (u′ .only));
+      outcome = λ s t es k row g.
+          let is = header-held m h s t has k in
+          let fits = header-fits m (headerOf s t) (k .header) in
+          let same = subst (λ (x : Header). SameMarks (x .setting .width) (x .setting .size) m m₁) is (f .marks) in
+          let v = subst (λ (x : Header). Updated (x .setting .width) (x .setting .size) (x .row) (at .rise) (at .offset) own m₁ m₂) is u′ in
+          let (T, i, held, n) = f .outcome s t es k row g in
+          let around = mod-add-mod (t .base) (s .width) (at .rise) in (
+            T,
+            i,
+            only-holds s (record { base = t .base + at .rise; window = T }) m₁ m₂ held (v .only),
+            n,
+            λ M km.
+                let N = pass (s .size) (seen (s .size) (s .width) T) (s .width) (owning (at .offset) own (moved (s .width) (at .rise) M)) in
+                subst (λ b. marks.Marks (s .width) (s .size) b m₂ N) around
+                (v .marks (t .base + at .rise) T M (sym around) (held .rows)
+                (same-marks (s .width) (s .size) (t .base % s .width) m m₁ M (fits .some-width) same km)),
+          );
+    }

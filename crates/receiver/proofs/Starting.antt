@@ -1,0 +1,243 @@
+-- The model's marks are the history's starts.
+use mathlib.Core.Path.{_≡_, refl, sym, ap, _∙_, subst}
+use mathlib.Core.Logic.{_↔_, _⊎_, inl, inr}
+use mathlib.Core.Bool.{true}
+use mathlib.Core.Option.{Option, none, some, Option·none-ne-some, Option·some-injective}
+use mathlib.Core.List.{List, [], _∷_}
+use Prim.Native.Nat.{ℕ, zero, suc, _+_, _-_, _≤_, _<_}
+use native.Mathlib.Nat.{add-assoc, add-suc, le-of-suc-le-suc, not-suc-le-zero}
+use native.Mathlib.Decide.{decLt}
+use native.Mathlib.Omega.{arith}
+use lib.ListN.{length}
+use borrow.Author.Tests.{eqb-true, eq-eqb}
+use Rattle.wire.specs.declared.Setting.{Setting}
+use Rattle.memory.specs.Number.{Bytes}
+use Rattle.memory.proofs.Parts.{cons-eq}
+use Rattle.decoder.specs.Field.{Ops}
+use Rattle.decoder.specs.Bytes.{Coded}
+use Rattle.decoder.specs.Model as model
+use Rattle.decoder.specs.Model.{known}
+use Rattle.decoder.specs.Receiver as decoder
+use Rattle.starts.specs.Adu.{View, needs}
+use Rattle.starts.specs.Starts.{Starts, zeroth, also, moved, pass, shown, seen}
+use Rattle.starts.proofs.Tests.{also-true, moved-true}
+use Rattle.starts.proofs.Chaining.{Chained, seed, next, pass-chained}
+use Rattle.starts.proofs.Handing.{Shows}
+use Rattle.receiver.specs.Symbol.{Symbol, bytesOf, symbolOf}
+use Rattle.receiver.specs.History.{Filling, symbolsAt, Located, source, repair, first, named, All, Consistent, Known, Reading, fails, located}
+use Rattle.receiver.specs.History.{Log, fresh, baseOf, raised, accept, logged, baseAfter, Spanned, Named, Reached, already, later, Start}
+use Rattle.receiver.specs.Model.{State, Outcome, refused, done, saidOf, stateAfter, responds, naming, startsAfter, marking}
+use Rattle.receiver.proofs.Says.{Whole, symbol-bytes, bytes-whole, head, rest}
+use Rattle.receiver.proofs.Answers.{Fits, Tracks, known-exactly, known-value, tracks-consistent, judged}
+
+-- What is seen from the base on is what is known there, with the bytes of every filling.
+pub record Sees (E : ℕ) (qs : List Located) (base : ℕ) (see : View) : Type 0 where
+  pub filling : Consistent E qs
+  pub shown : (i : ℕ) → Known E qs (base + i) → (f : Filling E) → All E qs f → see i ≡ some (bytesOf E (f (base + i)))
+  pub is-known : (i : ℕ) (v : List ℕ) → see i ≡ some v → Known E qs (base + i)
+
+-- Symbols that are shown are those of every filling.
+module _ (E : ℕ) (qs : List Located) (base : ℕ) (see : View) (sees : Sees E qs base see) where
+  pub shown-value : (i : ℕ) (v : List ℕ) → see i ≡ some v → (f : Filling E) → All E qs f → bytesOf E (f (base + i)) ≡ v
+  shown-value i v h f a = Option·some-injective _ _ (sym (sees .shown i (sees .is-known i v h) f a) ∙ h)
+
+  pub shown-whole : (i : ℕ) (v : List ℕ) → see i ≡ some v → (length v ≡ E) × Bytes v
+  shown-whole i v h =
+      let (f, a) = sees .filling in
+      let w = subst (Whole E) (shown-value i v h f a) (bytes-whole E (f (base + i))) in
+      (w .sized, w .small)
+
+  pub unseen : (i : ℕ) → ¬ Known E qs (base + i) → see i ≡ none
+  unseen i n = go (see i) refl
+    where
+      go : (o : Option (List ℕ)) → see i ≡ o → o ≡ none
+      go none e = refl
+      go (some v) e = absurd (n (sees .is-known i v e))
+
+  pub shows-held : (i : ℕ) (vs : List (List ℕ)) → Shows see i vs → (f : Filling E) → All E qs f → symbolsAt E f (base + i) (length vs) ≡ vs
+  shows-held i [] h f a = refl
+  shows-held i (v ∷ vs) h f a =
+      cons-eq (shown-value i v (h .0) f a)
+      (ap (λ p. symbolsAt E f p (length vs)) (sym (add-suc base i)) ∙ shows-held (suc i) vs (h .1) f a)
+
+  pub held-shows : (i : ℕ) (vs : List (List ℕ)) → ((f : Filling E) → All E qs f → symbolsAt E f (base + i) (length vs) ≡ vs) → Shows see i vs
+  held-shows i [] h = tt
+  held-shows i (v ∷ vs) h =
+      let here : (f : Filling E) → All E qs f → bytesOf E (f (base + i)) ≡ v = λ f a. ap head (h f a) in
+      let same : Known E qs (base + i) =
+      λ f g a b. sym (symbol-bytes E (f (base + i))) ∙ ap (symbolOf E) (here f a ∙ sym (here g b)) ∙ symbol-bytes E (g (base + i)) in
+      let (f, a) = sees .filling in (
+        sees .shown i same f a ∙ ap (λ (x : List ℕ). some x) (here f a),
+        held-shows (suc i) vs (λ g b. ap (λ p. symbolsAt E g p (length vs)) (add-suc base i) ∙ ap rest (h g b)),
+      )
+
+  -- All symbols that are shown lie in the window.
+  pub shows-inside : (width : ℕ) → ((i : ℕ) → width ≤ i → see i ≡ none) → (i : ℕ) → i ≤ width → (vs : List (List ℕ)) → Shows see i vs
+      → i + length vs ≤ width
+  shows-inside width outside i l [] h = omega arith
+  shows-inside width outside i l (v ∷ vs) h = go (decLt i width) (λ k. shows-inside width outside (suc i) k vs (h .1))
+    where
+      go : Dec (i < width) → (i < width → suc i + length vs ≤ width) → i + suc (length vs) ≤ width
+      go (yes k) f = omega (arith, f k)
+      go (no k) f = absurd (Option·none-ne-some v (sym (outside i (omega arith)) ∙ h .0))
+
+-- Nothing is known past the window.
+known-outside : {O : Ops} {n : ℕ} (S : model.State O n) (i : ℕ) → n ≤ i → known S i ≡ none
+unfolding known
+known-outside model.end i h = refl
+known-outside (model.free S) zero h = refl
+known-outside (model.free S) (suc i) h = known-outside S i (le-of-suc-le-suc h)
+known-outside (model.pivot r S) zero h = absurd (not-suc-le-zero h)
+known-outside (model.pivot r S) (suc i) h = known-outside S i (le-of-suc-le-suc h)
+
+pub seen-outside : (E width : ℕ) (S : model.State (Coded E) width) (i : ℕ) → width ≤ i → seen E width S i ≡ none
+seen-outside E width S i h = ap (shown E) (known-outside S i h)
+
+module _ (s : Setting) where
+  open Setting s using (size as E, width)
+
+  -- A start lies in the span.
+  reached-spanned : (qs : List Located) (A : ℕ → Type 0) {p : ℕ} → Reached s qs A p → Spanned s (baseAfter s qs) p
+  reached-spanned qs A (already a h) = h
+  reached-spanned qs A (later r l k f a h) = h
+
+  pub start-spanned : (qs : List Located) (p : ℕ) → Start s qs p → Spanned s (baseAfter s qs) p
+  start-spanned [] p h = record { low = omega arith; high = omega arith }
+  start-spanned (q ∷ qs) p h = reached-spanned (q ∷ qs) _ h
+
+  -- The marks M are the starts after the packets qs.
+  abbrev pub AreStarts : List Located → (base : ℕ) → Starts → Type 0
+  AreStarts qs base M = (i : ℕ) → i ≤ width → (M i ≡ true) ↔ Start s qs (base + i)
+
+  -- A packet q that fits is accepted after the packets qs, and the base rises from b to b′.
+  module _ (some-bytes : 0 < E) (q : Located) (qs : List Located) (b b′ : ℕ) (eb : b ≡ baseAfter s qs) (eb′ : b′ ≡ baseAfter s (q ∷ qs))
+      (ahead : b ≤ first q) (short : named q ≤ width) (M : Starts) (starts : AreStarts qs b M) (see : View) (sees : Sees E (q ∷ qs) b′ see) where
+    abbrev A : ℕ → Type 0
+    A x = Start s qs x ⊎ Named s q x
+
+    abbrev N : Starts
+    N = naming s b′ q (moved width (b′ - b) M)
+
+    -- Marks that stay.
+    stay : (j : ℕ) → moved width (b′ - b) M j ≡ true → Start s qs (b′ + j)
+    stay j h =
+        let (l, m) = moved-true width (b′ - b) M j .0 h in
+        let e : b + (b′ - b + j) ≡ b′ + j = omega (arith, eb, eb′) in
+        subst (Start s qs) e (starts (b′ - b + j) l .0 m)
+
+    stayed : (p : ℕ) → Spanned s b′ p → Start s qs p → moved width (b′ - b) M (p - b′) ≡ true
+    stayed p sp h =
+        let sq = start-spanned qs p h in
+        let l : b′ - b + (p - b′) ≤ width = omega (arith, eb, eb′, sp .low, sq .high) in
+        let e : p ≡ b + (b′ - b + (p - b′)) = omega (arith, eb, eb′, sp .low, sq .low) in
+        moved-true width (b′ - b) M (p - b′) .1 (l, starts (b′ - b + (p - b′)) l .1 (subst (Start s qs) e h))
+
+    -- And those that the packet makes.
+    made : (x : Located) → b′ ≤ first x → (j : ℕ) → naming s b′ x (moved width (b′ - b) M) j ≡ true → Start s qs (b′ + j) ⊎ Named s x (b′ + j)
+    made (source p vs) f j h = go (also-true (p - b′) (also (p + length vs - b′) (moved width (b′ - b) M)) j .0 h)
+      where
+        on : (j ≡ p + length vs - b′) ⊎ (moved width (b′ - b) M j ≡ true) → Start s qs (b′ + j) ⊎ Named s (source p vs) (b′ + j)
+        on (inl e) = inr (inr (omega arith))
+        on (inr k) = inl (stay j k)
+
+        go : (j ≡ p - b′) ⊎ (also (p + length vs - b′) (moved width (b′ - b) M) j ≡ true) → Start s qs (b′ + j) ⊎ Named s (source p vs) (b′ + j)
+        go (inl e) = inr (inl (omega arith))
+        go (inr k) = on (also-true (p + length vs - b′) (moved width (b′ - b) M) j .0 k)
+    made (repair p n cs vs) f j h = inl (stay j h)
+
+    marked : (x : Located) (p : ℕ) → Spanned s b′ p → Start s qs p ⊎ Named s x p → naming s b′ x (moved width (b′ - b) M) (p - b′) ≡ true
+    marked (source x vs) p sp (inl h) =
+        also-true (x - b′) (also (x + length vs - b′) (moved width (b′ - b) M)) (p - b′) .1
+        (inr (also-true (x + length vs - b′) (moved width (b′ - b) M) (p - b′) .1 (inr (stayed p sp h))))
+    marked (source x vs) p sp (inr (inl e)) =
+        also-true (x - b′) (also (x + length vs - b′) (moved width (b′ - b) M)) (p - b′) .1 (inl (ap (λ y. y - b′) e))
+    marked (source x vs) p sp (inr (inr e)) =
+        also-true (x - b′) (also (x + length vs - b′) (moved width (b′ - b) M)) (p - b′) .1
+        (inr (also-true (x + length vs - b′) (moved width (b′ - b) M) (p - b′) .1 (inl (ap (λ y. y - b′) e))))
+    marked (repair x n cs vs) p sp (inl h) = stayed p sp h
+    marked (repair x n cs vs) p sp (inr e) = absurd e
+
+    spanned : (j : ℕ) → j ≤ width → Spanned s (baseAfter s (q ∷ qs)) (b′ + j)
+    spanned j h = record { low = omega (arith, eb′); high = omega (arith, eb′) }
+
+    -- What the marks reach is what the starts reach.
+    reaches : {j : ℕ} → Chained E see width N j → j ≤ width → Start s (q ∷ qs) (b′ + j)
+    reaches {j} (seed h) l = already (made q (omega (arith, eb, eb′)) j h) (spanned j l)
+    reaches (next {i} {v} c k h) l =
+        let (f, a) = sees .filling in
+        let n = sees .is-known i v h in
+        let e : bytesOf E (f (b′ + i)) ≡ v = Option·some-injective _ _ (sym (sees .shown i n f a) ∙ h) in
+        let on : b′ + i + needs E (bytesOf E (f (b′ + i))) ≡ b′ + (i + needs E v) = add-assoc b′ i _ ∙ ap (λ x. b′ + (i + needs E x)) e in
+        subst (Start s (q ∷ qs)) on
+        (later (reaches c (omega arith)) (omega (arith, eb′)) n f a (subst (Spanned s (baseAfter s (q ∷ qs))) (sym on) (spanned (i + needs E v) l)))
+
+    reached : {p : ℕ} → Reached s (q ∷ qs) A p → Chained E see width N (p - b′)
+    reached {p} (already a sp) = seed (marked q p (subst (λ x. Spanned s x p) (sym eb′) sp) a)
+    reached (later {p} r l k f a sp) =
+        let sr = reached-spanned (q ∷ qs) A r in
+        let e : b′ + (p - b′) ≡ p = omega (arith, eb′, sr .low) in
+        let h : see (p - b′) ≡ some (bytesOf E (f p)) =
+        sees .shown (p - b′) (subst (Known E (q ∷ qs)) (sym e) k) f a ∙ ap (λ x. some (bytesOf E (f x))) e in
+        let on : p - b′ + needs E (bytesOf E (f p)) ≡ p + needs E (bytesOf E (f p)) - b′ = omega (arith, eb′, sr .low) in
+        subst (Chained E see width N) on (next (reached r) (omega (arith, eb′, sr .low)) h)
+
+    pub starts-after : AreStarts (q ∷ qs) b′ (pass E see width N)
+    starts-after i l =
+        let c = pass-chained E see some-bytes width N i in
+        let e : b′ + i - b′ ≡ i = omega arith in (
+          (λ h. reaches (c .0 h) l),
+          (λ r. c .1 (subst (Chained E see width N) e (reached r))),
+        )
+
+-- ---- The model
+
+module _ (s : Setting) (some-bytes : 0 < s .size) where
+  open Setting s using (size as E, width)
+
+  -- The marks follow the history.
+  pub record MarksTrack (l : Log) (M : Starts) : Type 0 where
+    pub base-is : baseOf l ≡ baseAfter s (l .accepted)
+    pub starts : AreStarts s (l .accepted) (baseOf l) M
+
+  pub fresh-marks : MarksTrack fresh zeroth
+  fresh-marks = record { base-is = refl; starts = λ i h. ((λ e. omega (arith, eqb-true i 0 e)), (λ e. eq-eqb i 0 (omega arith))) }
+
+  -- A state that follows the history sees what is known.
+  pub tracks-sees : (l : Log) (t : State s) → Tracks s some-bytes l t → Sees E (l .accepted) (baseOf l) (seen E width (t .window))
+  tracks-sees l t k = record {
+    filling = tracks-consistent s some-bytes l t k;
+    shown = λ i n f a. value i (known (t .window) i) refl (known-exactly s some-bytes l t k i .1 n) f a;
+    is-known = λ i v h. known-exactly s some-bytes l t k i .0 (there (known (t .window) i) v h);
+  }
+    where
+      value : (i : ℕ) (o : Option (Symbol E)) → known (t .window) i ≡ o → decoder.Accepted o → (f : Filling E) → All E (l .accepted) f
+          → shown E o ≡ some (bytesOf E (f (baseOf l + i)))
+      value i none e n f a = absurd n
+      value i (some v) e n f a = ap (λ x. some (bytesOf E x)) (sym (known-value s some-bytes l t k i v e f a))
+
+      there : (o : Option (Symbol E)) (v : List ℕ) → shown E o ≡ some v → decoder.Accepted o
+      there none v h = absurd (Option·none-ne-some v h)
+      there (some x) v h = tt
+
+  -- A packet that fits is accepted.
+  accepted : (l : Log) (t t′ : State s) (q : Located) (M : Starts) → Tracks s some-bytes l t → Fits s (baseOf l) q → Tracks s some-bytes (accept s l q) t′
+      → MarksTrack l M → MarksTrack (accept s l q) (startsAfter s t t′ q M)
+  unfolding startsAfter
+  accepted l t t′ q M k g k′ h =
+      let e : baseOf (accept s l q) ≡ baseAfter s (q ∷ l .accepted) = ap (λ b. raised s b q) (h .base-is) in
+      let there : AreStarts s (q ∷ l .accepted) (t′ .base) (startsAfter s t t′ q M) =
+      starts-after s some-bytes q (l .accepted) (t .base) (t′ .base) (k .base-is ∙ h .base-is) (k′ .base-is ∙ e) (omega (arith, g .ahead, k .base-is))
+      (g .short) M (subst (λ b. AreStarts s (l .accepted) b M) (sym (k .base-is)) (h .starts)) (seen E width (t′ .window))
+      (subst (λ b. Sees E (q ∷ l .accepted) b (seen E width (t′ .window))) (sym (k′ .base-is)) (tracks-sees (accept s l q) t′ k′)) in
+      record { base-is = e; starts = subst (λ b. AreStarts s (q ∷ l .accepted) b (startsAfter s t t′ q M)) (k′ .base-is) there }
+
+  -- The marks after a call follow the history after it.
+  pub marking-tracks : (l : Log) (t : State s) (r : Reading) (M : Starts) → Tracks s some-bytes l t → ((q : Located) → r ≡ located q → Fits s (baseOf l) q)
+      → MarksTrack l M → MarksTrack (logged s l r (saidOf (responds s t r))) (marking s t M r (responds s t r))
+  marking-tracks l t (fails m) M k fit h = h
+  marking-tracks l t (located q) M k fit h = go (responds s t (located q)) (judged s some-bytes l t (located q) k fit .1)
+    where
+      go : (o : Outcome s) → Tracks s some-bytes (logged s l (located q) (saidOf o)) (stateAfter t o)
+          → MarksTrack (logged s l (located q) (saidOf o)) (marking s t M (located q) o)
+      go (refused n) k′ = h
+      go (done n t′) k′ = accepted l t t′ q M k (fit q refl) k′ h

@@ -1,0 +1,58 @@
+-- `receiver::adu` meets its contract.
+use mathlib.Core.Path.{_≡_}
+use mathlib.Core.Option.{some}
+use Rattle.receiver.specs.declared.Header.{Header}
+use Rattle.receiver.specs.Header.{headerIn}
+use Rattle.receiver.proofs.Headers.{header-is, header-none, headed, header-fits}
+use Rattle.receiver.proofs.Giving.{adu-unopened, adu-behind, adu-past, adu-inside}
+use borrow.Author.Needs.{needs}
+use Rattle.receiver.proofs.adu.Statement.{statement}
+use Rattle.receiver.proofs.adu.Tie as tie
+
+-- The header that was read.
+abbrev header : tie.After-header → Header
+header p = p .header .given .0 .0
+
+has : (p : tie.After-header) → headerIn (p .before .before .before .before .before .args .mem .now) ≡ some (header p)
+has p = header-is _ (header p) (p .before .before .read-header .ensures) (p .header .given .1)
+
+returns : tie.Need-returns
+returns c = adu-unopened _ _ _ (header-none _ (c .before .before .read-header .ensures) (c .enum-told .given .1))
+
+returns-2 : tie.Need-returns-2
+returns-2 c =
+    let p = c .before .before .before in
+    adu-behind _ _ _ (header p) (has p) (rw (c .before .distance .ensures) at (c .if1 .taken))
+
+returns-3 : tie.Need-returns-3
+returns-3 c =
+    let p = c .before .before .before .before in
+    let d = c .before .before .distance .ensures in
+    adu-past _ _ _ (header p) (has p) (rw d at (c .before .if1 .left)) (rw d at (c .if2 .taken))
+
+hand-out-requires : tie.Need-hand-out-requires
+hand-out-requires c κs =
+    let p = c .before .before .before .before .before in
+    (header-fits _ (header p) (has p), headed _ (header p) (has p) .row-lt, c .before .if2 .left)
+
+returns-4 : tie.Need-returns-4
+returns-4 c =
+    let p = c .before .before .before .before .before .before .before .before in
+    adu-inside _ _ _ (header p) (has p) _ (c .before .before .before .before .before .before .distance .ensures) (c .before .before .before .before .before .if1 .left)
+    (c .before .before .before .before .if2 .left) _ _ (c .before .before .hand-out .ensures)
+
+pub adu-spec : {M : Type 1} → statement M
+adu-spec =
+    tie.close
+    (tie.spec
+    (λ c κs. search needs)
+    (λ c. search needs)
+    (λ c. search needs)
+    returns
+    (λ c κs. search needs)
+    (λ c. search needs)
+    returns-2
+    returns-3
+    hand-out-requires
+    (λ c. search needs)
+    returns-4)

@@ -1,0 +1,100 @@
+-- The pass marks what the marks reach: from a marked known position of the window to the position that its L names, and so on.
+use mathlib.Core.Path.{_≡_, refl, sym, ap, subst}
+use mathlib.Core.Logic.{_↔_, _⊎_, inl, inr}
+use mathlib.Core.Bool.{Bool, true, false, false≢true}
+use mathlib.Core.Option.{Option, none, some, Option·none-ne-some, Option·some-injective}
+use mathlib.Core.List.{List}
+use Prim.Native.Nat.{ℕ, zero, suc, _+_, _-_, _*_, _≤_, _<_}
+use native.Mathlib.Nat.{zero-mul, zero-add, add-zero, add-suc}
+use native.Mathlib.Omega.{arith}
+use Rattle.wire.specs.Packets.{symbolCount}
+use Rattle.wire.proofs.Adui.{room}
+use Rattle.starts.specs.Adu.{View, lengthIn, needs}
+use Rattle.starts.specs.Starts.{Starts, onward, pass}
+use Rattle.starts.proofs.Tests.{also-true}
+
+-- An ADUI takes a symbol at least.
+pub symbols-some : (E L : ℕ) → 0 < E → 0 < symbolCount E L
+symbols-some E L h = go (symbolCount E L) (room E L h)
+  where
+    go : (n : ℕ) → 3 + L ≤ n * E → 0 < n
+    go zero k = absurd (omega (arith, k, zero-mul E))
+    go (suc n) k = omega arith
+
+pub needs-some : (E : ℕ) (x : List ℕ) → 0 < E → 0 < needs E x
+needs-some E x h = symbols-some E (lengthIn x) h
+
+module _ (E : ℕ) (see : View) where
+  pub data Chained (w : ℕ) (M : Starts) : ℕ → Type 0 where
+    seed : {j : ℕ} → M j ≡ true → Chained w M j
+    next : {i : ℕ} {v : List ℕ} → Chained w M i → i < w → see i ≡ some v → Chained w M (i + needs E v)
+
+  -- The turn of position n: what was marked stays, the position that its L names is marked, and no other.
+  module _ (n : ℕ) (M : Starts) where
+    stays : (b : Bool) (o : Option (List ℕ)) (j : ℕ) → M j ≡ true → onward E b o n M j ≡ true
+    stays true (some v) j h = also-true (n + needs E v) M j .1 (inr h)
+    stays true none j h = h
+    stays false o j h = h
+
+    marks : (b : Bool) (o : Option (List ℕ)) (v : List ℕ) → b ≡ true → o ≡ some v → onward E b o n M (n + needs E v) ≡ true
+    marks true (some x) v e f = also-true (n + needs E x) M (n + needs E v) .1 (inl (ap (λ y. n + needs E y) (Option·some-injective _ _ (sym f))))
+    marks true none v e f = absurd (Option·none-ne-some _ f)
+    marks false o v e f = absurd (false≢true e)
+
+    no-other : (b : Bool) (o : Option (List ℕ)) (j : ℕ) → onward E b o n M j ≡ true
+        → (M j ≡ true) ⊎ ((v : List ℕ) × (b ≡ true) × (o ≡ some v) × (j ≡ n + needs E v))
+    no-other true (some v) j h = go (also-true (n + needs E v) M j .0 h)
+      where
+        go : (j ≡ n + needs E v) ⊎ (M j ≡ true) → (M j ≡ true) ⊎ ((x : List ℕ) × (true ≡ true) × (some v ≡ some x) × (j ≡ n + needs E x))
+        go (inl e) = inr (v, refl, refl, e)
+        go (inr k) = inl k
+    no-other true none j h = inl h
+    no-other false o j h = inl h
+
+  chained-on : (w : ℕ) (M : Starts) {j : ℕ} → Chained w M j → Chained (suc w) M j
+  chained-on w M (seed h) = seed h
+  chained-on w M (next c l h) = next (chained-on w M c) (omega arith) h
+
+  to-chained : (w : ℕ) (M : Starts) (j : ℕ) → pass E see w M j ≡ true → Chained w M j
+  unfolding pass
+  to-chained zero M j h = seed h
+  to-chained (suc w) M j h =
+      go (no-other w (pass E see w M) (pass E see w M w) (see w) j h) (to-chained w M j) (to-chained w M w)
+    where
+      go : (pass E see w M j ≡ true) ⊎ ((v : List ℕ) × (pass E see w M w ≡ true) × (see w ≡ some v) × (j ≡ w + needs E v))
+          → (pass E see w M j ≡ true → Chained w M j) → (pass E see w M w ≡ true → Chained w M w) → Chained (suc w) M j
+      go (inl k) f g = chained-on w M (f k)
+      go (inr (v, k, e, q)) f g = subst (Chained (suc w) M) (sym q) (next (chained-on w M (g k)) (omega arith) e)
+
+  -- What is marked stays marked, and at its own turn a position is marked as at the end.
+  pass-grows : (n d : ℕ) (M : Starts) (j : ℕ) → pass E see n M j ≡ true → pass E see (n + d) M j ≡ true
+  unfolding pass
+  pass-grows n zero M j h = rw add-zero h
+  pass-grows n (suc d) M j h =
+      rw add-suc (stays (n + d) (pass E see (n + d) M) (pass E see (n + d) M (n + d)) (see (n + d)) j (pass-grows n d M j h))
+
+  module _ (some-bytes : 0 < E) where
+    pass-settles : (n d : ℕ) (M : Starts) → pass E see (n + d) M n ≡ true → pass E see n M n ≡ true
+    unfolding pass
+    pass-settles n zero M h = rw add-zero at h
+    pass-settles n (suc d) M h =
+        go (no-other (n + d) (pass E see (n + d) M) (pass E see (n + d) M (n + d)) (see (n + d)) n (rw add-suc at h)) (pass-settles n d M)
+      where
+        go : (pass E see (n + d) M n ≡ true)
+            ⊎ ((v : List ℕ) × (pass E see (n + d) M (n + d) ≡ true) × (see (n + d) ≡ some v) × (n ≡ n + d + needs E v))
+            → (pass E see (n + d) M n ≡ true → pass E see n M n ≡ true) → pass E see n M n ≡ true
+        go (inl k) f = f k
+        go (inr (v, k, e, q)) f = absurd (omega (arith, q, needs-some E v some-bytes))
+
+    of-chained : (w : ℕ) (M : Starts) {j : ℕ} → Chained w M j → pass E see w M j ≡ true
+    unfolding pass
+    of-chained w M (seed {j} h) = subst (λ n. pass E see n M j ≡ true) (zero-add w) (pass-grows 0 w M j h)
+    of-chained w M (next {i} {v} c l h) =
+        let (d, e) : (d : ℕ) × (suc i + d ≡ w) = (w - suc i, omega arith) in
+        let f : i + suc d ≡ w = omega arith in
+        let k = pass-settles i (suc d) M (subst (λ n. pass E see n M i ≡ true) (sym f) (of-chained w M c)) in
+        subst (λ n. pass E see n M (i + needs E v) ≡ true) e
+        (pass-grows (suc i) d M (i + needs E v) (marks i (pass E see i M) (pass E see i M i) (see i) v k h))
+
+    pub pass-chained : (w : ℕ) (M : Starts) (j : ℕ) → (pass E see w M j ≡ true) ↔ Chained w M j
+    pass-chained w M j = (to-chained w M j, of-chained w M)

@@ -1,0 +1,144 @@
+-- `starts::marks::step` meets its contract.
+use native.Mathlib.Omega.{arith}
+use borrow.Author.Tests.{not-true, not-false}
+use Rattle.starts.proofs.Passing.{step-unmarked, step-unknown, step-near, step-far}
+use borrow.Author.Needs.{needs}
+use Rattle.starts.proofs.marks.step.Statement.{statement}
+use Rattle.starts.proofs.marks.step.Tie as tie
+
+-- src/marks.rt:112:9
+is-marked-requires : tie.Need-is-marked-requires
+is-marked-requires c κs = search needs
+
+-- src/marks.rt:113:9
+same-length : tie.Need-same-length
+same-length c = search needs
+
+-- src/marks.rt:113:9
+returns : tie.Need-returns
+returns c =
+    let p1 = c .before in
+    let p4 = p1 .before .before .before in
+    step-unmarked _ _ _ (p4 .args .i) _ (omega arith) (p1 .is-marked .result) (p1 .is-marked .ensures) (not-true (p1 .is-marked .result) (c .if1 .taken))
+
+-- src/marks.rt:116:9
+row-of-requires : tie.Need-row-of-requires
+row-of-requires c κs = search needs
+
+-- src/marks.rt:117:9
+is-known-requires : tie.Need-is-known-requires
+is-known-requires c κs = search needs
+
+-- src/marks.rt:118:9
+same-length-2 : tie.Need-same-length-2
+same-length-2 c = search needs
+
+-- src/marks.rt:118:9
+returns-2 : tie.Need-returns-2
+returns-2 c =
+    let p1 = c .before in
+    let p3 = p1 .before .before in
+    let p8 = p3 .before .before .before .before .before in
+    step-unknown _ _ _ (p8 .args .i) _ _ (omega arith) (p3 .row-of .ensures .0) (p1 .is-known .result)
+    (not-true (p1 .is-known .result) (c .if2 .taken)) (p1 .is-known .ensures)
+
+-- src/marks.rt:120:9
+symbol-at-requires : tie.Need-symbol-at-requires
+symbol-at-requires c κs = search needs
+
+-- src/marks.rt:121:66
+add-load-u16 : tie.Need-add-load-u16
+add-load-u16 c = search needs
+
+-- src/marks.rt:121:44
+load-u16-requires : tie.Need-load-u16-requires
+load-u16-requires c κs = search needs
+
+-- src/marks.rt:121:44
+cast-symbol-count : tie.Need-cast-symbol-count
+cast-symbol-count c = search needs
+
+-- src/marks.rt:121:9
+symbol-count-requires : tie.Need-symbol-count-requires
+symbol-count-requires c κs = search needs
+
+-- src/marks.rt:122:13
+sub-if3 : tie.Need-sub-if3
+sub-if3 c = search needs
+
+-- src/marks.rt:123:25
+add-set : tie.Need-add-set
+add-set c = search needs
+
+-- src/marks.rt:123:9
+set-requires : tie.Need-set-requires
+set-requires c κs = search needs
+
+-- src/marks.rt:108:1
+same-length-3 : tie.Need-same-length-3
+same-length-3 c = search needs
+
+-- src/marks.rt:108:1
+returns-3 : tie.Need-returns-3
+returns-3 c =
+    let p2 = c .before .before in
+    let p5 = p2 .before .before .before in
+    let p6 = p5 .before in
+    let p8 = p6 .before .before in
+    let p9 = p8 .before in
+    let p10 = p9 .before in
+    let p12 = p10 .before .before in
+    let p13 = p12 .before in
+    let p14 = p13 .before in
+    let p16 = p14 .before .before in
+    let p17 = p16 .before in
+    step-near _ _ _ (p17 .args .i) _ _ (omega arith) (p12 .row-of .ensures .0) _ _ _ (p17 .pre .0) (λ i. p16 .slice-known .given i .fits)
+    (p8 .symbol-at .ensures .0) (p10 .is-known .result) (not-false (p10 .is-known .result) (p9 .if2 .left)) (p10 .is-known .ensures)
+    (p6 .load-u16 .ensures) (p5 .symbol-count .ensures)
+    (p14 .is-marked .result) (p14 .is-marked .ensures) (not-false (p14 .is-marked .result) (p13 .if1 .left)) _ (p2 .set .ensures)
+
+-- src/marks.rt:108:1
+same-length-4 : tie.Need-same-length-4
+same-length-4 c = search needs
+
+-- src/marks.rt:108:1
+returns-4 : tie.Need-returns-4
+returns-4 c =
+    let p1 = c .before in
+    let p2 = p1 .before in
+    let p4 = p2 .before .before in
+    let p5 = p4 .before in
+    let p6 = p5 .before in
+    let p8 = p6 .before .before in
+    let p9 = p8 .before in
+    let p10 = p9 .before in
+    let p12 = p10 .before .before in
+    let p13 = p12 .before in
+    step-far _ _ _ (p13 .args .i) _ _ (omega arith) (p8 .row-of .ensures .0) _ _ _ (p13 .pre .0) (λ i. p12 .slice-known .given i .fits)
+    (p4 .symbol-at .ensures .0) (p6 .is-known .result) (not-false (p6 .is-known .result) (p5 .if2 .left)) (p6 .is-known .ensures)
+    (p2 .load-u16 .ensures) (p1 .symbol-count .ensures)
+    (p10 .is-marked .result) (p10 .is-marked .ensures) (not-false (p10 .is-marked .result) (p9 .if1 .left)) (c .if3 .left)
+
+pub step-spec : {M : Type 1} → statement M
+step-spec =
+    tie.close
+    (tie.spec
+    is-marked-requires
+    same-length
+    returns
+    row-of-requires
+    is-known-requires
+    same-length-2
+    returns-2
+    symbol-at-requires
+    add-load-u16
+    load-u16-requires
+    cast-symbol-count
+    symbol-count-requires
+    sub-if3
+    add-set
+    set-requires
+    same-length-3
+    returns-3
+    same-length-4
+    returns-4)

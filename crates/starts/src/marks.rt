@@ -1,0 +1,165 @@
+// The marks of starts: read, set, moved on with the window, and the pass that follows the lengths of known ADUs.
+ghost use mathlib.Core.Path.{_≡_};
+ghost use Prim.Native.Nat.{_+_, _%_, _≤_, _<_};
+ghost use Rattle.elimination.specs.Window.{place, Fits};
+ghost use Rattle.starts.specs.Marks.{markAt, marked};
+ghost use Rattle.starts.specs.MarkSteps.{Written, Dropped, Stepped, Owned, Updated};
+ghost use Rattle.starts.specs.Contracts.{Begun, Added, Moved, Passed};
+use elimination::Shape;
+
+// The row of the i-th position of the window.
+pub fn row_of(shape: Shape, i: usize) -> usize
+    requires { ⌜ (shape .base < shape .width) × (i < shape .width) × (shape .width ≤ 255) ⌝ }
+    ensures { λ r. ⌜ (r ≡ (shape .base + i) % shape .width) × (r < shape .width) ⌝ }
+{
+    let r = shape.base + i;
+    if r < shape.width { r } else { r - shape.width }
+}
+
+// Where the mark of the i-th position of the window, or of the one just past it, stands.
+fn mark_at(shape: Shape, i: usize) -> usize
+    requires { ⌜ (shape .base < shape .width) × (i ≤ shape .width) × (shape .width ≤ 255) × (shape .size ≤ 1500) ⌝ }
+    ensures { λ at. ⌜ (at ≡ markAt (shape .width) (shape .size) (shape .base) i) × (at < place (shape .width) (shape .size) (shape .width)) ⌝ }
+{
+    let w = shape.width;
+    if i < w {
+        let n = w + shape.size;
+        let r = row_of(shape, i);
+        64 + r * (n + 4) + (n + 1)
+    } else {
+        10
+    }
+}
+
+// Where the symbol of the row `r` begins.
+pub fn symbol_at(shape: Shape, r: usize) -> usize
+    requires { ⌜ (r < shape .width) × (shape .width ≤ 255) × (shape .size ≤ 1500) ⌝ }
+    ensures { λ at. ⌜ (at ≡ place (shape .width) (shape .size) r + shape .width)
+        × (at + shape .size ≤ place (shape .width) (shape .size) (shape .width)) ⌝ }
+{
+    64 + r * (shape.width + shape.size + 4) + shape.width
+}
+
+// Whether the i-th position of the window, or the one just past it, is marked.
+pub fn is_marked(mem: &[u8], shape: Shape, i: usize) -> bool
+    requires { ⌜ Fits (shape .width) (shape .size) (now mem) × (shape .base < shape .width) × (i ≤ shape .width) ⌝ }
+    ensures { λ r. ⌜ r ≡ marked (shape .width) (shape .size) (shape .base) (now (mem .entry)) i ⌝ }
+{
+    let at = mark_at(shape, i);
+    0 < mem[at]
+}
+
+// The byte of the i-th position's mark becomes `v`.
+fn write(mem: &mut [u8], shape: Shape, i: usize, v: u8)
+    requires { ⌜ Fits (shape .width) (shape .size) (now mem) × (shape .base < shape .width) × (i ≤ shape .width) ⌝ }
+    ensures { λ _. ⌜ Written (shape .width) (shape .size) (shape .base) i v (now (mem .entry)) (now (mem .exit)) ⌝ }
+{
+    let at = mark_at(shape, i);
+    mem[at] = v;
+}
+
+// The first n positions are no longer marked.
+fn drop_first(mem: &mut [u8], shape: Shape, n: usize)
+    requires { ⌜ Fits (shape .width) (shape .size) (now mem) × (shape .base < shape .width) × (n ≤ shape .width + 1) ⌝ }
+    ensures { λ _. ⌜ Dropped (shape .width) (shape .size) (shape .base) n (now (mem .entry)) (now (mem .exit)) ⌝ }
+{
+    for i in 0..n {
+        write(mem, shape, i, 0);
+    }
+}
+
+// The i-th position of the window, or the one just past it, is marked.
+pub fn set(mem: &mut [u8], shape: Shape, i: usize)
+    requires { ⌜ Fits (shape .width) (shape .size) (now mem) × (shape .base < shape .width) × (i ≤ shape .width) ⌝ }
+    ensures { λ _. ⌜ Added (shape .width) (shape .size) (shape .base) i (now (mem .entry)) (now (mem .exit)) ⌝ }
+{
+    write(mem, shape, i, 1);
+}
+
+// Position 0 alone is marked.
+pub fn begin(mem: &mut [u8], shape: Shape)
+    requires { ⌜ Fits (shape .width) (shape .size) (now mem) × (shape .base < shape .width) ⌝ }
+    ensures { λ _. ⌜ Begun (shape .width) (shape .size) (shape .base) (now (mem .entry)) (now (mem .exit)) ⌝ }
+{
+    drop_first(mem, shape, shape.width + 1);
+    write(mem, shape, 0, 1);
+}
+
+// The window moves on by `rise` positions: marks below its base are dropped, and the one just past it comes into a row.
+pub fn move_on(mem: &mut [u8], shape: Shape, rise: usize)
+    requires { ⌜ Fits (shape .width) (shape .size) (now mem) × (shape .base < shape .width) ⌝ }
+    ensures { λ _. ⌜ Moved (shape .width) (shape .size) (shape .base) rise (now (mem .entry)) (now (mem .exit)) ⌝ }
+{
+    if rise == 0 {
+        return;
+    }
+    let w = shape.width;
+    if w < rise {
+        drop_first(mem, shape, w + 1);
+        return;
+    }
+    let past = mem[10];
+    drop_first(mem, shape, rise);
+    write(mem, shape, w, 0);
+    write(mem, shape, 0, past);
+}
+
+// The turn of the i-th position in the pass: if it is marked and known, it marks the position where the ADU that it begins ends.
+fn step(mem: &mut [u8], shape: Shape, i: usize)
+    requires { ⌜ Fits (shape .width) (shape .size) (now mem) × (shape .base < shape .width) × (i < shape .width) ⌝ }
+    ensures { λ _. ⌜ Stepped (shape .width) (shape .size) (shape .base) i (now (mem .entry)) (now (mem .exit)) ⌝ }
+{
+    if !is_marked(mem, shape, i) {
+        return;
+    }
+    let w = shape.width;
+    let r = row_of(shape, i);
+    if !elimination::place::is_known(mem, shape, r) {
+        return;
+    }
+    let at = symbol_at(shape, r);
+    let n = wire::symbol_count(shape.size, memory::load_u16(mem, at + 1) as usize);
+    if n <= w - i {
+        set(mem, shape, i + n);
+    }
+}
+
+// A marked known position marks the one where the ADU that it begins ends, rising through the window.
+pub fn pass(mem: &mut [u8], shape: Shape)
+    requires { ⌜ Fits (shape .width) (shape .size) (now mem) × (shape .base < shape .width) ⌝ }
+    ensures { λ _. ⌜ Passed (shape .width) (shape .size) (shape .base) (now (mem .entry)) (now (mem .exit)) ⌝ }
+{
+    let w = shape.width;
+    for i in 0..w {
+        step(mem, shape, i);
+    }
+}
+
+// A packet with `named` symbols of its own from the position `first` on, if any, marks that and the one after its last.
+fn set_own(mem: &mut [u8], shape: Shape, first: usize, named: usize)
+    requires { ⌜ Fits (shape .width) (shape .size) (now mem) × (shape .base < shape .width) × (first + named ≤ shape .width) ⌝ }
+    ensures { λ _. ⌜ Owned (shape .width) (shape .size) (shape .base) first named (now (mem .entry)) (now (mem .exit)) ⌝ }
+{
+    if named == 0 {
+        return;
+    }
+    set(mem, shape, first + named);
+    set(mem, shape, first);
+}
+
+// A packet was accepted, with `named` symbols of its own from the position `first` on: the window has moved on by `rise` positions from the row
+// `oldest` on, and the packet's first position and the one after its last are marked, and what they and the marks before reach.
+pub fn update(mem: &mut [u8], shape: Shape, oldest: usize, rise: usize, first: usize, named: usize)
+    requires { ⌜ Fits (shape .width) (shape .size) (now mem) × (oldest < shape .width) × (shape .base ≡ (oldest + rise) % shape .width)
+        × (first + named ≤ shape .width) ⌝ }
+    ensures { λ _. ⌜ Updated (shape .width) (shape .size) oldest rise first named (now (mem .entry)) (now (mem .exit)) ⌝ }
+{
+    let before = Shape {
+        width: shape.width,
+        size: shape.size,
+        base: oldest,
+    };
+    move_on(mem, before, rise);
+    set_own(mem, shape, first, named);
+    pass(mem, shape);
+}
