@@ -1,0 +1,408 @@
+//! The two ends of the link, each in its thread.
+
+use crate::link::{self, Closing, Gate, Kind, HEAD, LARGEST};
+use crate::loss::Loss;
+use crate::options::Options;
+use crate::stream::{symbols_of, Adu, Stream};
+use crate::tally::{Fate, Got, Packet, Run, Sent};
+use rlc8681::{Receiver, Refusal, Sender};
+use std::collections::VecDeque;
+use std::io;
+use std::net::UdpSocket;
+use std::ops::Range;
+use std::sync::atomic::{AtomicBool, AtomicU64, Ordering::Relaxed};
+use std::sync::{Mutex, MutexGuard, PoisonError};
+use std::thread;
+use std::time::{Duration, Instant};
+
+/// What both ends share: the gate, the ADUs sent and not yet passed, and what the progress is told by.
+pub struct Shared {
+    gate: Gate,
+    ledger: Mutex<Ledger>,
+    sender_done: AtomicBool,
+    pub progress: Progress,
+}
+
+#[derive(Default)]
+pub struct Progress {
+    /// How much of the stream is sent, in thousandths.
+    pub thousandths: AtomicU64,
+    pub packets: AtomicU64,
+    pub lost: AtomicU64,
+    pub rebuilt: AtomicU64,
+    pub adus: AtomicU64,
+}
+
+/// The ADUs sent, in order, each with the position of its first symbol.
+#[derive(Default)]
+struct Ledger(VecDeque<(u64, Adu)>);
+
+impl Ledger {
+    /// The ADU at or before a position.
+    fn around(&self, position: u64) -> Option<&(u64, Adu)> {
+        let after = self.0.partition_point(|(first, _)| *first <= position);
+        self.0.get(after.checked_sub(1)?)
+    }
+
+    /// Whether these are the bytes of the symbol at a position: of flow, length, ADU and zeros, in this order.
+    fn holds(&self, position: u64, symbol: &[u8]) -> bool {
+        let Some((first, adu)) = self.around(position) else { return false };
+        let Some(start) = usize::try_from(position - first).ok().and_then(|n| n.checked_mul(symbol.len())) else { return false };
+        let length = adu.bytes.len();
+        let [high, low] = (length as u16).to_be_bytes();
+        let head = [adu.flow, high, low];
+        let (head, bytes) = if start == 0 { (&head[..], &adu.bytes[..]) } else { (&[][..], adu.bytes.get(start - 3..).unwrap_or(&[])) };
+        let (front, rest) = symbol.split_at(head.len().min(symbol.len()));
+        let (body, zeros) = rest.split_at(bytes.len().min(rest.len()));
+        start < length + 3 && front == head && body == &bytes[..body.len()] && zeros.iter().all(|&b| b == 0)
+    }
+
+    /// Drops the ADUs that end at or before a position.
+    fn pass(&mut self, position: u64, symbol_size: usize) {
+        while let Some((first, adu)) = self.0.front() {
+            if first + symbols_of(adu.bytes.len(), symbol_size) as u64 > position {
+                break;
+            }
+            self.0.pop_front();
+        }
+    }
+}
+
+impl Shared {
+    fn ledger(&self) -> MutexGuard<'_, Ledger> {
+        self.ledger.lock().unwrap_or_else(PoisonError::into_inner)
+    }
+}
+
+/// A run's failure in words.
+pub type Failure = String;
+
+const OTHER_STOPPED: &str = "the receiving end stopped";
+
+fn refused(call: &str) -> impl Fn(Refusal) -> Failure + '_ {
+    move |why| format!("{call} was refused ({}): {why}", why.number())
+}
+
+fn failed(call: &'static str) -> impl Fn(io::Error) -> Failure {
+    move |why| format!("{call}: {why}")
+}
+
+/// The whole run; `watch` is called now and then while the threads work.
+pub fn run(options: &Options, mut watch: impl FnMut(&Progress)) -> Result<Run, Failure> {
+    let (size, width) = (options.symbol_size as usize, options.width as usize);
+    let stream = match &options.file {
+        Some(path) => Stream::file(options.seed, size, width, path).map_err(|why| format!("{}: {why}", path.display()))?,
+        None => Stream::made(options.seed, size, width, options.symbols),
+    };
+    let sender = Sender::open(options.scheme, options.symbol_size, options.width).map_err(refused("opening the sender"))?;
+    let receiver = Receiver::open(options.scheme, options.symbol_size, options.width).map_err(refused("opening the receiver"))?;
+    let (sending, receiving) = link::sockets().map_err(failed("sockets on 127.0.0.1"))?;
+    let shared = Shared { gate: Gate::new(), ledger: Mutex::default(), sender_done: AtomicBool::new(false), progress: Progress::default() };
+    let start = Instant::now();
+    let (sent, got) = thread::scope(|scope| {
+        let sends = scope.spawn(|| Sending::new(options, &shared, sending, sender).run(stream));
+        let receives = scope.spawn(|| Receiving::new(options, &shared, receiving, receiver).run());
+        while !(sends.is_finished() && receives.is_finished()) {
+            watch(&shared.progress);
+            thread::sleep(Duration::from_millis(5));
+        }
+        (sends.join(), receives.join())
+    });
+    let time = start.elapsed();
+    let stopped = |_| String::from("an end stopped in the middle");
+    match (sent.map_err(stopped)?, got.map_err(stopped)?) {
+        (Ok(sent), Ok(got)) => Ok(Run { sent, got, time }),
+        // When one end fails the other one does, too: it tells less.
+        (Err(why), got) if why == OTHER_STOPPED => Err(got.err().unwrap_or(why)),
+        (Err(why), _) | (_, Err(why)) => Err(why),
+    }
+}
+
+/// Says that the sender is done, whatever ended it.
+struct Done<'a>(&'a AtomicBool);
+
+impl Drop for Done<'_> {
+    fn drop(&mut self) {
+        self.0.store(true, Relaxed);
+    }
+}
+
+struct Sending<'a> {
+    options: &'a Options,
+    shared: &'a Shared,
+    socket: UdpSocket,
+    sender: Sender,
+    loss: Loss,
+    start: Instant,
+    datagram: Vec<u8>,
+    key: u16,
+    log: Sent,
+}
+
+impl<'a> Sending<'a> {
+    fn new(options: &'a Options, shared: &'a Shared, socket: UdpSocket, sender: Sender) -> Sending<'a> {
+        // The losses are drawn from a seed of their own, so that a file and a made stream meet the same ones.
+        let loss = Loss::new(!options.seed, options.loss, options.burst);
+        let datagram = vec![0; LARGEST];
+        Sending { options, shared, socket, sender, loss, start: Instant::now(), datagram, key: 0, log: Sent::default() }
+    }
+
+    fn run(mut self, mut stream: Stream) -> Result<Sent, Failure> {
+        let _done = Done(&self.shared.sender_done);
+        let mut since = 0;
+        while let Some(adu) = stream.next().map_err(failed("reading the stream"))? {
+            self.source(adu)?;
+            since += 1;
+            if since == self.options.every {
+                since = 0;
+                self.repair()?;
+            }
+            self.shared.progress.thousandths.store((stream.share() * 1000.0) as u64, Relaxed);
+        }
+        // The last symbols get the repair packets that a further window of symbols would have brought.
+        let between = (self.log.symbols * u64::from(self.options.every)).checked_div(self.log.adus);
+        for _ in 0..between.map_or(0, |symbols| u64::from(self.options.width) / symbols.max(1) + 1) {
+            self.repair()?;
+        }
+        self.shared.progress.thousandths.store(1000, Relaxed);
+        link::write_head(&mut self.datagram, 0, Kind::End, 0);
+        self.datagram(HEAD)?;
+        Ok(self.log)
+    }
+
+    fn source(&mut self, adu: Adu) -> Result<(), Failure> {
+        let (sender, out) = (&mut self.sender, &mut self.datagram[HEAD..]);
+        let written = self.log.add.of(|| sender.add_adu(adu.flow, &adu.bytes, out)).map_err(refused("adding an ADU"))?;
+        let symbols = symbols_of(adu.bytes.len(), self.options.symbol_size as usize);
+        let packet = Packet { kind: Kind::Source, lost: false, first: self.log.symbols, symbols: symbols as u32 };
+        let flow = adu.flow;
+        self.log.adus += 1;
+        self.log.bytes += adu.bytes.len() as u64;
+        self.log.symbols += symbols as u64;
+        self.log.flows.insert(flow);
+        self.shared.ledger().0.push_back((packet.first, adu));
+        self.send(packet, flow, written)
+    }
+
+    fn repair(&mut self) -> Result<(), Failure> {
+        let Options { density, repairs, width, .. } = *self.options;
+        let (sender, key, out) = (&self.sender, self.key, &mut self.datagram[HEAD..]);
+        let written = self.log.make.of(|| sender.make_repair(key, density, repairs, out)).map_err(refused("making repair"))?;
+        self.key = key.wrapping_add(repairs as u16);
+        let symbols = self.log.symbols.min(u64::from(width));
+        let packet = Packet { kind: Kind::Repair, lost: false, first: self.log.symbols - symbols, symbols: symbols as u32 };
+        self.send(packet, 0, written)
+    }
+
+    /// Gives the packet at hand to the link, which may lose it.
+    fn send(&mut self, mut packet: Packet, flow: u8, length: usize) -> Result<(), Failure> {
+        let number = self.log.packets.len() as u32;
+        packet.lost = self.loss.loses();
+        self.log.packets.push(packet);
+        self.log.link_bytes += (HEAD + length) as u64;
+        self.shared.progress.packets.fetch_add(1, Relaxed);
+        if packet.lost {
+            self.shared.progress.lost.fetch_add(1, Relaxed);
+        } else {
+            link::write_head(&mut self.datagram, number, packet.kind, flow);
+            self.datagram(HEAD + length)?;
+        }
+        if let Some(mbit) = self.options.mbit {
+            let due = Duration::try_from_secs_f64(self.log.link_bytes as f64 * 8.0 / (mbit * 1e6)).unwrap_or(Duration::MAX);
+            let early = due.saturating_sub(self.start.elapsed());
+            if !early.is_zero() {
+                thread::sleep(early);
+            }
+        }
+        Ok(())
+    }
+
+    fn datagram(&mut self, length: usize) -> Result<(), Failure> {
+        if !self.shared.gate.enter(length) {
+            return Err(String::from(OTHER_STOPPED));
+        }
+        self.socket.send(&self.datagram[..length]).map(|_| ()).map_err(failed("sending a datagram"))
+    }
+}
+
+/// The positions ahead that a packet may name.
+const REACH: u64 = 65_536;
+
+struct Receiving<'a> {
+    options: &'a Options,
+    shared: &'a Shared,
+    socket: UdpSocket,
+    receiver: Receiver,
+    /// The position after the last that a packet told of; of those before it, the ones still awaited.
+    top: u64,
+    awaited: Vec<u64>,
+    /// The position of the next start.
+    next: u64,
+    adu: Vec<u8>,
+    log: Got,
+}
+
+impl<'a> Receiving<'a> {
+    fn new(options: &'a Options, shared: &'a Shared, socket: UdpSocket, receiver: Receiver) -> Receiving<'a> {
+        let (awaited, adu, log) = (Vec::new(), vec![0; 65_535], Got::default());
+        Receiving { options, shared, socket, receiver, top: 0, awaited, next: 0, adu, log }
+    }
+
+    fn run(mut self) -> Result<Got, Failure> {
+        let _closing = Closing(&self.shared.gate);
+        let mut datagram = vec![0; LARGEST];
+        loop {
+            let length = match self.socket.recv(&mut datagram) {
+                Ok(length) => length,
+                Err(why) if matches!(why.kind(), io::ErrorKind::WouldBlock | io::ErrorKind::TimedOut) => {
+                    if self.shared.sender_done.load(Relaxed) {
+                        return Err(String::from("the end of the stream did not arrive"));
+                    }
+                    continue;
+                }
+                Err(why) if why.kind() == io::ErrorKind::Interrupted => continue,
+                Err(why) => return Err(failed("receiving a datagram")(why)),
+            };
+            self.shared.gate.leave(length);
+            let Some((number, kind, flow, packet)) = link::read(&mut datagram[..length]) else { continue };
+            if kind == Kind::End {
+                self.leave(self.top);
+                return Ok(self.log);
+            }
+            if self.options.corrupt == Some(self.log.arrived) {
+                let middle = packet.len() / 2;
+                if let Some(byte) = packet.get_mut(middle) {
+                    *byte ^= 1;
+                }
+            }
+            self.log.arrived += 1;
+            self.packet(number, kind, flow, packet);
+            self.walk();
+        }
+    }
+
+    /// The positions that a packet names, by the ESI in it that is nearest.
+    fn named(&self, kind: Kind, packet: &[u8]) -> Option<Range<u64>> {
+        let size = self.options.symbol_size as usize;
+        let (esi, symbols) = match kind {
+            Kind::Source => (packet.get(packet.len().checked_sub(4)?..)?, symbols_of(packet.len() - 4, size)),
+            _ => (packet.get(4..8)?, usize::from(u16::from_be_bytes([packet[2], packet[3]]) & 0xfff)),
+        };
+        let esi = u32::from_be_bytes(esi.try_into().ok()?);
+        let first = self.top.checked_add_signed(i64::from(esi.wrapping_sub(self.top as u32) as i32))?;
+        Some(first..first + symbols as u64)
+    }
+
+    fn packet(&mut self, number: u32, kind: Kind, flow: u8, packet: &[u8]) {
+        let Some(named) = self.named(kind, packet) else { return };
+        if named.end <= self.top + REACH {
+            self.leave(named.end.saturating_sub(u64::from(self.options.width)));
+        }
+        let (receiver, log) = (&mut self.receiver, &mut self.log);
+        let answer = match kind {
+            Kind::Source => log.source.of(|| receiver.receive_source(flow, packet)),
+            _ => log.repair.of(|| receiver.receive_repair(packet)),
+        };
+        let count = match answer {
+            Ok(count) => count as u64,
+            Err(why) => {
+                self.log.refused[usize::from(why.number()).min(15)] += 1;
+                return;
+            }
+        };
+        self.log.counted += count;
+        if named.end > self.top {
+            self.awaited.extend(self.top..named.end);
+            self.log.fates.resize(usize::try_from(named.end).unwrap_or(usize::MAX), Fate::Never);
+            self.top = named.end;
+        }
+        // What lies before the window can't be shown any more.
+        let base = self.top.saturating_sub(u64::from(self.options.width));
+        self.shared.ledger().pass(base, self.options.symbol_size as usize);
+        if count == 0 {
+            return;
+        }
+        // What the packet made known: its own symbols are heard, all others rebuilt.
+        let Receiving { awaited, receiver, log, shared, .. } = self;
+        let ledger = shared.ledger();
+        awaited.retain(|&position| match receiver.symbol(position as u32) {
+            Ok(symbol) => {
+                let heard = kind == Kind::Source && named.contains(&position);
+                if !heard {
+                    shared.progress.rebuilt.fetch_add(1, Relaxed);
+                }
+                if !ledger.holds(position, symbol) {
+                    log.differs(|| format!("the symbol of ESI {}", position as u32));
+                }
+                log.fates[position as usize] = if heard { Fate::Heard } else { Fate::Rebuilt(number) };
+                false
+            }
+            Err(why) => why != Refusal::Behind,
+        });
+    }
+
+    /// Hands out the ADU that starts at a position and compares it with the one sent. Gives its symbols.
+    fn hand_out(&mut self, position: u64) -> Result<u64, Refusal> {
+        let start = Instant::now();
+        let answer = self.receiver.adu(position as u32, &mut self.adu);
+        let time = start.elapsed();
+        let adu = match answer {
+            Ok(adu) => adu,
+            Err(why) => {
+                self.log.adu_refused.add(time);
+                return Err(why);
+            }
+        };
+        self.log.adu.add(time);
+        self.log.adus += 1;
+        self.log.bytes += adu.bytes.len() as u64;
+        self.shared.progress.adus.fetch_add(1, Relaxed);
+        let difference = match self.shared.ledger().around(position) {
+            Some((first, sent)) if *first == position => difference(sent, adu.flow, adu.bytes),
+            _ => Some(String::from("no ADU began there")),
+        };
+        if let Some(what) = difference {
+            self.log.differs(|| format!("the ADU of ESI {}: {what}", position as u32));
+        }
+        Ok(symbols_of(adu.bytes.len(), self.options.symbol_size as usize) as u64)
+    }
+
+    /// Hands out what can be: each start in order, and past one that left the window, the next that is marked.
+    fn walk(&mut self) {
+        let mut tried = self.next;
+        loop {
+            match self.hand_out(tried) {
+                Ok(symbols) => {
+                    tried += symbols;
+                    self.next = tried;
+                }
+                Err(Refusal::Behind) => {
+                    tried += 1;
+                    self.next = tried;
+                }
+                Err(Refusal::NoStart) => tried += 1,
+                // The start is marked and its ADU not yet known, or the window ends here.
+                Err(_) => break,
+            }
+        }
+    }
+
+    /// Hands out what is known before the window moves on to this base: what still misses there will not come.
+    fn leave(&mut self, base: u64) {
+        while self.next < base {
+            self.next += self.hand_out(self.next).unwrap_or(1);
+        }
+    }
+}
+
+/// How an ADU handed out differs from the one sent, if it does.
+fn difference(sent: &Adu, flow: u8, bytes: &[u8]) -> Option<String> {
+    if sent.flow != flow {
+        return Some(format!("flow {flow} instead of {}", sent.flow));
+    }
+    if sent.bytes.len() != bytes.len() {
+        return Some(format!("{} bytes instead of {}", bytes.len(), sent.bytes.len()));
+    }
+    let at = sent.bytes.iter().zip(bytes).position(|(a, b)| a != b)?;
+    Some(format!("byte {at} is {} instead of {}", bytes[at], sent.bytes[at]))
+}

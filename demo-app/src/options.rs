@@ -1,0 +1,149 @@
+//! The settings of a run, as options.
+
+use rlc8681::Scheme;
+use std::ffi::OsString;
+use std::fmt::Display;
+use std::path::PathBuf;
+use std::str::FromStr;
+
+#[derive(Clone, Debug)]
+pub struct Options {
+    pub file: Option<PathBuf>,
+    pub symbols: u64,
+    pub seed: u64,
+    pub loss: f64,
+    pub burst: f64,
+    pub mbit: Option<f64>,
+    pub scheme: Scheme,
+    pub symbol_size: u32,
+    pub width: u32,
+    pub density: u32,
+    pub every: u32,
+    pub repairs: u32,
+    pub svg: PathBuf,
+    /// The number among the arriving packets of the one that loses a bit between link and receiver: for the self-test.
+    pub corrupt: Option<u64>,
+}
+
+impl Default for Options {
+    fn default() -> Options {
+        Options {
+            file: None,
+            symbols: 12_000,
+            seed: 8681,
+            loss: 5.0,
+            burst: 2.0,
+            mbit: None,
+            scheme: Scheme::Gf256,
+            symbol_size: 1400,
+            width: 64,
+            density: 15,
+            every: 2,
+            repairs: 1,
+            svg: PathBuf::from("target/demo.svg"),
+            corrupt: None,
+        }
+    }
+}
+
+pub enum Wish {
+    Run(Box<Options>),
+    SelfTest,
+    Help,
+}
+
+/// The number in an option's value, from `low` to `high`.
+fn number<T: FromStr + PartialOrd + Display>(name: &str, value: &OsString, low: T, high: T) -> Result<T, String> {
+    let number = value.to_str().and_then(|text| text.parse().ok()).filter(|number| low <= *number && *number <= high);
+    number.ok_or_else(|| format!("{name} {}: a number from {low} to {high} is wanted", value.to_string_lossy()))
+}
+
+/// The wish that the words after the program's name tell, or what is wrong with them.
+pub fn read(words: impl IntoIterator<Item = OsString>) -> Result<Wish, String> {
+    let mut options = Options::default();
+    let mut density = None;
+    let mut self_test = false;
+    let mut only_files = false;
+    let mut words = words.into_iter();
+    while let Some(word) = words.next() {
+        let text = word.to_str().unwrap_or("");
+        if only_files || !text.starts_with('-') || text == "-" {
+            if options.file.replace(PathBuf::from(&word)).is_some() {
+                return Err(format!("{}: one file is enough", word.to_string_lossy()));
+            }
+            continue;
+        }
+        let (name, mut value) = match text.split_once('=') {
+            Some((name, value)) => (name, Some(OsString::from(value))),
+            None => (text, None),
+        };
+        match name {
+            "--" => {
+                only_files = true;
+                continue;
+            }
+            "--help" | "-h" => return Ok(Wish::Help),
+            "--self-test" => {
+                self_test = true;
+                continue;
+            }
+            _ => {}
+        }
+        let mut value = || value.take().or_else(|| words.next()).ok_or_else(|| format!("{name}: a value is wanted"));
+        match name {
+            "--symbols" => options.symbols = number(name, &value()?, 1, 100_000_000)?,
+            "--seed" => options.seed = number(name, &value()?, 0, u64::MAX)?,
+            "--loss" => options.loss = number(name, &value()?, 0.0, 100.0)?,
+            "--burst" => options.burst = number(name, &value()?, 1.0, 1_000_000.0)?,
+            "--mbit" => options.mbit = Some(number(name, &value()?, 0.001, 1_000_000.0)?),
+            "--scheme" => {
+                options.scheme = match number(name, &value()?, 9, 10)? {
+                    9u32 => Scheme::Gf2,
+                    _ => Scheme::Gf256,
+                }
+            }
+            "--symbol-size" => options.symbol_size = number(name, &value()?, 4, 1500)?,
+            "--width" => options.width = number(name, &value()?, 1, 255)?,
+            "--density" => density = Some(number(name, &value()?, 0, 15)?),
+            "--every" => options.every = number(name, &value()?, 1, 1_000_000)?,
+            "--repairs" => options.repairs = number(name, &value()?, 1, 16)?,
+            "--svg" => options.svg = PathBuf::from(value()?),
+            "--corrupt" => options.corrupt = Some(number(name, &value()?, 0, u64::MAX)?),
+            _ => return Err(format!("{name}: no such option")),
+        }
+    }
+    // In GF(2) a full density gives every repair symbol the same sum.
+    options.density = density.unwrap_or(if options.scheme == Scheme::Gf2 { 7 } else { 15 });
+    Ok(if self_test { Wish::SelfTest } else { Wish::Run(Box::new(options)) })
+}
+
+#[cfg(test)]
+mod tests {
+    use super::{read, Wish};
+    use rlc8681::Scheme;
+
+    fn words(line: &str) -> Result<Wish, String> {
+        read(line.split(' ').filter(|w| !w.is_empty()).map(Into::into))
+    }
+
+    #[test]
+    fn options_are_read() {
+        let Ok(Wish::Run(o)) = words("--scheme 9 --loss=7.5 --width 255 a-file --svg x.svg --svg y.svg") else { panic!() };
+        assert_eq!((o.scheme, o.loss, o.width, o.density), (Scheme::Gf2, 7.5, 255, 7));
+        assert_eq!((o.file.unwrap().to_str(), o.svg.to_str()), (Some("a-file"), Some("y.svg")));
+        let Ok(Wish::Run(o)) = words("-- --loss") else { panic!() };
+        assert_eq!(o.file.unwrap().to_str(), Some("--loss"));
+        assert!(matches!(words("--loss 5 --help"), Ok(Wish::Help)));
+        assert!(matches!(words("--self-test"), Ok(Wish::SelfTest)));
+    }
+
+    #[test]
+    fn bad_usage_is_told() {
+        for line in ["--loss", "--loss x", "--loss -1", "--loss 101", "--loss nan", "--width 0", "--width 256", "--symbol-size 3"] {
+            assert!(words(line).is_err(), "{line}");
+        }
+        for line in ["--scheme 8", "--density 16", "--every 0", "--repairs 17", "--seed -1", "a b", "--nothing 1", "-x"] {
+            assert!(words(line).is_err(), "{line}");
+        }
+    }
+}

@@ -1,0 +1,167 @@
+//! The run in words and numbers.
+
+use crate::link::Kind;
+use crate::options::Options;
+use crate::tally::{Run, Times};
+use rlc8681::Scheme;
+use std::fmt::Write;
+
+/// The link that the product is for, in Mbit/s.
+const LINK: f64 = 33.6;
+
+/// A whole number with a comma after every three digits.
+pub fn grouped(number: u64) -> String {
+    let digits = number.to_string();
+    let mut text = String::new();
+    for (i, digit) in digits.chars().enumerate() {
+        if i > 0 && (digits.len() - i) % 3 == 0 {
+            text.push(',');
+        }
+        text.push(digit);
+    }
+    text
+}
+
+/// "1 symbol", "2 symbols".
+pub fn counted(count: u32, what: &str) -> String {
+    format!("{count} {what}{}", if count == 1 { "" } else { "s" })
+}
+
+/// "ADU", "2 ADUs".
+pub fn each(count: u32, what: &str) -> String {
+    if count == 1 {
+        String::from(what)
+    } else {
+        counted(count, what)
+    }
+}
+
+/// What the link loses.
+pub fn losses(options: &Options) -> String {
+    let Options { loss, burst, .. } = options;
+    if *burst > 1.0 {
+        format!("{loss} % of packets lost in bursts of {burst} on average")
+    } else {
+        format!("{loss} % of packets lost, each for itself")
+    }
+}
+
+pub fn field(scheme: Scheme) -> &'static str {
+    match scheme {
+        Scheme::Gf2 => "GF(2)",
+        Scheme::Gf256 => "GF(2^8)",
+    }
+}
+
+/// Part of a whole in percent.
+pub fn percent(part: u64, whole: u64) -> String {
+    format!("{:.1} %", 100.0 * part as f64 / whole.max(1) as f64)
+}
+
+/// Microseconds with three or more figures.
+fn micros(nanos: f64) -> String {
+    let us = nanos / 1000.0;
+    match us {
+        us if us < 10.0 => format!("{us:.2} µs"),
+        us if us < 100.0 => format!("{us:.1} µs"),
+        us => format!("{us:.0} µs"),
+    }
+}
+
+/// The nanoseconds that a symbol takes on the link.
+fn symbol_time(options: &Options) -> f64 {
+    f64::from(options.symbol_size) * 8.0 / LINK * 1000.0
+}
+
+/// The settings, before the run.
+pub fn settings(options: &Options) -> String {
+    let Options { symbol_size, width, density, every, repairs, .. } = options;
+    let stream = match &options.file {
+        Some(path) => path.display().to_string(),
+        None => format!("made video, {} symbols", grouped(options.symbols)),
+    };
+    let pace = options.mbit.map_or(String::from("as fast as possible"), |mbit| format!("at {mbit} Mbit/s"));
+    let (of, bytes) = (counted(*repairs, "symbol"), grouped(u64::from(*symbol_size)));
+    let (scheme, field) = (options.scheme.number(), field(options.scheme));
+    let mut text = String::new();
+    let _ = writeln!(text, "RFC 8681 over a lossy link: scheme {scheme}, {field}; symbols of {bytes} bytes, window of {width}");
+    let _ = writeln!(text, "  stream  {stream}; seed {}", options.seed);
+    let _ = writeln!(text, "  repair  a packet of {of} after every {}, DT {density}", each(*every, "ADU"));
+    let _ = writeln!(text, "  link    UDP on 127.0.0.1, {}, {pace}", losses(options));
+    text
+}
+
+fn times(text: &mut String, name: &str, times: &Times, symbol: f64) {
+    let _ = write!(text, "  {name:<25} {:>9}", grouped(times.count() as u64));
+    for nanos in times.summary().iter().flatten() {
+        let _ = write!(text, " {:>9} {:>7}", micros(*nanos), format!("{:.1} %", 100.0 * nanos / symbol));
+    }
+    text.push('\n');
+}
+
+/// The result, after the run.
+pub fn result(options: &Options, run: &Run) -> String {
+    let mut text = String::new();
+    let (sent, got) = (&run.sent, &run.got);
+    let mut line = |name: &str, count: u64, rest: String| {
+        let _ = writeln!(text, "{name:<9}{:>11} {rest}", grouped(count));
+    };
+    for (name, what, kind) in [("packets", "source", Kind::Source), ("", "repair", Kind::Repair)] {
+        let (all, lost) = run.packets(kind);
+        line(name, all as u64, format!("{what} sent: {} arrived, {} lost", grouped((all - lost) as u64), grouped(lost as u64)));
+    }
+    let (heard, rebuilt, never) = run.symbols();
+    let share =
+        if rebuilt + never > 0 { format!("; {} of the lost ones rebuilt", percent(rebuilt, rebuilt + never)) } else { String::new() };
+    let known = format!("sent: {} heard, {} rebuilt, {} never known{share}", grouped(heard), grouped(rebuilt), grouped(never));
+    line("symbols", sent.symbols, known);
+    let (missing, flows) = (sent.adus.saturating_sub(got.adus), counted(sent.flows.len() as u32, "flow"));
+    line("ADUs", sent.adus, format!("sent: {} handed out, {} missing; {flows}", grouped(got.adus), grouped(missing)));
+    line("bytes", sent.bytes, format!("sent: {} handed out, each compared with what was sent", grouped(got.bytes)));
+    let seconds = run.time.as_secs_f64();
+    let rate = sent.link_bytes as f64 * 8.0 / 1e6 / seconds.max(1e-9);
+    line("", sent.link_bytes, format!("with repair and heads, in {seconds:.2} s: {rate:.0} Mbit/s"));
+
+    let symbol = symbol_time(options);
+    let _ = writeln!(text, "time per call by the clock, and its share of the {} of a symbol at {LINK} Mbit/s", micros(symbol));
+    let _ = writeln!(
+        text,
+        "  {:<25} {:>9} {:>9} {:>7} {:>9} {:>7} {:>9} {:>7}",
+        "", "calls", "median", "share", "99 in 100", "share", "worst", "share"
+    );
+    times(&mut text, "sender: add an ADU", &sent.add, symbol);
+    times(&mut text, "sender: make repair", &sent.make, symbol);
+    times(&mut text, "receiver: source packet", &got.source, symbol);
+    times(&mut text, "receiver: repair packet", &got.repair, symbol);
+    times(&mut text, "receiver: ADU, handed out", &got.adu, symbol);
+    times(&mut text, "receiver: ADU, not yet", &got.adu_refused, symbol);
+    let reach: u64 = [8, 9].iter().map(|&number| got.refused[number]).sum();
+    if reach > 0 {
+        let _ = writeln!(text, "{} packets arrived out of the window's reach (refusals 8 and 9)", grouped(reach));
+    }
+    text
+}
+
+/// The verdict, last.
+pub fn verdict(run: &Run) -> String {
+    let faults = run.faults();
+    if faults.is_empty() && run.got.adus == 0 {
+        return String::from("Nothing was handed out.\n");
+    }
+    if faults.is_empty() {
+        return format!("Right: all {} ADUs handed out equal those sent, flow and every byte.\n", grouped(run.got.adus));
+    }
+    let mut text = String::new();
+    for fault in faults {
+        let _ = writeln!(text, "WRONG: {fault}");
+    }
+    text
+}
+
+#[cfg(test)]
+mod tests {
+    #[test]
+    fn digits_are_grouped() {
+        assert_eq!([0u64, 999, 1000, 1_234_567].map(super::grouped), ["0", "999", "1,000", "1,234,567"].map(String::from));
+    }
+}

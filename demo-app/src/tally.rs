@@ -1,0 +1,150 @@
+//! What a run is told by: the packets on the link, the fate of each symbol, the times of the calls.
+
+use crate::link::Kind;
+use std::collections::BTreeSet;
+use std::time::{Duration, Instant};
+
+/// A packet that the sender gave to the link; its place in the list is its number on the link.
+#[derive(Clone, Copy)]
+pub struct Packet {
+    pub kind: Kind,
+    pub lost: bool,
+    /// The first of the symbols that it brings or protects, and how many.
+    pub first: u64,
+    pub symbols: u32,
+}
+
+impl Packet {
+    pub fn end(&self) -> u64 {
+        self.first + u64::from(self.symbols)
+    }
+}
+
+/// What became of a source symbol.
+#[derive(Clone, Copy, Debug, PartialEq, Eq)]
+pub enum Fate {
+    /// It was not known before it left the window, or by the end.
+    Never,
+    /// Its source packet arrived.
+    Heard,
+    /// It was solved by the packet with this number on the link.
+    Rebuilt(u32),
+}
+
+/// The times of one kind of call, in nanoseconds.
+#[derive(Default)]
+pub struct Times(Vec<u32>);
+
+impl Times {
+    /// Makes the call and keeps its time.
+    pub fn of<T>(&mut self, call: impl FnOnce() -> T) -> T {
+        let start = Instant::now();
+        let answer = call();
+        self.add(start.elapsed());
+        answer
+    }
+
+    pub fn add(&mut self, time: Duration) {
+        self.0.push(u32::try_from(time.as_nanos()).unwrap_or(u32::MAX));
+    }
+
+    pub fn count(&self) -> usize {
+        self.0.len()
+    }
+
+    /// Median, the time that 99 of 100 calls keep, and worst.
+    pub fn summary(&self) -> Option<[f64; 3]> {
+        let mut sorted = self.0.clone();
+        sorted.sort_unstable();
+        let last = sorted.len().checked_sub(1)?;
+        Some([last / 2, last * 99 / 100, last].map(|place| f64::from(sorted[place])))
+    }
+}
+
+/// What the sending end knows after the run.
+#[derive(Default)]
+pub struct Sent {
+    pub packets: Vec<Packet>,
+    pub adus: u64,
+    pub bytes: u64,
+    pub symbols: u64,
+    pub link_bytes: u64,
+    pub flows: BTreeSet<u8>,
+    pub add: Times,
+    pub make: Times,
+}
+
+/// What the receiving end knows after the run.
+#[derive(Default)]
+pub struct Got {
+    /// The fate of each position that a packet told of.
+    pub fates: Vec<Fate>,
+    /// Packets that arrived, and the positions that their calls counted as newly known.
+    pub arrived: u64,
+    pub counted: u64,
+    /// How often a packet call gave each refusal.
+    pub refused: [u64; 16],
+    pub adus: u64,
+    pub bytes: u64,
+    /// ADUs and rebuilt symbols that are not what was sent: how many, and the first in words.
+    pub differing: u64,
+    pub first_difference: Option<String>,
+    pub source: Times,
+    pub repair: Times,
+    pub adu: Times,
+    pub adu_refused: Times,
+}
+
+impl Got {
+    pub fn differs(&mut self, what: impl FnOnce() -> String) {
+        self.differing += 1;
+        self.first_difference.get_or_insert_with(what);
+    }
+}
+
+/// A whole run.
+pub struct Run {
+    pub sent: Sent,
+    pub got: Got,
+    pub time: Duration,
+}
+
+impl Run {
+    /// Packets of a kind: sent and lost.
+    pub fn packets(&self, kind: Kind) -> (usize, usize) {
+        let all = self.sent.packets.iter().filter(|p| p.kind == kind);
+        (all.clone().count(), all.filter(|p| p.lost).count())
+    }
+
+    pub fn fate(&self, position: u64) -> Fate {
+        usize::try_from(position).ok().and_then(|p| self.got.fates.get(p)).copied().unwrap_or(Fate::Never)
+    }
+
+    /// Symbols heard, rebuilt and never known.
+    pub fn symbols(&self) -> (u64, u64, u64) {
+        let count = |f: fn(&Fate) -> bool| self.got.fates.iter().filter(|fate| f(fate)).count() as u64;
+        let (heard, rebuilt) = (count(|f| *f == Fate::Heard), count(|f| matches!(f, Fate::Rebuilt(_))));
+        (heard, rebuilt, self.sent.symbols.saturating_sub(heard + rebuilt))
+    }
+
+    /// Everything that speaks against the run, in words. A packet out of reach (refusals 8 and 9) is a loss like any other.
+    pub fn faults(&self) -> Vec<String> {
+        let mut faults = Vec::new();
+        let got = &self.got;
+        if let Some(first) = &got.first_difference {
+            faults.push(format!("{} times not what was sent; first {first}", got.differing));
+        }
+        for (number, count) in got.refused.iter().enumerate().filter(|(number, count)| **count > 0 && ![8, 9].contains(number)) {
+            faults.push(format!("{count} packets of the sender met refusal {number}"));
+        }
+        let through = self.sent.packets.iter().filter(|p| !p.lost).count() as u64;
+        if through != got.arrived {
+            faults.push(format!("{through} packets passed the link and {} arrived", got.arrived));
+        }
+        let (heard, rebuilt, _) = self.symbols();
+        if got.counted != heard + rebuilt {
+            faults.push(format!("the packet calls counted {} symbols as known, and {} were shown", got.counted, heard + rebuilt));
+        }
+        faults
+    }
+}
