@@ -1,10 +1,11 @@
 -- Laws of the coding: of a value, of a refusal, of an answer whose case is known, and of the sizes.
-use mathlib.Core.Path.{_≡_, refl, sym, ap, _∙_}
+use mathlib.Core.Path.{_≡_, refl, sym, ap, _∙_, subst}
+use mathlib.Core.Logic.{_≢_}
 use mathlib.Core.Option.{Option, none, some}
-use Prim.Native.Nat.{ℕ, _+_, _*_, _^_, _≤_, _<_, min}
+use Prim.Native.Nat.{ℕ, zero, suc, _+_, _*_, _^_, _≤_, _<_, min}
 use native.Mathlib.Nat.{mul-le-mul}
 use native.Mathlib.Omega.{arith}
-use lib.IntN.{ℤ, pos}
+use lib.IntN.{ℤ, pos, negsuc, natAbs}
 use mir.Syntax.{w64}
 use lib.Signed.{mag}
 use mir.Val.{toZ, ofZ}
@@ -18,7 +19,7 @@ use Rattle.wire.specs.Settings.{Valid, settingOf, checkedOf}
 use Rattle.wire.proofs.Settings.{setting-names}
 use Rattle.receiver.specs.History.{Said, value, refusal}
 use Rattle.receiver.proofs.Headers.{setting-good, setting-bad}
-use Rattle.capi.specs.Coding.{largest, coded, asked}
+use Rattle.capi.specs.Coding.{largest, coded, asked, Readable}
 
 -- A value below the largest number is itself; from there on it stands as that one.
 pub value-small : (n : ℕ) → n < largest → toZ w64 n ≡ coded (value n)
@@ -45,6 +46,27 @@ coded-case said fits e h = handed fits h ∙ ap (λ x. coded (said x)) (sym e)
 -- The refusal that was matched, as it is coded.
 pub refusal-case : {why one : Refusal} → why ≡ one → coded (refusal (numberOf one)) ≡ coded (refusal (numberOf why))
 refusal-case e = ap (λ x. coded (refusal (numberOf x))) (sym e)
+
+-- ---- reading a code back
+
+abbrev NotNegative : ℤ → Type 0
+NotNegative (pos n) = Unit {0}
+NotNegative (negsuc n) = ⊥
+
+refusal-size : (n : ℕ) → natAbs (coded (refusal n)) ≡ n
+refusal-size zero = refl
+refusal-size (suc n) = refl
+
+pub readable : Readable
+readable = record {
+  apart = apart;
+  refusals = λ n k e. sym (refusal-size n) ∙ ap natAbs e ∙ refusal-size k;
+  values = λ n k a b e. let f : min n largest ≡ min k largest = ap natAbs e in omega (arith, f, a, b);
+}
+  where
+    apart : (n k : ℕ) → 1 ≤ k → coded (value n) ≢ coded (refusal k)
+    apart n zero l e = absurd (omega (arith, l))
+    apart n (suc k) l e = subst NotNegative e tt
 
 -- ---- the sizes
 

@@ -1,7 +1,8 @@
 -- How the exported functions code what a call says as one signed number: a value is itself, 0 or more, and a refusal is minus its number.
 use mathlib.Core.Path.{_≡_}
+use mathlib.Core.Logic.{_≢_}
 use mathlib.Core.Option.{Option, none, some}
-use Prim.Native.Nat.{ℕ, _+_, _*_, min}
+use Prim.Native.Nat.{ℕ, _+_, _*_, _≤_, min}
 use lib.IntN.{ℤ, pos, negℤ}
 use Rattle.wire.specs.declared.Setting.{Setting}
 use Rattle.wire.specs.Numbers.{numberOf}
@@ -15,10 +16,16 @@ use Rattle.receiver.specs.History.{Said, value, refusal}
 abbrev pub largest : ℕ
 largest = 9223372036854775807
 
--- The coding. A value past the largest number stands as that one: no value of an end that a memory holds comes near it.
+-- The coding. A value past the largest number, more than the bytes of any memory, stands as that one.
 abbrev pub coded : Said → ℤ
 coded (value n) = pos (min n largest)
 coded (refusal n) = negℤ (pos n)
+
+-- A code is read back: no refusal has the code of a value, and neither two refusals nor two values up to the largest number share one.
+pub record Readable : Type 0 where
+  pub apart : (n k : ℕ) → 1 ≤ k → coded (value n) ≢ coded (refusal k)
+  pub refusals : (n k : ℕ) → coded (refusal n) ≡ coded (refusal k) → n ≡ k
+  pub values : (n k : ℕ) → n ≤ largest → k ≤ largest → coded (value n) ≡ coded (value k) → n ≡ k
 
 -- What an answer of the sender says, in the receiver's words.
 abbrev pub ofSender : sender.Said → Said
@@ -39,7 +46,7 @@ pub record Codes {A : Type 0} (said : A → Said) (Promise : A → Type 0) (r : 
   pub number : r ≡ coded (said answer)
   pub promise : Promise answer
 
--- The bytes that an end asks of memory: refusal 1 where E or width is outside its values.
+-- The bytes of memory that are asked with a setting: refusal 1 where E or width is outside its values. No size depends on the scheme.
 abbrev pub asked : (Setting → ℕ) → Option Setting → Said
 asked size none = refusal 1
 asked size (some s) = value (size s)
