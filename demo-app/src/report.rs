@@ -123,7 +123,11 @@ pub fn result(options: &Options, run: &Run) -> String {
     line("", sent.link_bytes, format!("with repair and heads, in {seconds:.2} s: {rate:.0} Mbit/s"));
 
     let symbol = symbol_time(options);
-    let _ = writeln!(text, "time per call by the clock, and its share of the {} of a symbol at {LINK} Mbit/s", micros(symbol));
+    let _ = writeln!(
+        text,
+        "time per call, and its share of the {} of a symbol at {LINK} Mbit/s (by the clock: other work here counts in)",
+        micros(symbol)
+    );
     let _ = writeln!(
         text,
         "  {:<25} {:>9} {:>9} {:>7} {:>9} {:>7} {:>9} {:>7}",
