@@ -41,9 +41,13 @@ struct setting {
   size_t scheme, width, size;
 };
 
+// The ways to the same thing differ, or a call answers something else.
 static void wrong(const char *table, const char *line, const char *what) {
   printf("WRONG: %s, %s: %s\n", table, line, what);
   exit(1);
+}
+static void expect(const char *call, int holds) {
+  if (!holds) wrong(call, "its answer", "another one was expected");
 }
 
 // A block of zeros that begins where a cache line does.
