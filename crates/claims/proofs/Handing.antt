@@ -18,7 +18,7 @@ use Rattle.starts.specs.Adu.{View, Handing, hands, withholds, handing, HandedAs
 use Rattle.starts.specs.Starts.{Starts, zeroth, seen}
 use Rattle.starts.proofs.Handing.{flow-of, adu-of, withheld, handing-exactly}
 use Rattle.receiver.specs.declared.Answer.{Answer}
-use Rattle.receiver.specs.History.{Located, Call, reading, Log, fresh, baseOf, OfBytes, logged, value, Start, symbolsAt}
+use Rattle.receiver.specs.History.{Located, reading, Log, fresh, baseOf, OfBytes, logged, value, Start, symbolsAt}
 use Rattle.receiver.specs.Model.{State, opened, stateAfter, responds, receiving, marking, aduAt}
 use Rattle.receiver.specs.Promises.{Layout, said, Opened, Received, AduAnswered}
 use Rattle.receiver.proofs.Answers.{Tracks, fresh-tracks}
@@ -104,19 +104,7 @@ module _ (s : Setting) (v : Valid s) (qs : List Located) (base : ℕ) (see : Vie
 
 -- ---- The calls
 
-module _ (L : Layout) where
-  abbrev pub Opens-marked : Type 0
-  Opens-marked =
-      (scheme E w : ℕ) (m m′ : List ℕ) (a : Answer) → Opened L scheme E w m m′ a
-      → (s : Setting) → settingOf scheme E w ≡ some s → said a ≡ value 0 → L .Marks m′ s (opened s) zeroth
-
-  abbrev pub Keeps-marks : Type 0
-  Keeps-marks =
-      (c : Call) (m m′ v v′ : List ℕ) (a : Answer) → Received L c m m′ v v′ a
-      → (s : Setting) (t : State s) (M : Starts) → L .Holds m s t → L .Marks m s t M
-      → L .Marks m′ s (stateAfter t (receiving s t (length v) c)) (marking s t M (reading s (t .base) (length v) c) (receiving s t (length v) c))
-
-module _ (L : Layout) (opens-marked : Opens-marked L) (keeps-marks : Keeps-marks L) (s : Setting) (v : Valid s) where
+module _ (L : Layout) (s : Setting) (v : Valid s) where
   open Setting s using (size as E, width)
 
   -- The memory holds a state and marks that follow the history.
@@ -145,7 +133,7 @@ module _ (L : Layout) (opens-marked : Opens-marked L) (keeps-marks : Keeps-marks
         held = z;
         tracks = n;
         starts = marking s x M r (responds s x r);
-        marks = keeps-marks (t .call) m (t .memory) (t .working) (t .left) (t .answer) p s x M (g .held) (g .marks);
+        marks = p .starts s x M (g .held) (g .marks);
         begun = subst (λ a. MarksTrack s (some-bytes L s v) a (marking s x M r (responds s x r))) (ap₂ (logged s l) same (sym e)) k;
       }
 
@@ -160,7 +148,7 @@ module _ (L : Layout) (opens-marked : Opens-marked L) (keeps-marks : Keeps-marks
     held = p .holds s h e;
     tracks = fresh-tracks s (some-bytes L s v);
     starts = zeroth;
-    marks = opens-marked scheme size w m₀ m a p s h e;
+    marks = p .starts s h e;
     begun = fresh-marks s (some-bytes L s v);
   }
 
@@ -205,8 +193,8 @@ module _ (L : Layout) (opens-marked : Opens-marked L) (keeps-marks : Keeps-marks
           };
         }
 
-pub hands-out : (L : Layout) → Opens-marked L → Keeps-marks L → Hands-out L
-hands-out L o k scheme E w m₀ m a p e ts r =
+pub hands-out : (L : Layout) → Hands-out L
+hands-out L scheme E w m₀ m a p e ts r =
     let (s, h) = had-setting (settingOf scheme E w) (length m₀) (sym (p .answer) ∙ e) in
     let v = setting-names scheme E w s h .valid in
-    (s, h, handed-out L o k s v (final m ts) (history s ts) (marked-on L o k s v ts m fresh (opened-marked L o k s v scheme E w m₀ m a p e h) r))
+    (s, h, handed-out L s v (final m ts) (history s ts) (marked-on L s v ts m fresh (opened-marked L s v scheme E w m₀ m a p e h) r))

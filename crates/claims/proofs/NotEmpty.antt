@@ -1,8 +1,8 @@
 -- Every list of packet calls has a run: each call has an answer, and a memory to leave, that its promise allows.
 use mathlib.Core.Path.{_≡_, refl, sym, ap, _∙_, subst}
-use mathlib.Core.Option.{Option, none, some, Option·none-ne-some, Option·some-injective}
+use mathlib.Core.Option.{none, some, Option·none-ne-some, Option·some-injective}
 use mathlib.Core.List.{List, [], _∷_, map}
-use Prim.Native.Nat.{ℕ, _-_, _<_}
+use Prim.Native.Nat.{ℕ, _%_, _<_}
 use native.Mathlib.Omega.{arith}
 use lib.ListN.{length, drop, length-drop}
 use Rattle.wire.specs.declared.Setting.{Setting}
@@ -11,15 +11,20 @@ use Rattle.wire.proofs.Settings.{setting-names}
 use Rattle.receiver.specs.declared.Answer.{Answer}
 use Rattle.receiver.specs.declared.Answer.the-variants.{Done, Refused}
 use Rattle.receiver.specs.declared.Header.{Header}
-use Rattle.receiver.specs.History.{Call, memorySize, workingSize, Said, value, refusal, IsValue}
-use Rattle.receiver.specs.Model.{State, opened, Outcome, refused, done, receiving}
+use Rattle.starts.specs.Starts.{Starts}
+use Rattle.starts.specs.Marks.{marked}
+use Rattle.starts.proofs.Choosing.{with-marks}
+use Rattle.starts.proofs.Agreeing.{Agree}
+use Rattle.receiver.specs.History.{Call, Reading, fails, located, reading, memorySize, workingSize, Said, value, refusal, IsValue}
+use Rattle.receiver.specs.Model.{State, opened, Outcome, refused, done, stateAfter, receiving, marking}
 use Rattle.receiver.specs.Header.{headerIn}
 use Rattle.receiver.specs.Promises.{Contained, Follows, Received}
-use Rattle.receiver.specs.Layout.{headerOf, Holds, receiverLayout}
+use Rattle.receiver.specs.Layout.{headerOf, Holds, Marks, receiverLayout}
 use Rattle.receiver.proofs.Building.{built}
-use Rattle.receiver.proofs.Congruent.{holds-same, held-same, Alike, both-refused, both-done, receiving-alike}
+use Rattle.receiver.proofs.Congruent.{holds-same, held-same, Alike, both-refused, both-done, receiving-alike, marking-alike, same-after}
 use Rattle.receiver.proofs.Naming.{Sound, receiving-sound}
-use Rattle.receiver.proofs.Headers.{header-room}
+use Rattle.receiver.proofs.Headers.{header-room, header-fits}
+use Rattle.receiver.proofs.Marking.{only-holds, only-contained}
 use Rattle.claims.specs.Run.{Step, Run}
 use Rattle.claims.specs.NotEmpty.{Asked, asked, AllOfBytes, Runs-exist}
 use Rattle.claims.proofs.Demand.{had-setting}
@@ -46,6 +51,34 @@ module _ (s : Setting) (v : Valid s) where
 
       go : (u : Setting) → s ≡ u → (x : State u) → Holds m u x → Follows receiverLayout u (receiving u x room c) m m′ a
       go u e = subst (λ y. (x : State y) → Holds m y x → Follows receiverLayout y (receiving y x room c) m m′ a) e here
+
+  -- And so it leaves marks, of every state and marks that the memory has.
+  abbrev now-marked : List ℕ → State s → Starts
+  now-marked m t = marked (s .width) (s .size) (t .base % s .width) m
+
+  starts-all : (m m′ : List ℕ) (t : State s) (room : ℕ) (c : Call) → Holds m s t
+      → Marks m′ s (stateAfter t (receiving s t room c)) (marking s t (now-marked m t) (reading s (t .base) room c) (receiving s t room c))
+      → (u : Setting) (x : State u) (M : Starts) → Holds m u x → Marks m u x M
+      → Marks m′ u (stateAfter x (receiving u x room c)) (marking u x M (reading u (x .base) room c) (receiving u x room c))
+  starts-all m m′ t room c h d u x M k n = go u (settings-same m t u x h k) x k n
+    where
+      here : (x : State s) → Holds m s x → Marks m s x M
+          → Marks m′ s (stateAfter x (receiving s x room c)) (marking s x M (reading s (x .base) room c) (receiving s x room c))
+      here x k n i l =
+          let same = held-same s m t x h k in
+          let agree : Agree (s .width) (now-marked m t) M = λ j q. ap (λ b. marked (s .width) (s .size) b m j) (same .row) ∙ n j q in
+          let after = same-after s (receiving s t room c) (receiving s x room c) (receiving-alike s t x room c same) t x same in
+          ap (λ b. marked (s .width) (s .size) b m′ i) (sym (after .row)) ∙ d i l ∙ marking-alike s t x room c (now-marked m t) M same agree i l
+
+      go : (u : Setting) → s ≡ u → (x : State u) → Holds m u x → Marks m u x M
+          → Marks m′ u (stateAfter x (receiving u x room c)) (marking u x M (reading u (x .base) room c) (receiving u x room c))
+      go u e =
+          subst (λ y. (x : State y) → Holds m y x → Marks m y x M
+          → Marks m′ y (stateAfter x (receiving y x room c)) (marking y x M (reading y (x .base) room c) (receiving y x room c))) e here
+
+  refused-marks : (t : State s) (M : Starts) (n : ℕ) (r : Reading) → marking s t M r (refused n) ≡ M
+  refused-marks t M n (fails k) = refl
+  refused-marks t M n (located q) = refl
 
   contained : (m m′ w : List ℕ) (t : State s) → Holds m s t → Contained (memorySize s) m m′ → (h : Header) → headerIn m ≡ some h
       → Contained (memorySize (h .setting)) m m′ × Contained (workingSize (h .setting)) w w
@@ -78,6 +111,9 @@ module _ (s : Setting) (v : Valid s) where
           contained = contained m m w t h (record { same = refl; past = refl });
           follows = follows-all m m (Refused (g .refusal)) t (length w) c h
               (subst (λ x. Follows receiverLayout s x m m (Refused (g .refusal))) (sym e) (ap refusal (g .number), refl));
+          starts = starts-all m m t (length w) c h
+              (subst (λ o. Marks m s (stateAfter t o) (marking s t (now-marked m t) (reading s (t .base) (length w) c) o)) (sym e)
+              (subst (Marks m s t) (sym (refused-marks t (now-marked m t) n (reading s (t .base) (length w) c))) (λ i l. refl)));
         };
         state = t;
         held = h;
@@ -89,20 +125,27 @@ module _ (s : Setting) (v : Valid s) where
       go (done n x) e g =
           let b = built s v x g (drop (memorySize s) m) in
           let room = header-room m (headerOf s t) (h .header) in
+          let fits = header-fits (b .memory) (headerOf s x) (b .holds .header) in
+          let M = marking s t (now-marked m t) (reading s (t .base) (length w) c) (done n x) in
+          let (m′, only, marks) = with-marks (s .width) (s .size) (x .base % s .width) M (fits .some-width) (b .memory) (fits .room) in
+          let held = only-holds s x (b .memory) m′ (b .holds) only in
           record {
             answer = Done n;
-            memory = b .memory;
+            memory = m′;
             received = record {
               unopened = ((λ q. absurd (subst IsValue q tt)), (λ q. absurd (is-headed q)));
               untouched = λ q. refl;
               refused = λ k q. absurd (subst IsValue q tt);
-              contained = contained m (b .memory) w t h
-                  (record { same = b .same ∙ omega (arith, length-drop (memorySize s) m, room); past = b .rest });
-              follows = follows-all m (b .memory) (Done n) t (length w) c h
-                  (subst (λ y. Follows receiverLayout s y m (b .memory) (Done n)) (sym e) (refl, b .holds));
+              contained = contained m m′ w t h (record {
+                same = only .size ∙ b .same ∙ omega (arith, length-drop (memorySize s) m, room);
+                past = only-contained s (b .memory) m′ only .past ∙ b .rest;
+              });
+              follows = follows-all m m′ (Done n) t (length w) c h (subst (λ y. Follows receiverLayout s y m m′ (Done n)) (sym e) (refl, held));
+              starts = starts-all m m′ t (length w) c h
+                  (subst (λ o. Marks m′ s (stateAfter t o) (marking s t (now-marked m t) (reading s (t .base) (length w) c) o)) (sym e) marks);
             };
             state = x;
-            held = b .holds;
+            held = held;
           }
 
   runs : (cs : List Asked) → AllOfBytes cs → (m : List ℕ) (t : State s) → Holds m s t

@@ -17,6 +17,7 @@ use Rattle.sender.specs.declared.Answer.the-variants.{Done, Refused}
 use Rattle.receiver.specs.Symbol.{bytesOf, symbolOf}
 use Rattle.receiver.specs.History.{Filling, symbolsAt, Located, Satisfied, All, Known, Reading, fails, located, readPacket}
 use Rattle.receiver.specs.History.{Log, fresh, baseOf, Said, value, refusal, IsValue, logged, Named, Reached, already, later, Start}
+use Rattle.starts.proofs.Chaining.{symbols-some}
 use Rattle.receiver.specs.Promises.{said}
 use Rattle.receiver.proofs.Says.{symbol-bytes, getD-at}
 use Rattle.receiver.proofs.Readings.{source-read, repair-read, reading-passed}
@@ -28,7 +29,7 @@ use Rattle.claims.specs.Sent.{callOf, Near, AsWritten, Peers}
 use Rattle.claims.specs.SentAdus.{Begins, Boundary, Sent, sent-source, sent-repair, AsSent}
 use Rattle.claims.specs.SentAdus.{Start-gives, Junk-gives, Sent-written, Sent-starts, Sent-handed}
 use Rattle.claims.proofs.Sending.{symbols-append, begun, begun-symbols, sent-wrote}
-use Rattle.claims.proofs.Adus.{some-symbol, length-first, same-adu}
+use Rattle.claims.proofs.Adus.{length-first, same-adu}
 use Rattle.claims.proofs.Carrying.{carried-stretch, stretch, Differ, differ}
 use Rattle.claims.proofs.Sent.{found-again, written-satisfied, peer-size, peer-symbols}
 
@@ -41,7 +42,7 @@ junk-gives s qs base offset all f a c p flow adu h n = sym (h .held f a) ∙ car
 first-here : (E : ℕ) → 0 < E → (f : Filling E) (p flow : ℕ) (adu : List ℕ)
     → symbolsAt E f p (symbolCount E (length adu)) ≡ sourceSymbols flow adu E → bytesOf E (f p) ≡ getD (sourceSymbols flow adu E) 0 []
 first-here E z f p flow adu e =
-    ap (λ q. bytesOf E (f q)) (sym (add-zero p)) ∙ sym (getD-at E f p (symbolCount E (length adu)) 0 (some-symbol E (length adu) z))
+    ap (λ q. bytesOf E (f q)) (sym (add-zero p)) ∙ sym (getD-at E f p (symbolCount E (length adu)) 0 (symbols-some E (length adu) z))
     ∙ ap (λ (l : List (List ℕ)). getD l 0 []) e
 
 length-here : (E : ℕ) → 4 ≤ E → (f : Filling E) (p flow : ℕ) (adu : List ℕ) → length adu ≤ 65535

@@ -199,6 +199,7 @@ pub bench :
     ∷ handing-case (gf2 2) (symbol-at 1 1 0 1 0x42 ∷ []) (ask 1 1 ∷ [])
     -- 14: L 2 with width 1; padding not zero, which comes before a short output
     ∷ handing-case (gf2 1) (symbol-at 0 1 0 2 0x41 ∷ []) (ask 0 2 ∷ [])
+    ∷ handing-case (gf2 2) (symbol-at 0 1 0 2 0x41 ∷ symbol-at 1 0x42 0 0 1 ∷ []) (ask 0 2 ∷ ask 0 1 ∷ [])
     ∷ handing-case (gf2 2) (symbol-at 0 1 0 0 0x41 ∷ []) (ask 0 0 ∷ []) ∷ handing-case (gf2 2) (symbol-at 0 1 0 1 0x41 ∷ []) (ask 0 1 ∷ ask 0 0 ∷ [])
     -- an empty ADU; an ADU of exactly 2 symbols, with output enough and one byte short; its first symbol alone; L that runs past the window
     ∷ handing-case (gf2 2) (empty-at 0 0 0 0 ∷ []) (ask 0 0 ∷ [])
@@ -231,7 +232,7 @@ pub bench :
     ∷ received (value 0 ∷ value 1 ∷ value 0 ∷ []) [] ∷ received (value 0 ∷ value 1 ∷ value 0 ∷ []) []
     ∷ handed [] (withholds 12 ∷ withholds 13 ∷ withholds 12 ∷ withholds 12 ∷ withholds 8 ∷ [])
     ∷ handed (value 1 ∷ []) (withholds 13 ∷ [])
-    ∷ handed (value 1 ∷ []) (withholds 14 ∷ [])
+    ∷ handed (value 1 ∷ []) (withholds 14 ∷ []) ∷ handed (value 1 ∷ value 1 ∷ []) (withholds 14 ∷ withholds 14 ∷ [])
     ∷ handed (value 1 ∷ []) (withholds 14 ∷ []) ∷ handed (value 1 ∷ []) (hands 1 (0x41 ∷ []) ∷ withholds 2 ∷ [])
     ∷ handed (value 1 ∷ []) (hands 1 [] ∷ [])
     ∷ handed (value 2 ∷ []) (hands 1 (0x11 ∷ 1 ∷ 0 ∷ 1 ∷ 0x55 ∷ []) ∷ withholds 2 ∷ withholds 13 ∷ [])

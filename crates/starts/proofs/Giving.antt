@@ -21,7 +21,7 @@ use Rattle.wire.specs.Packets.{symbolCount}
 use Rattle.decoder.specs.Field.{Ops}
 use Rattle.decoder.specs.Bytes.{Coded}
 use Rattle.decoder.specs.Model.{State, end, free, pivot, known}
-use Rattle.elimination.specs.Window.{Window, Fits}
+use Rattle.elimination.specs.Window.{place, Window, Fits}
 use Rattle.elimination.specs.Place.{Known}
 use Rattle.elimination.proofs.Showing.{symbol-bytes}
 use Rattle.starts.specs.declared.Handed.{Handed}
@@ -109,6 +109,7 @@ pub record Read (w E base d : ℕ) (m : List ℕ) (at L n : ℕ) : Type 0 where
   pub start : marked w E base m d ≡ true
   pub first : KnownAt w E base m d true
   pub here : at ≡ symbolPlace w E base d
+  pub end : at + E ≤ place w E w
   pub size : L ≡ number (part (at + 1) 2 m)
   pub short : L ≤ 65535
   pub count : n ≡ symbolCount E L

@@ -38,8 +38,9 @@ hand-out-requires c κs =
 returns-4 : tie.Need-returns-4
 returns-4 c =
     let p = c .before .before .before .before .before .before .before .before in
-    adu-inside _ _ _ (header p) (has p) _ (c .before .before .before .before .before .before .distance .ensures) (c .before .before .before .before .before .if1 .left)
-    (c .before .before .before .before .if2 .left) _ _ (c .before .before .hand-out .ensures)
+    let inside = c .before .before .before .before in
+    adu-inside _ _ _ (header p) (has p) _ (inside .before .before .distance .ensures) (inside .before .if1 .left) (inside .if2 .left) _ _
+    (c .before .before .hand-out .ensures)
 
 pub adu-spec : {M : Type 1} → statement M
 adu-spec =

@@ -15,7 +15,9 @@ abbrev μ-loop : tie.MeasureT-loop
 μ-loop mem shape d n i₀ i = n - i
 
 returns : tie.Need-returns Inv-loop μ-loop
-returns c = known-beyond _ _ _ _ (c .before .before .before .pre .0) (λ i. c .before .before .shared-slice-known .given i .fits) _ _ (c .before .before .before .pre .2) (c .if1 .taken)
+returns c =
+    let start = c .before .before .before in
+    known-beyond _ _ _ _ (start .pre .0) (λ i. c .before .before .shared-slice-known .given i .fits) _ _ (start .pre .2) (c .if1 .taken)
 
 loop-holds : tie.Need-loop-holds Inv-loop μ-loop
 loop-holds c =
@@ -28,7 +30,8 @@ returns-2 c =
     let start = c .before .before .before .before .before .before .before .before in
     let loop = c .before .before .before .before .loop in
     let known = c .before .is-known in
-    known-not _ _ _ _ (start .pre .0) (λ i. c .before .before .before .before .before .before .before .shared-slice-known .given i .fits) _ _ (loop .i) (omega arith) (omega arith)
+    known-not _ _ _ _ (start .pre .0) (λ i. c .before .before .before .before .before .before .before .shared-slice-known .given i .fits) _ _ (loop .i)
+    (omega arith) (omega arith)
     (known-is _ _ _ _ (start .args .d + loop .i) _ _ false (c .before .before .row-of .ensures .0) (not-true (known .result) (c .if2 .taken)) (known .ensures))
 
 loop-again : tie.Need-loop-again Inv-loop μ-loop
@@ -45,7 +48,9 @@ loop-again c =
 returns-3 : tie.Need-returns-3 Inv-loop μ-loop
 returns-3 c =
     let loop = c .before .loop in
-    known-all _ _ _ _ (c .before .before .before .before .before .pre .0) (λ i. c .before .before .before .before .shared-slice-known .given i .fits) _ _ (loop .i) (omega arith) (omega arith) (loop .inv .1)
+    let start = c .before .before .before .before .before in
+    known-all _ _ _ _ (start .pre .0) (λ i. c .before .before .before .before .shared-slice-known .given i .fits) _ _ (loop .i)
+    (omega arith) (omega arith) (loop .inv .1)
 
 pub all-known-spec : {M : Type 1} → statement M
 all-known-spec =

@@ -45,15 +45,18 @@ copy-part-requires c κs =
     (omega (arith, same at, k, done .most), omega (arith, c .before .symbol-of .ensures .end, s .0 .room, k, done .skips))
 
 add-at : tie.Need-add-at Inv-loop μ-loop
-add-at c = omega (arith, c .before .before .before .before .before .before .before .before .loop .inv .1 .most, c .before .before .before .before .before .least .ensures, c .before .before .before .before .before .before .before .before .before .before .before .pre .2 .short)
+add-at c =
+    let at = c .before .before .before .before .before .before .before .before in
+    omega (arith, at .loop .inv .1 .most, c .before .before .before .before .before .least .ensures, at .before .before .before .pre .2 .short)
 
 loop-again : tie.Need-loop-again Inv-loop μ-loop
 loop-again c =
-    let s = c .before .before .before .before .before .before .before .before .before .before .before .pre in
+    let at = c .before .before .before .before .before .before .before .before in
+    let s = at .before .before .before .pre in
     let symbol = c .before .before .before .before .symbol-of in
     let k = c .before .before .before .before .before .least in (
       search needs,
-      copied-more _ _ _ _ _ _ _ _ _ _ _ _ (s .0) (s .2) (s .3) (c .before .before .before .before .before .before .before .before .loop .inv .1) (omega arith) (k .result) (k .ensures) (symbol .result)
+      copied-more _ _ _ _ _ _ _ _ _ _ _ _ (s .0) (s .2) (s .3) (at .loop .inv .1) (omega arith) (k .result) (k .ensures) (symbol .result)
           (symbol .ensures .start) _ (c .before .before .copy-part .ensures),
     )
 

@@ -18,27 +18,32 @@ start p = p .before .before .before .before .before .before .before .before .bef
 abbrev Of : ((w E base d : ℕ) (m : List ℕ) (at L n : ℕ) → Type 0) → tie.After-symbol-count → Type 0
 Of R p =
     let a = start p .args in
-    R (a .shape .width) (a .shape .size) (a .shape .base) (a .d) (a .mem .now) (p .before .before .symbol-of .result) (p .before .load-u16 .result) (p .symbol-count .result)
+    let s = a .shape in
+    R (s .width) (s .size) (s .base) (a .d) (a .mem .now) (p .before .before .symbol-of .result) (p .before .load-u16 .result) (p .symbol-count .result)
 
 read : (p : tie.After-symbol-count) → Of Read p
 read p =
     let s = start p in
     let marked = p .before .before .before .before .before .before .before .is-marked in
     let known = p .before .before .before .before .is-known in
+    let row = p .before .before .before .before .before .row-of in
     record {
       fits = s .pre .0;
       bytes = λ i. p .before .before .before .before .before .before .before .before .before .shared-slice-known .given i .fits;
       inside = s .pre .2;
       start = sym (marked .ensures) ∙ not-false (marked .result) (p .before .before .before .before .before .before .if1 .left);
-      first = known-is _ _ _ _ _ _ _ true (p .before .before .before .before .before .row-of .ensures .0) (not-false (known .result) (p .before .before .before .if2 .left)) (known .ensures);
+      first = known-is _ _ _ _ _ _ _ true (row .ensures .0) (not-false (known .result) (p .before .before .before .if2 .left)) (known .ensures);
       here = p .before .before .symbol-of .ensures .start;
+      end = p .before .before .symbol-of .ensures .end;
       size = p .before .load-u16 .ensures;
       short = omega arith;
       count = p .symbol-count .ensures;
     }
 
 whole : (p : tie.Else4) → Of Whole (p .before .before .before .before)
-whole p = whole-is (read (p .before .before .before .before)) (p .before .before .if3 .left) (p .before .all-known .result) (not-false (p .before .all-known .result) (p .if4 .left)) (p .before .all-known .ensures)
+whole p =
+    let all = p .before .all-known in
+    whole-is (read (p .before .before .before .before)) (p .before .before .if3 .left) (all .result) (not-false (all .result) (p .if4 .left)) (all .ensures)
 
 returns : tie.Need-returns
 returns c =
@@ -49,7 +54,8 @@ returns-2 : tie.Need-returns-2
 returns-2 c =
     let marked = c .before .before .before .before .is-marked in
     let known = c .before .is-known in
-    first-unknown _ _ _ _ _ _ (c .before .before .before .before .before .before .before .pre .0) (λ i. c .before .before .before .before .before .before .shared-slice-known .given i .fits) (c .before .before .before .before .before .before .before .pre .2)
+    let start = c .before .before .before .before .before .before .before in
+    first-unknown _ _ _ _ _ _ (start .pre .0) (λ i. c .before .before .before .before .before .before .shared-slice-known .given i .fits) (start .pre .2)
     (sym (marked .ensures) ∙ not-false (marked .result) (c .before .before .before .if1 .left))
     (known-is _ _ _ _ _ _ _ false (c .before .before .row-of .ensures .0) (not-true (known .result) (c .if2 .taken)) (known .ensures))
 
@@ -59,7 +65,8 @@ returns-3 c = too-many _ _ _ _ _ _ _ _ _ (read (c .before .before)) (c .if3 .tak
 returns-4 : tie.Need-returns-4
 returns-4 c =
     let all = c .before .all-known in
-    another-unknown _ _ _ _ _ _ _ _ _ (read (c .before .before .before .before)) (c .before .before .if3 .left) (all .result) (not-true (all .result) (c .if4 .taken)) (all .ensures)
+    another-unknown _ _ _ _ _ _ _ _ _ (read (c .before .before .before .before)) (c .before .before .if3 .left) (all .result)
+    (not-true (all .result) (c .if4 .taken)) (all .ensures)
 
 is-padded-requires : tie.Need-is-padded-requires
 is-padded-requires c κs = (search needs, search needs, spans (whole c))
@@ -78,13 +85,16 @@ copy-adu-requires : tie.Need-copy-adu-requires
 copy-adu-requires c κs = (search needs, search needs, spans (whole (c .before .before .before .before)), c .before .if6 .left)
 
 shared-slice-read-t23 : tie.Need-shared-slice-read-t23
-shared-slice-read-t23 c = let s = c .before .before .before .before .before .before .before .before .before .before .before .before .before .before .before .before .before .before .before .before .before .before .pre .0 in omega (arith, c .before .before .before .before .before .before .before .before .before .before .before .before .before .before .symbol-of .ensures .end, s .room, s .some-symbol)
+shared-slice-read-t23 c =
+    let r = whole (c .before .before .before .before .before .before .before .before) .read in
+    omega (arith, r .end, r .fits .room, r .fits .some-symbol)
 
 returns-7 : tie.Need-returns-7
 returns-7 c =
-    let padded = c .before .before .before .before .before .before .before .is-padded in
-    hands-out _ _ _ _ _ _ _ _ _ (whole (c .before .before .before .before .before .before .before .before)) (sym (padded .ensures) ∙ not-false (padded .result) (c .before .before .before .before .before .before .if5 .left)) (c .before .before .before .before .before .if6 .left) _
-    (c .before .before .before .copy-adu .ensures)
+    let room = c .before .before .before .before .before in
+    let padded = room .before .before .is-padded in
+    hands-out _ _ _ _ _ _ _ _ _ (whole (room .before .before .before))
+    (sym (padded .ensures) ∙ not-false (padded .result) (room .before .if5 .left)) (room .if6 .left) _ (c .before .before .before .copy-adu .ensures)
 
 pub hand-out-spec : {M : Type 1} → statement M
 hand-out-spec =
