@@ -119,7 +119,7 @@ static void print(const struct table *t) {
   int present[WAYS] = {0};
   for (const struct line *l = t->lines; l < t->lines + t->count; l++)
     for (int w = 1; w < WAYS; w++) present[w] |= l->ways[w].run != 0;
-  printf("\n### %s\n\n| | ns |", t->title);
+  printf("\n### %s\n\n| what | ns |", t->title);
   for (int w = 1; w < WAYS; w++) if (present[w]) printf(" to %s |", t->ways[w]);
   printf(" share |\n|---|---|");
   for (int w = 1; w < WAYS; w++) if (present[w]) printf("---|");
