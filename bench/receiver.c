@@ -30,7 +30,7 @@ static size_t mend(struct receiver *r, size_t k) {
 
 static void answer(struct receiver *r, size_t n, size_t expected) {
   *r->answer = n;
-  if (n != expected) exit(3);
+  expect("the receiver", n == expected);
 }
 
 // The next source packet is the one before with the next ESI.
@@ -97,12 +97,12 @@ static struct receiver *receiver_of(const struct library *library, struct settin
   *r = (struct receiver){.library = library, .setting = s, .memory_size = memory_size, .work_size = memory_size + row_size(s), .lost = lost, .esi = sent - 1};
   r->answer = (size_t *)room(compared(r)), r->memory = (u8 *)(r->answer + 1), r->adu = r->memory + memory_size, r->work = room(r->work_size);
   r->source = room(s.size + 1), r->repair = room(PACKETS * n), r->before = room(memory_size);
-  if (proved.sender_open(sender, sender_size, s.scheme, s.size, s.width)) exit(3);
-  if (library->receiver_open(r->memory, memory_size, s.scheme, s.size, s.width)) exit(3);
+  expect("sender_open", proved.sender_open(sender, sender_size, s.scheme, s.size, s.width) == 0);
+  expect("receiver_open", library->receiver_open(r->memory, memory_size, s.scheme, s.size, s.width) == 0);
   for (size_t k = 0; k < sent; k++) {
-    for (size_t i = 0; i < s.size - 3; i++) adu[i] = i * i + 13 * k;
-    if (proved.add_adu(sender, sender_size, 1, adu, s.size - 3, r->source, s.size + 1) != s.size + 1) exit(3);
-    if (k + lost < sent && take(r) != 1) exit(3);
+    for (size_t i = 0; i < adu_size(s); i++) adu[i] = i * i + 13 * k;
+    expect("add_adu", proved.add_adu(sender, sender_size, 1, adu, adu_size(s), r->source, s.size + 1) == s.size + 1);
+    if (k + lost < sent) expect("receive_source", take(r) == 1);
   }
   memcpy(r->before, r->memory, memory_size);
   for (size_t k = 0; k < PACKETS; k++) proved.make_repair(sender, sender_size, k + 1, dt, 1, r->repair + k * n, n);
@@ -131,7 +131,7 @@ static size_t needed(struct receiver *r) {
   size_t solved = 0, k = 0;
   ready_burst(r);
   while (solved < r->lost) {
-    if (k == PACKETS) exit(3);
+    expect("receive_repair", k < PACKETS);
     solved += mend(r, k++);
   }
   return k;

@@ -16,11 +16,11 @@ struct sender {
 static void run_add(void *of) {
   struct sender *s = of;
   size_t n = s->setting.size - 3;
-  if (s->library->add_adu(s->memory, s->memory_size, 1, s->adu, n, s->packet, n + 4) != n + 4) exit(3);
+  expect("add_adu", s->library->add_adu(s->memory, s->memory_size, 1, s->adu, n, s->packet, n + 4) == n + 4);
 }
 static void run_repair(void *of) {
   struct sender *s = of;
-  if (s->library->make_repair(s->memory, s->memory_size, KEY, DT, 1, s->packet, s->packet_size) != s->packet_size) exit(3);
+  expect("make_repair", s->library->make_repair(s->memory, s->memory_size, KEY, DT, 1, s->packet, s->packet_size) == s->packet_size);
 }
 // What adding must copy: the ADU into the window's next slot and into the packet.
 static void run_add_copies(void *of) {
@@ -42,7 +42,7 @@ static struct sender *sender_of(const struct library *library, struct setting se
   size_t packet_size = 8 + setting.size, memory_size = 32 + setting.width * setting.size;
   *s = (struct sender){library, setting, packet_size, memory_size, 0, room(setting.size), room(packet_size + memory_size), 0};
   s->memory = s->packet + packet_size;
-  if (library->sender_open(s->memory, memory_size, setting.scheme, setting.size, setting.width)) exit(3);
+  expect("sender_open", library->sender_open(s->memory, memory_size, setting.scheme, setting.size, setting.width) == 0);
   for (size_t k = 0; k < setting.width + setting.width / 2; k++) {
     for (size_t i = 0; i < setting.size - 3; i++) s->adu[i] = i * i + 13 * k;
     run_add(s);

@@ -41,9 +41,13 @@ struct setting {
   size_t scheme, width, size;
 };
 
+// The ways to the same thing differ, or a call answers something else.
 static void wrong(const char *table, const char *line, const char *what) {
   printf("WRONG: %s, %s: %s\n", table, line, what);
   exit(1);
+}
+static void expect(const char *call, int holds) {
+  if (!holds) wrong(call, "its answer", "another one was expected");
 }
 
 // A block of zeros that begins where a cache line does.
@@ -115,7 +119,7 @@ static void print(const struct table *t) {
   int present[WAYS] = {0};
   for (const struct line *l = t->lines; l < t->lines + t->count; l++)
     for (int w = 1; w < WAYS; w++) present[w] |= l->ways[w].run != 0;
-  printf("\n### %s\n\n| | ns |", t->title);
+  printf("\n### %s\n\n| what | ns |", t->title);
   for (int w = 1; w < WAYS; w++) if (present[w]) printf(" to %s |", t->ways[w]);
   printf(" share |\n|---|---|");
   for (int w = 1; w < WAYS; w++) if (present[w]) printf("---|");
