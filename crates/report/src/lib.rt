@@ -4,6 +4,7 @@ ghost use Prim.Native.Nat.{_<_};
 ghost use Rattle.wire.specs.Numbers.{numberOf};
 use libc::STDOUT_FILENO;
 use receiver::Answer;
+use starts::Handed;
 use wire::Esi;
 use wire::Refusal;
 
@@ -95,5 +96,17 @@ pub fn show(mem: &[u8], esi: u32) {
     match receiver::symbol(mem, Esi(esi)) {
         Answer::Done(_) => print_bytes(receiver::symbol_part(mem, Esi(esi))),
         Answer::Refused(refusal) => print_refusal(refusal),
+    }
+}
+
+// The ADU that begins at an ESI: its flow, its length and the whole output after it; or the refusal.
+pub fn hand(mem: &[u8], esi: u32, out: &mut [u8]) {
+    match receiver::adu(mem, Esi(esi), out) {
+        Handed::Adu(flow, len) => {
+            print_number(flow as usize);
+            print_number(len);
+            print_bytes(out);
+        }
+        Handed::Withheld(refusal) => print_refusal(refusal),
     }
 }
