@@ -61,7 +61,8 @@ module _ (L : Layout) (s : Setting) (v : Valid s) where
       let h = judged s some-bytes l x r k (λ q e. reading-fits s some-bytes (baseOf l) room (t .call) q b (sym same ∙ e)) in
       let (e, z) = did m (t .memory) (t .answer) x (responds s x r) (p .follows s x held) held in
       let i = subst (λ a. Judged s l r a × Tracks s some-bytes (logged s l r a) (stateAfter x (responds s x r))) (sym e) h in
-      let (j, n) = subst (λ y. Judged s l y (said (t .answer)) × Tracks s some-bytes (logged s l y (said (t .answer))) (stateAfter x (responds s x r))) same i in
+      let (j, n) =
+      subst (λ y. Judged s l y (said (t .answer)) × Tracks s some-bytes (logged s l y (said (t .answer))) (stateAfter x (responds s x r))) same i in
       (e, j, n, z)
 
   step : (m : List ℕ) (l : Log) (t : Step) → Stands m l → OfBytes (t .call) → Received L (t .call) m (t .memory) (t .working) (t .left) (t .answer)

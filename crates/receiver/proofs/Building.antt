@@ -37,7 +37,7 @@ use Rattle.receiver.specs.History.{memorySize}
 use Rattle.receiver.specs.Model.{State}
 use Rattle.receiver.specs.Header.{headerIn}
 use Rattle.receiver.specs.Layout.{headerOf, Holds}
-use Rattle.receiver.proofs.Says.{symbol-tail}
+use Rattle.receiver.proofs.Says.{symbol-tail, bytes-sized}
 
 -- ---- A system, coefficient by coefficient
 
@@ -203,10 +203,6 @@ symbol-front : (E : ℕ) (v : Symbol E) (y : List ℕ) → symbol-at E 0 (bytesO
 symbol-front zero v y = refl
 symbol-front (suc E) v y = ap₂ (λ a u. (a, u)) (byte-of (v .0)) (symbol-tail E 0 (v .0 .0) (bytesOf E (v .1) ++ y) ∙ symbol-front E (v .1) y)
 
-length-bytes : (E : ℕ) (v : Symbol E) → length (bytesOf E v) ≡ E
-length-bytes zero v = refl
-length-bytes (suc E) v = ap suc (length-bytes E (v .1))
-
 module _ (w E b : ℕ) (z : 0 < w) (S : model.State (Coded E) w) where
   -- The coefficient in column k of the row r.
   abbrev column : ℕ → ℕ → ℕ
@@ -225,7 +221,7 @@ module _ (w E b : ℕ) (z : 0 < w) (S : model.State (Coded E) w) where
   length-row r =
       let v = symbol-of E S (index w b z r) in
       length-append (tabulate (column r) w) (bytesOf E v ++ (rowFlag r ∷ 0 ∷ 0 ∷ 0 ∷ []))
-      ∙ omega (arith, length-columns r, length-append (bytesOf E v) (rowFlag r ∷ 0 ∷ 0 ∷ 0 ∷ []), length-bytes E v)
+      ∙ omega (arith, length-columns r, length-append (bytesOf E v) (rowFlag r ∷ 0 ∷ 0 ∷ 0 ∷ []), bytes-sized E v)
 
   column-is : (r k : ℕ) → k < w → getD (rowBytes r) k 0 ≡ column r k
   column-is r k h = List·getD-append (tabulate (column r) w) _ 0 k (rw (length-columns r) h) ∙ getD-tabulate (column r) w k h
@@ -235,7 +231,7 @@ module _ (w E b : ℕ) (z : 0 < w) (S : model.State (Coded E) w) where
       let x = tabulate (column r) w in
       let v = bytesOf E (symbol-of E S (index w b z r)) in
       let y = rowFlag r ∷ 0 ∷ 0 ∷ 0 ∷ [] in
-      let e : w + E ≡ length x + (length v + 0) = omega (arith, length-columns r, length-bytes E (symbol-of E S (index w b z r))) in
+      let e : w + E ≡ length x + (length v + 0) = omega (arith, length-columns r, bytes-sized E (symbol-of E S (index w b z r))) in
       ap (λ k. getD (x ++ (v ++ y)) k 0) e ∙ getD-append-add x (v ++ y) (length v + 0) 0 ∙ getD-append-add v y 0 0
 
   symbol-in : (r : ℕ) → symbol-at E w (rowBytes r) ≡ symbol-of E S (index w b z r)

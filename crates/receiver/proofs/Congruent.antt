@@ -282,10 +282,11 @@ module _ (s : Setting) where
       → Agree w (marking s t M (reading s (t .base) room c) (receiving s t room c)) (marking s u N (reading s (u .base) room c) (receiving s u room c))
   unfolding receiving
   marking-alike t u room c M N k a =
-      subst (λ S. Agree w (marking s t M (reading s (t .base) room c) (responds s t (reading s (t .base) room c)))
-      (marking s (record { base = u .base; window = S }) N (reading s (u .base) room c) (responds s (record { base = u .base; window = S }) (reading s (u .base) room c))))
+      let r = reading s (t .base) room c in
+      let q = reading s (u .base) room c in
+      subst (λ S. let x : State s = record { base = u .base; window = S } in Agree w (marking s t M r (responds s t r)) (marking s x N q (responds s x q)))
       (k .window)
-      (marking-shifted (t .base) (u .base) (t .window) M N a _ _ (reading-shifted (t .base) (u .base) s room c (k .esi)))
+      (marking-shifted (t .base) (u .base) (t .window) M N a r q (reading-shifted (t .base) (u .base) s room c (k .esi)))
 
   pub same-after : (o p : Outcome s) → Alike s o p → (t u : State s) → Same s t u → Same s (stateAfter t o) (stateAfter u p)
   same-after o p (both-refused n) t u k = k

@@ -57,7 +57,7 @@ bytes-small zero u i = lit< tt
 bytes-small (suc E) u zero = u .0 .1
 bytes-small (suc E) u (suc i) = bytes-small E (u .1) i
 
-bytes-sized : (E : ℕ) (u : Symbol E) → length (bytesOf E u) ≡ E
+pub bytes-sized : (E : ℕ) (u : Symbol E) → length (bytesOf E u) ≡ E
 bytes-sized zero u = refl
 bytes-sized (suc E) u = ap suc (bytes-sized E (u .1))
 

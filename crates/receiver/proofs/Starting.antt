@@ -4,8 +4,8 @@ use mathlib.Core.Logic.{_↔_, _⊎_, inl, inr}
 use mathlib.Core.Bool.{true}
 use mathlib.Core.Option.{Option, none, some, Option·none-ne-some, Option·some-injective}
 use mathlib.Core.List.{List, [], _∷_}
-use Prim.Native.Nat.{ℕ, zero, suc, _+_, _-_, _≤_, _<_}
-use native.Mathlib.Nat.{add-assoc, add-suc, le-of-suc-le-suc, not-suc-le-zero}
+use Prim.Native.Nat.{ℕ, suc, _+_, _-_, _≤_, _<_}
+use native.Mathlib.Nat.{add-assoc, add-suc}
 use native.Mathlib.Decide.{decLt}
 use native.Mathlib.Omega.{arith}
 use lib.ListN.{length}
@@ -13,7 +13,6 @@ use borrow.Author.Tests.{eqb-true, eq-eqb}
 use Rattle.wire.specs.declared.Setting.{Setting}
 use Rattle.memory.specs.Number.{Bytes}
 use Rattle.memory.proofs.Parts.{cons-eq}
-use Rattle.decoder.specs.Field.{Ops}
 use Rattle.decoder.specs.Bytes.{Coded}
 use Rattle.decoder.specs.Model as model
 use Rattle.decoder.specs.Model.{known}
@@ -22,6 +21,7 @@ use Rattle.starts.specs.Adu.{View, needs}
 use Rattle.starts.specs.Starts.{Starts, zeroth, also, moved, pass, shown, seen}
 use Rattle.starts.proofs.Tests.{also-true, moved-true}
 use Rattle.starts.proofs.Chaining.{Chained, seed, next, pass-chained}
+use Rattle.starts.proofs.Giving.{known-past}
 use Rattle.starts.proofs.Handing.{Shows}
 use Rattle.receiver.specs.Symbol.{Symbol, bytesOf, symbolOf}
 use Rattle.receiver.specs.History.{Filling, symbolsAt, Located, source, repair, first, named, All, Consistent, Known, Reading, fails, located}
@@ -82,16 +82,8 @@ module _ (E : ℕ) (qs : List Located) (base : ℕ) (see : View) (sees : Sees E 
       go (no k) f = absurd (Option·none-ne-some v (sym (outside i (omega arith)) ∙ h .0))
 
 -- Nothing is known past the window.
-known-outside : {O : Ops} {n : ℕ} (S : model.State O n) (i : ℕ) → n ≤ i → known S i ≡ none
-unfolding known
-known-outside model.end i h = refl
-known-outside (model.free S) zero h = refl
-known-outside (model.free S) (suc i) h = known-outside S i (le-of-suc-le-suc h)
-known-outside (model.pivot r S) zero h = absurd (not-suc-le-zero h)
-known-outside (model.pivot r S) (suc i) h = known-outside S i (le-of-suc-le-suc h)
-
 pub seen-outside : (E width : ℕ) (S : model.State (Coded E) width) (i : ℕ) → width ≤ i → seen E width S i ≡ none
-seen-outside E width S i h = ap (shown E) (known-outside S i h)
+seen-outside E width S i h = ap (shown E) (known-past S i h)
 
 module _ (s : Setting) where
   open Setting s using (size as E, width)

@@ -35,7 +35,7 @@ use Rattle.starts.proofs.Texts.{joint-none, joint-text, text-length, te
 use Rattle.starts.proofs.Copying.{span-some, span-end}
 
 -- No position past the window is known.
-known-past : {O : Ops} {n : ℕ} (S : State O n) (i : ℕ) → n ≤ i → known S i ≡ none
+pub known-past : {O : Ops} {n : ℕ} (S : State O n) (i : ℕ) → n ≤ i → known S i ≡ none
 unfolding known
 known-past end i h = refl
 known-past (free S) zero h = absurd (not-suc-le-zero h)

@@ -15,10 +15,12 @@ use Rattle.memory.proofs.Parts.{length-part}
 use Rattle.memory.proofs.Number.{bytes-part}
 use Rattle.wire.specs.Packets.{joined, chunks, Sized, symbolCount, adui, sourceSymbols}
 use Rattle.wire.proofs.Adui.{room as wire-room, length-adui, symbols-count, symbols-sized}
+use Rattle.wire.proofs.Reading.{length-joined, cut-joined}
 use Rattle.starts.specs.Adu.{flowIn, lengthIn, needs, allZero, View, before, joint, Handing, hands, withholds, need, unpack, begin, handing}
 use Rattle.starts.specs.Starts.{Starts}
+use Rattle.starts.proofs.Texts.{part-front}
 use Rattle.starts.proofs.Chaining.{needs-some, symbols-some}
-use Rattle.starts.proofs.Packing.{joined-chunks, chunks-joined, length-joined, front-part, length-small, packed}
+use Rattle.starts.proofs.Packing.{joined-chunks, length-small, packed}
 use Rattle.starts.proofs.Packing.{adui-length, adui-flow, adui-adu, adui-padding}
 
 -- ---- What is handed out
@@ -120,7 +122,7 @@ module _ (E width room : ℕ) (least : 4 ≤ E) (see : View) where
       go [] n z j s = absurd (omega (arith, n, symbols-some E (length adu) some-bytes))
       go (v ∷ vs) n z j s =
           let l : lengthIn v ≡ length adu =
-          ap number (sym (front-part v (joined vs) (omega (arith, z .0)))) ∙ ap lengthIn j ∙ adui-length flow adu E (u .long) in
+          ap number (sym (part-front 1 2 v (joined vs) (omega (arith, z .0)))) ∙ ap lengthIn j ∙ adui-length flow adu E (u .long) in
           let k : needs E v ≡ symbolCount E (length adu) = ap (symbolCount E) l in
           let x : joint see d (needs E v) ≡ some (adui flow adu E) =
           ap (joint see d) (k ∙ sym n) ∙ shows-joint see d (v ∷ vs) s ∙ ap (λ (y : List ℕ). some y) j in
@@ -144,7 +146,7 @@ module _ (E width room : ℕ) (least : 4 ≤ E) (see : View) where
           let same : y ≡ v = Option·some-injective _ _ (sym (s .0) ∙ e) in
           let (size, small) = whole d v e in
           let front : part 1 2 x ≡ part 1 2 v =
-          ap (part 1 2) (j ∙ ap (λ (q : List ℕ). q ++ joined vs) same) ∙ front-part v (joined vs) (omega (arith, size)) in
+          ap (part 1 2) (j ∙ ap (λ (q : List ℕ). q ++ joined vs) same) ∙ part-front 1 2 v (joined vs) (omega (arith, size)) in
           let small′ : Bytes (part 1 2 v) = bytes-part 1 2 v small in
           let l : lengthIn x ≡ lengthIn v = ap number front in
           let k : length x ≡ symbolCount E (lengthIn x) * E =
@@ -156,7 +158,7 @@ module _ (E width room : ℕ) (least : 4 ≤ E) (see : View) where
           ap length (sym a) ∙ length-part 3 (lengthIn x) x (omega (arith, k, wire-room E (lengthIn x) some-bytes)) in
           let cut : sourceSymbols flow adu E ≡ y ∷ vs =
           ap₂ (λ q (i : List ℕ). chunks q E i) (ap (symbolCount E) (c ∙ l) ∙ sym n) (ap₂ (λ q i. adui q i E) (sym f) (sym a) ∙ whole-adui ∙ j)
-          ∙ chunks-joined E (y ∷ vs) (shows-sized d (y ∷ vs) s) in
+          ∙ cut-joined E (y ∷ vs) (shows-sized d (y ∷ vs) s) in
           record {
             marked = m;
             long = omega (arith, c, l, length-small v (omega (arith, size)) small′);

@@ -5,15 +5,15 @@ use mathlib.Core.List.{List, [], _∷_, _++_}
 use Prim.Native.Nat.{ℕ, zero, suc, _+_, _-_, _*_, _≤_, _<_}
 use native.Mathlib.Nat.{suc-mul, zero-mul}
 use native.Mathlib.Omega.{arith}
-use lib.ListN.{length, take, drop, length-append, length-drop, take-append-drop}
-use lib.Seq.{take-at, drop-at, take-append-seam, drop-append-seam, length-take-le}
+use lib.ListN.{length, take, drop, length-drop, take-append-drop}
+use lib.Seq.{take-append-seam, drop-append-seam, length-take-le}
 use lib.Dec.{eqb}
 use borrow.Author.Tests.{eqb-true}
 use Rattle.memory.specs.Part.{part}
 use Rattle.memory.specs.Number.{bytes, Bytes}
 use Rattle.memory.proofs.Parts.{cons-eq}
 use Rattle.memory.proofs.Number.{number-bytes, bytes-number, number-lt}
-use Rattle.wire.specs.Packets.{zeros, joined, chunks, Sized, symbolCount, adui}
+use Rattle.wire.specs.Packets.{zeros, joined, chunks, symbolCount, adui}
 use Rattle.wire.proofs.Adui.{room}
 use Rattle.starts.specs.Adu.{flowIn, lengthIn, allZero}
 use Rattle.starts.proofs.Tests.{and-true}
@@ -25,16 +25,6 @@ joined-chunks zero s [] e = refl
 joined-chunks zero s (x ∷ m) e = absurd (omega (arith, zero-mul s))
 joined-chunks (suc n) s m e =
     ap (λ (l : List ℕ). take s m ++ l) (joined-chunks n s (drop s m) (omega (arith, length-drop s m, suc-mul n s))) ∙ take-append-drop s m
-
-pub chunks-joined : (s : ℕ) (vs : List (List ℕ)) → Sized s vs → chunks (length vs) s (joined vs) ≡ vs
-chunks-joined s [] z = refl
-chunks-joined s (v ∷ vs) z =
-    cons-eq (take-at v (joined vs) s (z .0))
-    (ap (λ l. chunks (length vs) s l) (drop-at v (joined vs) s (z .0)) ∙ chunks-joined s vs (z .1))
-
-pub length-joined : (s : ℕ) (vs : List (List ℕ)) → Sized s vs → length (joined vs) ≡ length vs * s
-length-joined s [] z = sym (zero-mul s)
-length-joined s (v ∷ vs) z = omega (arith, length-append v (joined vs), z .0, length-joined s vs (z .1), suc-mul (length vs) s)
 
 -- ---- Zeros
 
@@ -49,13 +39,6 @@ zeros-are zero = refl
 zeros-are (suc n) = zeros-are n
 
 -- ---- F and L stand in the first three bytes
-
-pub front-part : (v y : List ℕ) → 3 ≤ length v → part 1 2 (v ++ y) ≡ part 1 2 v
-unfolding part
-front-part [] y h = absurd (omega arith)
-front-part (a ∷ []) y h = absurd (omega arith)
-front-part (a ∷ b ∷ []) y h = absurd (omega arith)
-front-part (a ∷ b ∷ c ∷ v) y h = refl
 
 pub length-small : (v : List ℕ) → 3 ≤ length v → Bytes (part 1 2 v) → lengthIn v < 65536
 unfolding part

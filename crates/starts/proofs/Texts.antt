@@ -46,7 +46,7 @@ module _ (w E base : ℕ) (m : List ℕ) where
 
 -- ---- Where the bytes lie
 
-part-front : (a k : ℕ) (v y : List ℕ) → a + k ≤ length v → part a k (v ++ y) ≡ part a k v
+pub part-front : (a k : ℕ) (v y : List ℕ) → a + k ≤ length v → part a k (v ++ y) ≡ part a k v
 unfolding part
 part-front a k v y h = ap (take k) (drop-append-le a v y (omega arith)) ∙ take-append-le k (drop a v) y (simp length-drop (omega arith))
 
