@@ -1,5 +1,6 @@
 -- Every list of packet calls has a run: each call has an answer, and a memory to leave, that its promise allows.
 use mathlib.Core.Path.{_≡_, refl, sym, ap, _∙_, subst}
+use mathlib.Core.Logic.{_≢_}
 use mathlib.Core.Option.{none, some, Option·none-ne-some, Option·some-injective}
 use mathlib.Core.List.{List, [], _∷_, map}
 use Prim.Native.Nat.{ℕ, _%_, _<_}
@@ -11,12 +12,15 @@ use Rattle.wire.proofs.Settings.{setting-names}
 use Rattle.receiver.specs.declared.Answer.{Answer}
 use Rattle.receiver.specs.declared.Answer.the-variants.{Done, Refused}
 use Rattle.receiver.specs.declared.Header.{Header}
-use Rattle.starts.specs.Starts.{Starts}
-use Rattle.starts.specs.Marks.{marked}
-use Rattle.starts.proofs.Choosing.{with-marks}
+use Rattle.starts.specs.Starts.{Starts, seen}
+use Rattle.starts.specs.Marks as stored
+use Rattle.starts.specs.Marks.{marked, notedIn}
+use Rattle.starts.specs.Settled.{Settled}
+use Rattle.starts.proofs.Choosing.{with-starts}
+use Rattle.starts.proofs.Settling.{pass-settled}
 use Rattle.starts.proofs.Agreeing.{Agree}
-use Rattle.receiver.specs.History.{Call, Reading, fails, located, reading, memorySize, workingSize, Said, value, refusal, IsValue}
-use Rattle.receiver.specs.Model.{State, opened, Outcome, refused, done, stateAfter, receiving, marking}
+use Rattle.receiver.specs.History.{Located, Call, Reading, fails, located, reading, memorySize, workingSize, Said, value, refusal, IsValue}
+use Rattle.receiver.specs.Model.{State, opened, Outcome, refused, done, stateAfter, responds, receiving, startsAfter, marking}
 use Rattle.receiver.specs.Header.{headerIn}
 use Rattle.receiver.specs.Promises.{Contained, Follows, Received}
 use Rattle.receiver.specs.Layout.{headerOf, Holds, Marks, receiverLayout}
@@ -24,7 +28,7 @@ use Rattle.receiver.proofs.Building.{built}
 use Rattle.receiver.proofs.Congruent.{holds-same, held-same, Alike, both-refused, both-done, receiving-alike, marking-alike, same-after}
 use Rattle.receiver.proofs.Naming.{Sound, receiving-sound}
 use Rattle.receiver.proofs.Headers.{header-room, header-fits}
-use Rattle.receiver.proofs.Marking.{only-holds, only-contained}
+use Rattle.receiver.proofs.Marking.{starts-holds, starts-contained}
 use Rattle.claims.specs.Run.{Step, Run}
 use Rattle.claims.specs.NotEmpty.{Asked, asked, AllOfBytes, Runs-exist}
 use Rattle.claims.proofs.Demand.{had-setting}
@@ -56,25 +60,64 @@ module _ (s : Setting) (v : Valid s) where
   abbrev now-marked : List ℕ → State s → Starts
   now-marked m t = marked (s .width) (s .size) (t .base % s .width) m
 
+  -- The marks after the call, and what was read of it and came of it.
+  abbrev marks-by : (x : State s) → Starts → (room : ℕ) → Call → Starts
+  marks-by x M room c = marking s x M (reading s (x .base) room c) (receiving s x room c)
+
+  abbrev Settles : (m′ : List ℕ) (room : ℕ) → Call → State s → Starts → Type 0
+  Settles m′ room c x M = Settled (s .size) (s .width) (seen (s .size) (s .width) (stateAfter x (receiving s x room c) .window)) (notedIn m′) (marks-by x M room c)
+
   starts-all : (m m′ : List ℕ) (t : State s) (room : ℕ) (c : Call) → Holds m s t
-      → Marks m′ s (stateAfter t (receiving s t room c)) (marking s t (now-marked m t) (reading s (t .base) room c) (receiving s t room c))
+      → stored.Marks (s .width) (s .size) (stateAfter t (receiving s t room c) .base % s .width) m′ (marks-by t (now-marked m t) room c)
+      → ((x : State s) (M : Starts) → Holds m s x → Marks m s x M → Settles m′ room c x M)
       → (u : Setting) (x : State u) (M : Starts) → Holds m u x → Marks m u x M
       → Marks m′ u (stateAfter x (receiving u x room c)) (marking u x M (reading u (x .base) room c) (receiving u x room c))
-  starts-all m m′ t room c h d u x M k n = go u (settings-same m t u x h k) x k n
+  starts-all m m′ t room c h d settles u x M k n = go u (settings-same m t u x h k) x k n
     where
-      here : (x : State s) → Holds m s x → Marks m s x M
-          → Marks m′ s (stateAfter x (receiving s x room c)) (marking s x M (reading s (x .base) room c) (receiving s x room c))
-      here x k n i l =
+      here : (x : State s) → Holds m s x → Marks m s x M → Marks m′ s (stateAfter x (receiving s x room c)) (marks-by x M room c)
+      here x k n =
           let same = held-same s m t x h k in
-          let agree : Agree (s .width) (now-marked m t) M = λ j q. ap (λ b. marked (s .width) (s .size) b m j) (same .row) ∙ n j q in
+          let agree : Agree (s .width) (now-marked m t) M = λ j q. ap (λ b. marked (s .width) (s .size) b m j) (same .row) ∙ n .bytes j q in
           let after = same-after s (receiving s t room c) (receiving s x room c) (receiving-alike s t x room c same) t x same in
-          ap (λ b. marked (s .width) (s .size) b m′ i) (sym (after .row)) ∙ d i l ∙ marking-alike s t x room c (now-marked m t) M same agree i l
+          record {
+            bytes = λ i l.
+                ap (λ b. marked (s .width) (s .size) b m′ i) (sym (after .row)) ∙ d i l
+                ∙ marking-alike s t x room c (now-marked m t) M same agree i l;
+            settled = settles x M k n;
+          }
 
       go : (u : Setting) → s ≡ u → (x : State u) → Holds m u x → Marks m u x M
           → Marks m′ u (stateAfter x (receiving u x room c)) (marking u x M (reading u (x .base) room c) (receiving u x room c))
       go u e =
           subst (λ y. (x : State y) → Holds m y x → Marks m y x M
           → Marks m′ y (stateAfter x (receiving y x room c)) (marking y x M (reading y (x .base) room c) (receiving y x room c))) e here
+
+  after-pass : (x x′ : State s) (q : Located) (M : Starts) (f : ℕ) → f ≢ 0
+      → Settled (s .size) (s .width) (seen (s .size) (s .width) (x′ .window)) f (startsAfter s x x′ q M)
+  unfolding startsAfter
+  after-pass x x′ q M f g = pass-settled (s .size) (s .width) (seen (s .size) (s .width) (x′ .window)) f _ some-bytes g
+
+  abbrev IsRefused : Outcome s → Type 0
+  IsRefused (done n x) = ⊥
+  IsRefused (refused n) = Unit {0}
+
+  -- The marks of an accepted packet are settled, once an end past the window is noted.
+  settled-after : (x : State s) (M : Starts) (f n : ℕ) (y : State s) → f ≢ 0 → (r : Reading) (o : Outcome s) → responds s x r ≡ o → o ≡ done n y
+      → Settled (s .size) (s .width) (seen (s .size) (s .width) (stateAfter x o .window)) f (marking s x M r o)
+  settled-after x M f n y g (fails k) o e z = absurd (subst IsRefused (e ∙ z) tt)
+  settled-after x M f n y g (located q) (refused k) e z = absurd (subst IsRefused z tt)
+  settled-after x M f n y g (located q) (done k x′) e z = after-pass x x′ q M f g
+
+  settles-done : (x : State s) (M : Starts) (f n : ℕ) (y : State s) → f ≢ 0 → (room : ℕ) (c : Call) → receiving s x room c ≡ done n y
+      → Settled (s .size) (s .width) (seen (s .size) (s .width) (stateAfter x (receiving s x room c) .window)) f (marks-by x M room c)
+  unfolding receiving
+  settles-done x M f n y g room c z = settled-after x M f n y g (reading s (x .base) room c) (responds s x (reading s (x .base) room c)) refl z
+
+  was-refused : (n : ℕ) {p : Outcome s} → Alike s (refused n) p → p ≡ refused n
+  was-refused n (both-refused k) = refl
+
+  was-done : (n : ℕ) (x : State s) {p : Outcome s} → Alike s (done n x) p → (y : State s) × (p ≡ done n y)
+  was-done n x (both-done k t u e) = (u, refl)
 
   refused-marks : (t : State s) (M : Starts) (n : ℕ) (r : Reading) → marking s t M r (refused n) ≡ M
   refused-marks t M n (fails k) = refl
@@ -112,8 +155,16 @@ module _ (s : Setting) (v : Valid s) where
           follows = follows-all m m (Refused (g .refusal)) t (length w) c h
               (subst (λ x. Follows receiverLayout s x m m (Refused (g .refusal))) (sym e) (ap refusal (g .number), refl));
           starts = starts-all m m t (length w) c h
-              (subst (λ o. Marks m s (stateAfter t o) (marking s t (now-marked m t) (reading s (t .base) (length w) c) o)) (sym e)
-              (subst (Marks m s t) (sym (refused-marks t (now-marked m t) n (reading s (t .base) (length w) c))) (λ i l. refl)));
+              (subst (λ o. stored.Marks (s .width) (s .size) (stateAfter t o .base % s .width) m
+              (marking s t (now-marked m t) (reading s (t .base) (length w) c) o)) (sym e)
+              (subst (stored.Marks (s .width) (s .size) (t .base % s .width) m) (sym (refused-marks t (now-marked m t) n (reading s (t .base) (length w) c)))
+              (λ i l. refl)))
+              (λ x M k km.
+              subst (λ o. Settled (s .size) (s .width) (seen (s .size) (s .width) (stateAfter x o .window)) (notedIn m)
+              (marking s x M (reading s (x .base) (length w) c) o))
+              (sym (was-refused n (subst (λ o. Alike s o (receiving s x (length w) c)) e (receiving-alike s t x (length w) c (held-same s m t x h k)))))
+              (subst (Settled (s .size) (s .width) (seen (s .size) (s .width) (x .window)) (notedIn m))
+              (sym (refused-marks x M n (reading s (x .base) (length w) c))) (km .settled)));
         };
         state = t;
         held = h;
@@ -127,8 +178,8 @@ module _ (s : Setting) (v : Valid s) where
           let room = header-room m (headerOf s t) (h .header) in
           let fits = header-fits (b .memory) (headerOf s x) (b .holds .header) in
           let M = marking s t (now-marked m t) (reading s (t .base) (length w) c) (done n x) in
-          let (m′, only, marks) = with-marks (s .width) (s .size) (x .base % s .width) M (fits .some-width) (b .memory) (fits .room) in
-          let held = only-holds s x (b .memory) m′ (b .holds) only in
+          let (m′, only, marks, noted) = with-starts (s .width) (s .size) (x .base % s .width) M (fits .some-width) (b .memory) (fits .room) in
+          let held = starts-holds s x (b .memory) m′ (b .holds) only in
           record {
             answer = Done n;
             memory = m′;
@@ -138,11 +189,15 @@ module _ (s : Setting) (v : Valid s) where
               refused = λ k q. absurd (subst IsValue q tt);
               contained = contained m m′ w t h (record {
                 same = only .size ∙ b .same ∙ omega (arith, length-drop (memorySize s) m, room);
-                past = only-contained s (b .memory) m′ only .past ∙ b .rest;
+                past = starts-contained s (b .memory) m′ only .past ∙ b .rest;
               });
               follows = follows-all m m′ (Done n) t (length w) c h (subst (λ y. Follows receiverLayout s y m m′ (Done n)) (sym e) (refl, held));
               starts = starts-all m m′ t (length w) c h
-                  (subst (λ o. Marks m′ s (stateAfter t o) (marking s t (now-marked m t) (reading s (t .base) (length w) c) o)) (sym e) marks);
+                  (subst (λ o. stored.Marks (s .width) (s .size) (stateAfter t o .base % s .width) m′
+                  (marking s t (now-marked m t) (reading s (t .base) (length w) c) o)) (sym e) marks)
+                  (λ x′ M′ k km.
+                  let (y, z) = was-done n x (subst (λ o. Alike s o (receiving s x′ (length w) c)) e (receiving-alike s t x′ (length w) c (held-same s m t x′ h k))) in
+                  settles-done x′ M′ (notedIn m′) n y (λ q. absurd (omega (arith, noted, q))) (length w) c z);
             };
             state = x;
             held = held;

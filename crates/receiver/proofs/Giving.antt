@@ -78,5 +78,5 @@ module _ (m out : List ℕ) (e : ℕ) (h : Header) (k : headerIn m ≡ some h) w
           of-header m h k (λ s t. Marks m s t M → HandedAs (aduAt s t M (length out) e) out out′ r)
           (λ t v a b l.
           subst (λ y. HandedAs y out out′ r) (sym (inner t M b))
-          (g .told (t .base) (t .window) M (sym a) (v .rows) (subst (λ y. marks.Marks width size y m M) (sym a) l))) s t v l;
+          (g .told (t .base) (t .window) M (sym a) (v .rows) (subst (λ y. marks.Marks width size y m M) (sym a) (l .bytes)))) s t v l;
     }

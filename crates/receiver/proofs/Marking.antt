@@ -1,5 +1,6 @@
 -- A memory in which nothing but marks has changed holds the same state; and the marks after a packet.
-use mathlib.Core.Path.{_≡_, refl, sym, ap, _∙_, subst}
+use mathlib.Core.Path.{_≡_, refl, sym, ap, ap₂, _∙_, subst}
+use mathlib.Core.Bool.{Bool, false}
 use mathlib.Core.Option.{Option, none, some}
 use mathlib.Core.List.{List}
 use Prim.Native.Nat.{ℕ, _+_, _-_, _%_, _≤_, _<_}
@@ -14,11 +15,16 @@ use Rattle.memory.proofs.Parts.{length-part, getD-part}
 use Rattle.wire.specs.declared.Setting.{Setting}
 use Rattle.wire.specs.Settings.{settingIn}
 use Rattle.wire.proofs.Settings.{setting-kept}
+use Rattle.decoder.specs.Bytes.{Coded}
+use Rattle.decoder.specs.Model as model
+use Rattle.decoder.specs.Receiver as decoder
 use Rattle.elimination.specs.Window as window
 use Rattle.starts.specs.Starts.{Starts, moved, pass, seen}
+use Rattle.starts.specs.Settled.{Settled, Old}
 use Rattle.starts.specs.Marks as marks
-use Rattle.starts.specs.MarkSteps.{owning, Updated}
-use Rattle.starts.proofs.Only.{only-window, header-no-mark, past-no-mark, mark-row, mark-past}
+use Rattle.starts.specs.MarkSteps.{owning, Updated, Tallied}
+use Rattle.starts.proofs.Only.{starts-of, starts-window, header-no-mark, past-no-mark, mark-row, mark-past}
+use Rattle.starts.proofs.Gaining.{old-ones}
 use Rattle.receiver.specs.declared.Header.{Header}
 use Rattle.receiver.specs.declared.packet.PacketPlace.{PacketPlace}
 use Rattle.receiver.specs.History.{memorySize}
@@ -33,48 +39,57 @@ use Rattle.receiver.proofs.Finishing.{header-held}
 
 -- ---- nothing but marks has changed
 
-module _ (w E : ℕ) (m m′ : List ℕ) (o : marks.OnlyMarks w E m m′) (long : 64 ≤ length m) where
-  -- A part of the header without byte 10.
-  part-kept : (a n : ℕ) → a + n ≤ 64 → ((i : ℕ) → i < n → a + i ≡ 10 → ⊥) → part a n m′ ≡ part a n m
+module _ (w E : ℕ) (m m′ : List ℕ) (o : marks.OnlyStarts w E m m′) (long : 64 ≤ length m) where
+  -- A part of the header without the bytes 10 and 11.
+  part-kept : (a n : ℕ) → a + n ≤ 64 → ((i : ℕ) → i < n → (a + i ≡ 10 → ⊥) × (a + i ≡ 11 → ⊥)) → part a n m′ ≡ part a n m
   part-kept a n h away =
       let l : length (part a n m′) ≡ n = length-part a n m′ (omega (arith, o .size)) in
       ext-getD 0 (part a n m′) (part a n m) (l ∙ sym (length-part a n m (omega arith)))
       (λ i k.
       let j : i < n = omega (arith, l) in
-      getD-part a n i m′ j ∙ o .others (a + i) (header-no-mark w E (a + i) (omega arith) (away i j)) ∙ sym (getD-part a n i m j))
+      getD-part a n i m′ j ∙ o .others (a + i) (header-no-mark w E (a + i) (omega arith) (away i j .0)) (away i j .1) ∙ sym (getD-part a n i m j))
 
   setting-same : settingIn 2 m′ ≡ settingIn 2 m
   unfolding part
-  setting-same = setting-kept 2 m′ m (part-kept 0 8 (omega arith) (λ i l e. omega arith))
+  setting-same = setting-kept 2 m′ m (part-kept 0 8 (omega arith) (λ i l. ((λ e. omega arith), (λ e. omega arith))))
 
   head-same : (s : Option Setting) → headerWith m′ s ≡ headerWith m s
   head-same none = refl
   head-same (some s) =
-      rw (o .size, part-kept 8 2 (omega arith) (λ i l e. omega arith), part-kept 12 4 (omega arith) (λ i l e. omega arith))
+      let row = part-kept 8 2 (omega arith) (λ i l. ((λ e. omega arith), (λ e. omega arith))) in
+      let esi = part-kept 12 4 (omega arith) (λ i l. ((λ e. omega arith), (λ e. omega arith))) in
+      rw (o .size, row, esi)
 
   pub header-same : headerIn m′ ≡ headerIn m
   unfolding headerIn
   header-same = ap (headerWith m′) setting-same ∙ head-same (settingIn 2 m)
 
-pub only-contained : (s : Setting) (m m′ : List ℕ) → marks.OnlyMarks (s .width) (s .size) m m′ → Contained (memorySize s) m m′
-only-contained s m m′ o = record {
+pub starts-contained : (s : Setting) (m m′ : List ℕ) → marks.OnlyStarts (s .width) (s .size) m m′ → Contained (memorySize s) m m′
+starts-contained s m m′ o = record {
   same = o .size;
   past =
       ext-getD 0 (drop (memorySize s) m′) (drop (memorySize s) m)
       (length-drop (memorySize s) m′ ∙ ap (λ n. n - memorySize s) (o .size) ∙ sym (length-drop (memorySize s) m))
       (λ i h.
-      getD-drop (memorySize s) m′ i 0 ∙ o .others (memorySize s + i) (past-no-mark (s .width) (s .size) (memorySize s + i) (omega arith))
+      let k : ℕ = memorySize s + i in
+      getD-drop (memorySize s) m′ i 0 ∙ o .others k (past-no-mark (s .width) (s .size) k (omega arith)) (λ e. omega (arith, e))
       ∙ sym (getD-drop (memorySize s) m i 0));
 }
 
-pub only-holds : (s : Setting) (t : State s) (m m′ : List ℕ) → Holds m s t → marks.OnlyMarks (s .width) (s .size) m m′ → Holds m′ s t
-only-holds s t m m′ k o =
+pub starts-holds : (s : Setting) (t : State s) (m m′ : List ℕ) → Holds m s t → marks.OnlyStarts (s .width) (s .size) m m′ → Holds m′ s t
+starts-holds s t m m′ k o =
     let f = header-fits m (headerOf s t) (k .header) in
     record {
       header = header-same (s .width) (s .size) m m′ o (omega (arith, f .room)) ∙ k .header;
       reduced = k .reduced;
-      rows = only-window (f .some-width) o (t .base) (t .window) (k .rows);
+      rows = starts-window (f .some-width) o (t .base) (t .window) (k .rows);
     }
+
+pub only-contained : (s : Setting) (m m′ : List ℕ) → marks.OnlyMarks (s .width) (s .size) m m′ → Contained (memorySize s) m m′
+only-contained s m m′ o = starts-contained s m m′ (starts-of o)
+
+pub only-holds : (s : Setting) (t : State s) (m m′ : List ℕ) → Holds m s t → marks.OnlyMarks (s .width) (s .size) m m′ → Holds m′ s t
+only-holds s t m m′ k o = starts-holds s t m m′ k (starts-of o)
 
 -- ---- the marks have not changed
 
@@ -110,30 +125,84 @@ update-asks h at own m m₁ has placed k =
     (subst (λ E. window.Fits (h .setting .width) E m₁) (sym (placed .size)) f) in
     (fits, subst (λ w. h .row < w) (sym (placed .width)) (headed m h has .row-lt), placed .base, placed .room)
 
-pub accepted : (h : Header) (at : PacketPlace) (kept own count : ℕ) (work m m₁ m₂ : List ℕ) → headerIn m ≡ some h → PlacedBy h at own
-    → Finished h at kept count work m m₁ → Updated (at .shape .width) (at .shape .size) (h .row) (at .rise) (at .offset) own m₁ m₂
-    → Accepted h at kept own count work m m₂
-accepted h at kept own count work m m₁ m₂ has placed f u =
-    let u′ : Updated (h .setting .width) (h .setting .size) (h .row) (at .rise) (at .offset) own m₁ m₂ =
-    subst (λ x. Updated (h .setting .width) x (h .row) (at .rise) (at .offset) own m₁ m₂) (placed .size)
-    (subst (λ x. Updated x (at .shape .size) (h .row) (at .rise) (at .offset) own m₁ m₂) (placed .width) u) in
-    record {
-      contained = contained-more (f .contained) (only-contained (h .setting) m₁ m₂ (u′ .only));
-      outcome = λ s t es k row g.
-          let is = header-held m h s t has k in
-          let fits = header-fits m (headerOf s t) (k .header) in
-          let same = subst (λ (x : Header). SameMarks (x .setting .width) (x .setting .size) m m₁) is (f .marks) in
-          let v = subst (λ (x : Header). Updated (x .setting .width) (x .setting .size) (x .row) (at .rise) (at .offset) own m₁ m₂) is u′ in
-          let (T, i, held, n) = f .outcome s t es k row g in
-          let around = mod-add-mod (t .base) (s .width) (at .rise) in (
-            T,
-            i,
-            only-holds s (record { base = t .base + at .rise; window = T }) m₁ m₂ held (v .only),
-            n,
-            λ M km.
-                let N = pass (s .size) (seen (s .size) (s .width) T) (s .width) (owning (at .offset) own (moved (s .width) (at .rise) M)) in
-                subst (λ b. marks.Marks (s .width) (s .size) b m₂ N) around
-                (v .marks (t .base + at .rise) T M (sym around) (held .rows)
-                (same-marks (s .width) (s .size) (t .base % s .width) m m₁ M (fits .some-width) same km)),
-          );
-    }
+-- What it asks to count the packet's own positions before and after.
+pub count-asks : (h : Header) (at : PacketPlace) (own : ℕ) (m : List ℕ) → headerIn m ≡ some h → PlacedBy h at own → at .rise ≤ 65536
+    → window.Fits (h .setting .width) (h .setting .size) m × (h .row < h .setting .width) × (at .rise + at .offset + own ≤ 100000)
+count-asks h at own m has placed l =
+    let g = header-fits m h has in
+    (g, headed m h has .row-lt, omega (arith, l, placed .room, placed .width, g .wide))
+
+pub count-again : (h : Header) (at : PacketPlace) (own : ℕ) (m m₁ : List ℕ) → headerIn m ≡ some h → PlacedBy h at own
+    → Contained (memorySize (h .setting)) m m₁
+    → window.Fits (at .shape .width) (at .shape .size) m₁ × (at .shape .base < at .shape .width) × (at .offset + own ≤ 100000)
+count-again h at own m m₁ has placed k =
+    let (f, l, b, r) = update-asks h at own m m₁ has placed k in
+    (f, subst (λ x. x < at .shape .width) (sym b) (mod-lt (h .row + at .rise) (f .some-width)), omega (arith, r, f .wide))
+
+-- Whether positions other than its own have become known is told by `others`.
+module _ (h : Header) (at : PacketPlace) (kept own count had has : ℕ) (others : Bool) (work m m₁ m₂ : List ℕ) (head : headerIn m ≡ some h)
+    (placed : PlacedBy h at own) (f : Finished h at kept count work m m₁)
+    (before : Tallied (h .setting .width) (h .setting .size) (h .row) (at .rise + at .offset) own had m)
+    (after : Tallied (at .shape .width) (at .shape .size) (at .shape .base) (at .offset) own has m₁)
+    (tells : others ≡ false → count ≡ has - had)
+    (u : Updated (at .shape .width) (at .shape .size) (h .row) (at .rise) (at .offset) own others m₁ m₂) where
+  -- All by the header's setting.
+  u′ : Updated (h .setting .width) (h .setting .size) (h .row) (at .rise) (at .offset) own others m₁ m₂
+  u′ =
+      subst (λ x. Updated (h .setting .width) x (h .row) (at .rise) (at .offset) own others m₁ m₂) (placed .size)
+      (subst (λ x. Updated x (at .shape .size) (h .row) (at .rise) (at .offset) own others m₁ m₂) (placed .width) u)
+
+  after′ : Tallied (h .setting .width) (h .setting .size) (at .shape .base) (at .offset) own has m₁
+  after′ =
+      subst (λ x. Tallied (h .setting .width) x (at .shape .base) (at .offset) own has m₁) (placed .size)
+      (subst (λ x. Tallied x (at .shape .size) (at .shape .base) (at .offset) own has m₁) (placed .width) after)
+
+  module _ (s : Setting) (t : State s) (es : List (model.Row (Coded (s .size)) (s .width))) (k : Holds m s t)
+      (row : at .shape .base ≡ (t .base + at .rise) % s .width) (T : model.State (Coded (s .size)) (s .width))
+      (inserted : decoder.insert-all es (decoder.advance-by (at .rise) (t .window)) ≡ some T)
+      (held : Holds m₁ s (record { base = t .base + at .rise; window = T }))
+      (counted : count ≡ decoder.newly t (record { base = t .base + at .rise; window = T })) where
+    is : h ≡ headerOf s t
+    is = header-held m h s t head k
+
+    fits : window.Fits (s .width) (s .size) m
+    fits = header-fits m (headerOf s t) (k .header)
+
+    olds : others ≡ false → Old (s .width) (at .rise) (at .offset) own (seen (s .size) (s .width) (t .window)) (seen (s .size) (s .width) T)
+    olds no-others =
+        let x = subst (λ (y : Header). Tallied (y .setting .width) (y .setting .size) (y .row) (at .rise + at .offset) own had m) is before in
+        let y = subst (λ (z : Header). Tallied (z .setting .width) (z .setting .size) (at .shape .base) (at .offset) own has m₁) is after′ in
+        let a = x .told (t .base) (t .window) refl (k .rows) in
+        let b = y .told (t .base + at .rise) T (sym row) (held .rows) in
+        let w : h .setting .width ≡ s .width = ap (λ (z : Header). z .setting .width) is in
+        old-ones (s .width) (s .size) (at .rise) (t .window) T es (omega (arith, fits .some-symbol)) (k .reduced) inserted (t .base) (at .offset) own
+        (omega (arith, placed .room, placed .width, w)) (sym counted ∙ tells no-others ∙ ap₂ (λ (i j : ℕ). i - j) b a)
+
+    marks-after : (M : Starts) → Marks m s t M → Marks m₂ s (record { base = t .base + at .rise; window = T })
+        (pass (s .size) (seen (s .size) (s .width) T) (s .width) (owning (at .offset) own (moved (s .width) (at .rise) M)))
+    marks-after M km =
+        let N = pass (s .size) (seen (s .size) (s .width) T) (s .width) (owning (at .offset) own (moved (s .width) (at .rise) M)) in
+        let same = subst (λ (x : Header). SameMarks (x .setting .width) (x .setting .size) m m₁) is (f .marks) in
+        let v = subst (λ (x : Header). Updated (x .setting .width) (x .setting .size) (x .row) (at .rise) (at .offset) own others m₁ m₂) is u′ in
+        let around = mod-add-mod (t .base) (s .width) (at .rise) in
+        let note : marks.notedIn m ≡ marks.notedIn m₁ = sym (same .header 11 (omega arith) (omega arith)) in
+        let (g, settled) =
+        v .marks (t .base + at .rise) (seen (s .size) (s .width) (t .window)) T M (sym around) (held .rows)
+        (same-marks (s .width) (s .size) (t .base % s .width) m m₁ M (fits .some-width) same (km .bytes))
+        (subst (λ x. Settled (s .size) (s .width) (seen (s .size) (s .width) (t .window)) x M) note (km .settled)) olds in
+        record { bytes = subst (λ b. marks.Marks (s .width) (s .size) b m₂ N) around g; settled = settled }
+
+  pub accepted : Accepted h at kept own count work m m₂
+  accepted = record {
+    contained = contained-more (f .contained) (starts-contained (h .setting) m₁ m₂ (u′ .only));
+    outcome = λ s t es k row g.
+        let (T, i, held, n) = f .outcome s t es k row g in
+        let is = header-held m h s t head k in
+        let v = subst (λ (x : Header). marks.OnlyStarts (x .setting .width) (x .setting .size) m₁ m₂) is (u′ .only) in (
+          T,
+          i,
+          starts-holds s (record { base = t .base + at .rise; window = T }) m₁ m₂ held v,
+          n,
+          marks-after s t es k row T i held n,
+        );
+  }

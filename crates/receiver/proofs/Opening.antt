@@ -23,6 +23,8 @@ use Rattle.elimination.specs.Place.{Emptied}
 use Rattle.starts.specs.Starts.{zeroth}
 use Rattle.starts.specs.Marks as marks
 use Rattle.starts.specs.Contracts.{Begun}
+use Rattle.starts.proofs.Settling.{unseen-settled}
+use Rattle.starts.proofs.Gaining.{unseen-empty}
 use Rattle.receiver.specs.declared.Answer.the-variants.{Done, Refused}
 use Rattle.receiver.specs.History.{memorySize}
 use Rattle.receiver.specs.Model.{opened}
@@ -112,8 +114,10 @@ module _ (s : Setting) (v : Valid s) (m m′ : List ℕ) (room : memorySize s �
   module _ (m″ : List ℕ) (f : Begun (s .width) (s .size) 0 m′ m″) where
     marked : Marks m″ s (opened s) zeroth
     unfolding decoder.fresh
-    marked =
-        subst (λ b. marks.Marks (s .width) (s .size) b m″ zeroth) (sym (mod-eq-of-lt (omega (arith, v .width-least)))) (f .marks)
+    marked = record {
+      bytes = subst (λ b. marks.Marks (s .width) (s .size) b m″ zeroth) (sym (mod-eq-of-lt (omega (arith, v .width-least)))) (f .marks);
+      settled = unseen-settled (s .size) (s .width) _ _ zeroth (λ i _. unseen-empty (s .size) (s .width) i);
+    }
 
     left : (n E w : ℕ) → settingOf n E w ≡ some s → Opened receiverLayout n E w m m″ (Done 0)
     left n E w e = record {

@@ -7,8 +7,9 @@ use Prim.Native.Nat.{ℕ, _+_, _%_, _^_}
 use Rattle.wire.specs.declared.Setting.{Setting}
 use Rattle.decoder.specs.Model.{Rref}
 use Rattle.elimination.specs.Window as window
-use Rattle.starts.specs.Starts.{Starts}
+use Rattle.starts.specs.Starts.{Starts, seen}
 use Rattle.starts.specs.Marks as marks
+use Rattle.starts.specs.Settled.{Settled}
 use Rattle.receiver.specs.declared.Header.{Header}
 use Rattle.receiver.specs.Model.{State}
 use Rattle.receiver.specs.Header.{headerIn}
@@ -24,9 +25,10 @@ pub record Holds (m : List ℕ) (s : Setting) (t : State s) : Type 0 where
   pub reduced : Rref (t .window)
   pub rows : window.Window (s .width) (s .size) m (t .base) (t .window)
 
--- It marks these positions as starts.
-abbrev pub Marks : List ℕ → (s : Setting) → State s → Starts → Type 0
-Marks m s t M = marks.Marks (s .width) (s .size) (t .base % s .width) m M
+-- It marks these positions as starts, and so that a pass through the window would add none.
+pub record Marks (m : List ℕ) (s : Setting) (t : State s) (M : Starts) : Type 0 where
+  pub bytes : marks.Marks (s .width) (s .size) (t .base % s .width) m M
+  pub settled : Settled (s .size) (s .width) (seen (s .size) (s .width) (t .window)) (marks.notedIn m) M
 
 -- Where the symbol at a position starts: after the coefficients of its row.
 abbrev pub symbolStart : Setting → ℕ → ℕ

@@ -139,7 +139,23 @@ pub fn accept(
         × (place .shape .base < 65536) × (place .rise ≤ 65536) × PlacedBy header place own ⌝ }
     ensures { λ n. ⌜ Accepted header place kept own n (now (work .entry)) (now (mem .entry)) (now (mem .exit)) ⌝ }
 {
+    let before = Shape {
+        width: header.setting.width,
+        size: header.setting.size,
+        base: header.row,
+    };
+    let had = marks::known_among(mem, before, place.rise + place.offset, own);
     let known = finish(mem, work, header, place, kept);
-    marks::update(mem, place.shape, header.row, place.rise, place.offset, own);
+    let has = marks::known_among(mem, place.shape, place.offset, own);
+    let others = known != excess(has, had);
+    marks::update(
+        mem,
+        place.shape,
+        header.row,
+        place.rise,
+        place.offset,
+        own,
+        others,
+    );
     known
 }

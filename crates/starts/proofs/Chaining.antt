@@ -31,7 +31,7 @@ module _ (E : ℕ) (see : View) where
 
   -- The turn of position n: what was marked stays, the position that its L names is marked, and no other.
   module _ (n : ℕ) (M : Starts) where
-    stays : (b : Bool) (o : Option (List ℕ)) (j : ℕ) → M j ≡ true → onward E b o n M j ≡ true
+    pub stays : (b : Bool) (o : Option (List ℕ)) (j : ℕ) → M j ≡ true → onward E b o n M j ≡ true
     stays true (some v) j h = also-true (n + needs E v) M j .1 (inr h)
     stays true none j h = h
     stays false o j h = h
@@ -41,7 +41,7 @@ module _ (E : ℕ) (see : View) where
     marks true none v e f = absurd (Option·none-ne-some _ f)
     marks false o v e f = absurd (false≢true e)
 
-    no-other : (b : Bool) (o : Option (List ℕ)) (j : ℕ) → onward E b o n M j ≡ true
+    pub no-other : (b : Bool) (o : Option (List ℕ)) (j : ℕ) → onward E b o n M j ≡ true
         → (M j ≡ true) ⊎ ((v : List ℕ) × (b ≡ true) × (o ≡ some v) × (j ≡ n + needs E v))
     no-other true (some v) j h = go (also-true (n + needs E v) M j .0 h)
       where

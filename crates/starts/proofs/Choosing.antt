@@ -11,10 +11,11 @@ use lib.Dec.{ltb}
 use lib.ListN.{length, getD, set}
 use Rattle.elimination.specs.Window.{place}
 use Rattle.starts.specs.Starts.{Starts}
-use Rattle.starts.specs.Marks.{markAt, marked, Marks, OnlyMarks}
+use Rattle.starts.specs.Marks.{markAt, Marks, OnlyMarks, notedIn, OnlyStarts}
 use Rattle.starts.specs.MarkSteps.{markByte}
-use Rattle.starts.proofs.Only.{flag-inside, mark-row, mark-past, mark-apart, only-refl, only-trans}
+use Rattle.starts.proofs.Only.{flag-inside, mark-row, mark-past, mark-apart, only-refl, only-trans, starts-of, starts-trans}
 use Rattle.starts.proofs.Marking.{written, written-only}
+use Rattle.starts.proofs.Passing.{noted-byte, noted-only, noted-marks}
 
 module _ (w E base : ℕ) (M : Starts) (pos : 0 < w) where
   -- A mark lies in the memory.
@@ -60,3 +61,10 @@ module _ (w E base : ℕ) (M : Starts) (pos : 0 < w) where
       test : (b : Bool) → ltb 0 (cond b 1 0) ≡ b
       test true = refl
       test false = refl
+
+  -- And an end past the window is noted.
+  pub with-starts : (m : List ℕ) → place w E w ≤ length m → (m′ : List ℕ) × OnlyStarts w E m m′ × Marks w E base m′ M × (notedIn m′ ≡ 1)
+  with-starts m h =
+      let (m′, only, marks) = with-marks m h in
+      let f = noted-byte 1 m′ (omega (arith, h, only .size)) in
+      (set m′ 11 1, starts-trans (starts-of only) (noted-only f), noted-marks w E base 1 m′ (set m′ 11 1) M pos f marks, f .here)

@@ -15,7 +15,7 @@ use Rattle.decoder.specs.Model.{State}
 use Rattle.decoder.proofs.Stretch.{remainders}
 use Rattle.elimination.specs.Window.{stride, place, Window, Fits}
 use Rattle.elimination.proofs.Holding.{window-same}
-use Rattle.starts.specs.Marks.{flagAt, markAt, NoMark, OnlyMarks}
+use Rattle.starts.specs.Marks.{flagAt, markAt, NoMark, OnlyMarks, OnlyStarts}
 
 -- ---- where marks stand
 
@@ -114,3 +114,34 @@ row-no-mark w E r k h = record { header = λ e. omega arith; rows = λ q l e. go
 -- The system that the memory holds.
 pub only-window : {w E : ℕ} {m m′ : List ℕ} → 0 < w → OnlyMarks w E m m′ → (b : ℕ) (S : State (Coded E) w) → Window w E m b S → Window w E m′ b S
 only-window {w} {E} {m} {m′} pos o = window-same w E m m′ pos (λ r l k n. o .others (place w E r + k) (row-no-mark w E r k n))
+
+-- ---- nothing but marks and the note has changed
+
+pub starts-refl : {w E : ℕ} {m : List ℕ} → OnlyStarts w E m m
+starts-refl = record { size = refl; others = λ k n d. refl }
+
+pub starts-of : {w E : ℕ} {m m′ : List ℕ} → OnlyMarks w E m m′ → OnlyStarts w E m m′
+starts-of f = record { size = f .size; others = λ k n d. f .others k n }
+
+pub starts-trans : {w E : ℕ} {m m′ m″ : List ℕ} → OnlyStarts w E m m′ → OnlyStarts w E m′ m″ → OnlyStarts w E m m″
+starts-trans f g = record { size = g .size ∙ f .size; others = λ k n d. g .others k n d ∙ f .others k n d }
+
+pub starts-fits : {w E : ℕ} {m m′ : List ℕ} → Fits w E m → OnlyStarts w E m m′ → Fits w E m′
+starts-fits f o = record {
+  some-width = f .some-width;
+  wide = f .wide;
+  some-symbol = f .some-symbol;
+  long = f .long;
+  room = rw (o .size) (f .room);
+}
+
+pub starts-window : {w E : ℕ} {m m′ : List ℕ} → 0 < w → OnlyStarts w E m m′ → (b : ℕ) (S : State (Coded E) w) → Window w E m b S → Window w E m′ b S
+starts-window {w} {E} {m} {m′} pos o =
+    window-same w E m m′ pos (λ r l k n. o .others (place w E r + k) (row-no-mark w E r k n) (λ e. omega (arith, e)))
+
+-- Byte 11 is no mark.
+pub note-no-mark : (w E : ℕ) → NoMark w E 11
+note-no-mark w E = header-no-mark w E 11 (omega arith) (λ e. omega (arith, e))
+
+pub mark-not-note : (w E base i : ℕ) → 0 < w → markAt w E base i ≢ 11
+mark-not-note w E base i pos e = no-mark w E base i 11 pos (note-no-mark w E) (sym e)

@@ -13,7 +13,8 @@ use Rattle.starts.specs.declared.Handed.{Handed}
 use Rattle.starts.specs.declared.Handed.the-variants.{Withheld}
 use Rattle.starts.specs.Adu.{handing, Leaves, HandedAs}
 use Rattle.starts.specs.Starts.{Starts, zeroth, also, moved, pass, seen}
-use Rattle.starts.specs.Marks.{Marks, OnlyMarks}
+use Rattle.starts.specs.Marks.{Marks, OnlyMarks, notedIn, OnlyStarts}
+use Rattle.starts.specs.Settled.{Settled}
 
 -- Position 0 alone is marked.
 pub record Begun (w E base : ℕ) (m m′ : List ℕ) : Type 0 where
@@ -32,9 +33,9 @@ pub record Moved (w E base rise : ℕ) (m m′ : List ℕ) : Type 0 where
 
 -- The pass through the window has been made.
 pub record Passed (w E base : ℕ) (m m′ : List ℕ) : Type 0 where
-  pub only : OnlyMarks w E m m′
+  pub only : OnlyStarts w E m m′
   pub marks : (b : ℕ) (S : State (Coded E) w) (M : Starts) → b % w ≡ base → Window w E m b S → Marks w E base m M
-      → Marks w E base m′ (pass E (seen E w S) w M)
+      → Marks w E base m′ (pass E (seen E w S) w M) × Settled E w (seen E w S) (notedIn m′) (pass E (seen E w S) w M)
 
 -- The ADU call for the d-th position of the window has been made; refusal 3 is none of its refusals.
 pub record HandedOut (w E base d : ℕ) (m out out′ : List ℕ) (r : Handed) : Type 0 where

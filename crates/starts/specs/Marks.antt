@@ -2,7 +2,7 @@
 -- window in byte 10 of the header.
 use mathlib.Core.Path.{_≡_}
 use mathlib.Core.Logic.{_≢_}
-use mathlib.Core.Bool.{Bool, cond}
+use mathlib.Core.Bool.{cond}
 use mathlib.Core.List.{List}
 use Prim.Native.Nat.{ℕ, _+_, _%_, _≤_, _<_}
 use lib.ListN.{length, getD}
@@ -34,3 +34,11 @@ pub record NoMark (w E k : ℕ) : Type 0 where
 pub record OnlyMarks (w E : ℕ) (m m′ : List ℕ) : Type 0 where
   pub size : length m′ ≡ length m
   pub others : (k : ℕ) → NoMark w E k → getD m′ k 0 ≡ getD m k 0
+
+-- And whether an ADU ends past the window is noted in byte 11 of the header. Nothing but marks and that note has changed.
+abbrev pub notedIn : List ℕ → ℕ
+notedIn m = getD m 11 0
+
+pub record OnlyStarts (w E : ℕ) (m m′ : List ℕ) : Type 0 where
+  pub size : length m′ ≡ length m
+  pub others : (k : ℕ) → NoMark w E k → k ≢ 11 → getD m′ k 0 ≡ getD m k 0

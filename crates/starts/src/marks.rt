@@ -1,9 +1,10 @@
 // The marks of starts: read, set, moved on with the window, and the pass that follows the lengths of known ADUs.
 ghost use mathlib.Core.Path.{_≡_};
 ghost use Prim.Native.Nat.{_+_, _%_, _≤_, _<_};
+ghost use lib.ListN.{length};
 ghost use Rattle.elimination.specs.Window.{place, Fits};
 ghost use Rattle.starts.specs.Marks.{markAt, marked};
-ghost use Rattle.starts.specs.MarkSteps.{Written, Dropped, Stepped, Owned, Updated};
+ghost use Rattle.starts.specs.MarkSteps.{Written, Dropped, Noted, Stepped, Followed, Owned, Decided, Reached, Updated, OneKnown, Tallied};
 ghost use Rattle.starts.specs.Contracts.{Begun, Added, Moved, Passed};
 use elimination::Shape;
 
@@ -38,6 +39,34 @@ pub fn symbol_at(shape: Shape, r: usize) -> usize
         × (at + shape .size ≤ place (shape .width) (shape .size) (shape .width)) ⌝ }
 {
     64 + r * (shape.width + shape.size + 4) + shape.width
+}
+
+// One if the i-th position is one of the window and known, else zero.
+fn one_known(mem: &[u8], shape: Shape, i: usize) -> usize
+    requires { ⌜ Fits (shape .width) (shape .size) (now mem) × (shape .base < shape .width) ⌝ }
+    ensures { λ r. ⌜ OneKnown (shape .width) (shape .size) (shape .base) i r (now (mem .entry)) ⌝ }
+{
+    if shape.width <= i {
+        return 0;
+    }
+    let r = row_of(shape, i);
+    if elimination::place::is_known(mem, shape, r) {
+        1
+    } else {
+        0
+    }
+}
+
+// How many of the n positions from `first` on are known.
+pub fn known_among(mem: &[u8], shape: Shape, first: usize, n: usize) -> usize
+    requires { ⌜ Fits (shape .width) (shape .size) (now mem) × (shape .base < shape .width) × (first + n ≤ 100000) ⌝ }
+    ensures { λ r. ⌜ Tallied (shape .width) (shape .size) (shape .base) first n r (now (mem .entry)) ⌝ }
+{
+    let mut count: usize = 0;
+    for i in 0..n {
+        count += one_known(mem, shape, first + i);
+    }
+    count
 }
 
 // Whether the i-th position of the window, or the one just past it, is marked.
@@ -104,23 +133,52 @@ pub fn move_on(mem: &mut [u8], shape: Shape, rise: usize)
     write(mem, shape, 0, past);
 }
 
-// The turn of the i-th position in the pass: if it is marked and known, it marks the position where the ADU that it begins ends.
-fn step(mem: &mut [u8], shape: Shape, i: usize)
-    requires { ⌜ Fits (shape .width) (shape .size) (now mem) × (shape .base < shape .width) × (i < shape .width) ⌝ }
-    ensures { λ _. ⌜ Stepped (shape .width) (shape .size) (shape .base) i (now (mem .entry)) (now (mem .exit)) ⌝ }
+// Whether an ADU ends past the window is noted.
+fn note(mem: &mut [u8], v: u8)
+    requires { ⌜ 64 ≤ length (now mem) ⌝ }
+    ensures { λ _. ⌜ Noted v (now (mem .entry)) (now (mem .exit)) ⌝ }
 {
-    if !is_marked(mem, shape, i) {
-        return;
-    }
+    mem[11] = v;
+}
+
+// The turn of the i-th position in the pass: if it is marked and known, it marks the position where the ADU that it begins ends. Gives that
+// position if it was not marked before, else the width.
+fn step(mem: &mut [u8], shape: Shape, i: usize) -> usize
+    requires { ⌜ Fits (shape .width) (shape .size) (now mem) × (shape .base < shape .width) × (i < shape .width) ⌝ }
+    ensures { λ r. ⌜ Stepped (shape .width) (shape .size) (shape .base) i r (now (mem .entry)) (now (mem .exit)) ⌝ }
+{
     let w = shape.width;
+    if !is_marked(mem, shape, i) {
+        return w;
+    }
     let r = row_of(shape, i);
     if !elimination::place::is_known(mem, shape, r) {
-        return;
+        return w;
     }
     let at = symbol_at(shape, r);
     let n = wire::symbol_count(shape.size, memory::load_u16(mem, at + 1) as usize);
-    if n <= w - i {
-        set(mem, shape, i + n);
+    if w < n {
+        return w;
+    }
+    if w - i < n {
+        note(mem, 1);
+        return w;
+    }
+    if is_marked(mem, shape, i + n) {
+        return w;
+    }
+    set(mem, shape, i + n);
+    i + n
+}
+
+// The turns of all positions of the window, rising.
+fn step_all(mem: &mut [u8], shape: Shape)
+    requires { ⌜ Fits (shape .width) (shape .size) (now mem) × (shape .base < shape .width) ⌝ }
+    ensures { λ _. ⌜ Passed (shape .width) (shape .size) (shape .base) (now (mem .entry)) (now (mem .exit)) ⌝ }
+{
+    let w = shape.width;
+    for i in 0..w {
+        step(mem, shape, i);
     }
 }
 
@@ -129,9 +187,29 @@ pub fn pass(mem: &mut [u8], shape: Shape)
     requires { ⌜ Fits (shape .width) (shape .size) (now mem) × (shape .base < shape .width) ⌝ }
     ensures { λ _. ⌜ Passed (shape .width) (shape .size) (shape .base) (now (mem .entry)) (now (mem .exit)) ⌝ }
 {
+    note(mem, 0);
+    step_all(mem, shape);
+}
+
+// The turns of the position `from`, and of the one that it marks, and so on.
+fn walk(mem: &mut [u8], shape: Shape, from: usize)
+    requires { ⌜ Fits (shape .width) (shape .size) (now mem) × (shape .base < shape .width) × (from ≤ shape .width) ⌝ }
+    ensures { λ _. ⌜ Followed (shape .width) (shape .size) (shape .base) (λ k. k ≡ from) (now (mem .entry)) (now (mem .exit)) ⌝ }
+{
     let w = shape.width;
-    for i in 0..w {
-        step(mem, shape, i);
+    let mut i = from;
+    while i < w {
+        i = step(mem, shape, i);
+    }
+}
+
+// Walks from each of the n positions from `first` on.
+fn walk_all(mem: &mut [u8], shape: Shape, first: usize, n: usize)
+    requires { ⌜ Fits (shape .width) (shape .size) (now mem) × (shape .base < shape .width) × (first + n ≤ shape .width + 1) ⌝ }
+    ensures { λ _. ⌜ Followed (shape .width) (shape .size) (shape .base) (λ k. (first ≤ k) × (k < first + n)) (now (mem .entry)) (now (mem .exit)) ⌝ }
+{
+    for i in 0..n {
+        walk(mem, shape, first + i);
     }
 }
 
@@ -147,12 +225,50 @@ fn set_own(mem: &mut [u8], shape: Shape, first: usize, named: usize)
     set(mem, shape, first);
 }
 
+// Whether only the pass will do: positions other than the packet's own have become known, or an ADU that ended past the window may end in it.
+fn must_pass(mem: &[u8], rise: usize, others: bool) -> bool
+    requires { ⌜ 64 ≤ length (now mem) ⌝ }
+    ensures { λ r. ⌜ Decided rise others (now (mem .entry)) r ⌝ }
+{
+    if others {
+        return true;
+    }
+    if rise == 0 {
+        return false;
+    }
+    0 < mem[11]
+}
+
+// What the marks reach is marked, after a packet with `named` symbols of its own from the position `first` on.
+fn reach(mem: &mut [u8], shape: Shape, rise: usize, first: usize, named: usize, others: bool)
+    requires { ⌜ Fits (shape .width) (shape .size) (now mem) × (shape .base < shape .width) × (first + named ≤ shape .width) ⌝ }
+    ensures { λ _. ⌜ Reached (shape .width) (shape .size) (shape .base) rise first named others (now (mem .entry)) (now (mem .exit)) ⌝ }
+{
+    if must_pass(mem, rise, others) {
+        pass(mem, shape);
+        return;
+    }
+    if named == 0 {
+        return;
+    }
+    walk_all(mem, shape, first, named + 1);
+}
+
 // A packet was accepted, with `named` symbols of its own from the position `first` on: the window has moved on by `rise` positions from the row
-// `oldest` on, and the packet's first position and the one after its last are marked, and what they and the marks before reach.
-pub fn update(mem: &mut [u8], shape: Shape, oldest: usize, rise: usize, first: usize, named: usize)
+// `oldest` on, and the packet's first position and the one after its last are marked, and what they and the marks before reach. `others` tells
+// whether positions other than the packet's own have become known.
+pub fn update(
+    mem: &mut [u8],
+    shape: Shape,
+    oldest: usize,
+    rise: usize,
+    first: usize,
+    named: usize,
+    others: bool,
+)
     requires { ⌜ Fits (shape .width) (shape .size) (now mem) × (oldest < shape .width) × (shape .base ≡ (oldest + rise) % shape .width)
         × (first + named ≤ shape .width) ⌝ }
-    ensures { λ _. ⌜ Updated (shape .width) (shape .size) oldest rise first named (now (mem .entry)) (now (mem .exit)) ⌝ }
+    ensures { λ _. ⌜ Updated (shape .width) (shape .size) oldest rise first named others (now (mem .entry)) (now (mem .exit)) ⌝ }
 {
     let before = Shape {
         width: shape.width,
@@ -161,5 +277,5 @@ pub fn update(mem: &mut [u8], shape: Shape, oldest: usize, rise: usize, first: u
     };
     move_on(mem, before, rise);
     set_own(mem, shape, first, named);
-    pass(mem, shape);
+    reach(mem, shape, rise, first, named, others);
 }

@@ -1,59 +1,35 @@
 -- `starts::marks::pass` meets its contract.
-use borrow.Author.Needs.{needs}
 use native.Mathlib.Omega.{arith}
-use Prim.Native.Nat.{_≤_, _-_}
-use Rattle.starts.proofs.Only.{only-fits}
-use Rattle.starts.proofs.Passing.{Passing, passing-none, passing-more, passed}
+use Rattle.starts.proofs.Only.{starts-fits}
+use Rattle.starts.proofs.Passing.{noted-only, passed-all}
+use borrow.Author.Needs.{needs}
 use Rattle.starts.proofs.marks.pass.Statement.{statement}
 use Rattle.starts.proofs.marks.pass.Tie as tie
 
-abbrev Inv-loop : tie.InvT-loop
-Inv-loop mem₀ shape w i₀ mem i = (i ≤ w) × Passing (shape .width) (shape .size) (shape .base) i mem₀ mem
+-- src/marks.rt:162:5
+note-requires : tie.Need-note-requires
+note-requires c κs =
+    let p2 = c .before .before in
+    omega (arith, p2 .pre .0 .room)
 
-abbrev μ-loop : tie.MeasureT-loop
-μ-loop mem₀ shape w i₀ mem i = w - i
+-- src/marks.rt:163:5
+step-all-requires : tie.Need-step-all-requires
+step-all-requires c κs =
+    let p3 = c .before .before .before in
+    let p6 = p3 .before .before .before in
+    (starts-fits (p6 .pre .0) (noted-only (p3 .note .ensures)), p6 .pre .1)
 
--- src/marks.rt:133:5
-loop-holds : tie.Need-loop-holds Inv-loop μ-loop
-loop-holds c = (search needs, passing-none _ _ _ _)
+-- src/marks.rt:158:1
+same-length : tie.Need-same-length
+same-length c = search needs
 
--- src/marks.rt:134:9
-step-requires : tie.Need-step-requires Inv-loop μ-loop
-step-requires c κs = (only-fits (c .before .before .before .before .pre .0) (c .before .before .loop .inv .1 .only), omega arith, omega arith)
-
--- src/marks.rt:133:9
-add-i : tie.Need-add-i Inv-loop μ-loop
-add-i c = search needs
-
--- src/marks.rt:133:5
-loop-less : tie.Need-loop-less Inv-loop μ-loop
-loop-less c = search needs
-
--- src/marks.rt:133:5
-loop-again : tie.Need-loop-again Inv-loop μ-loop
-loop-again c =
-    let s = c .before .before .before .before .before .before .before in
-    let turn = c .before .before .before .before .before .loop in
-    (search needs, passing-more _ _ _ (turn .i) _ (turn .mem) _ (s .pre .0 .some-width) (turn .inv .1) (c .before .before .step .ensures))
-
--- src/marks.rt:128:1
-same-length : tie.Need-same-length Inv-loop μ-loop
-same-length c = c .before .loop .inv .1 .only .size
-
--- src/marks.rt:128:1
-returns : tie.Need-returns Inv-loop μ-loop
-returns c = passed _ _ _ _ _ _ (omega arith) (c .before .loop .inv .1)
+-- src/marks.rt:158:1
+returns : tie.Need-returns
+returns c =
+    let p2 = c .before .before in
+    let p6 = p2 .before .before .before .before in
+    let p9 = p6 .before .before .before in
+    passed-all _ _ _ _ _ _ (p9 .pre .0 .some-width) (p6 .note .ensures) (p2 .step-all .ensures)
 
 pub pass-spec : {M : Type 1} → statement M
-pass-spec =
-    tie.close
-    (tie.spec
-    Inv-loop
-    μ-loop
-    loop-holds
-    step-requires
-    add-i
-    loop-less
-    loop-again
-    same-length
-    returns)
+pass-spec = tie.close (tie.spec note-requires step-all-requires same-length returns)
