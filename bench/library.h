@@ -17,7 +17,7 @@
   F(size_t, receive_repair, (uint8_t *, size_t, uint8_t *, size_t, const uint8_t *, size_t))                   \
   F(size_t, symbol, (const uint8_t *, size_t, uint32_t))                                                       \
   F(size_t, adu, (const uint8_t *, size_t, uint32_t, uint8_t *, size_t))                                       \
-  F(void, pass, (uint8_t *, size_t, size_t, size_t, size_t))
+  F(void, marks, (uint8_t *, size_t, size_t, size_t, size_t))
 
 #define MEMBER(result, name, parameters) result(*name) parameters;
 #define PROVED(result, name, parameters) result bench_##name parameters;

@@ -1,5 +1,5 @@
 // The receiver's calls: a source packet that is new or known already, a repair packet over known symbols, the repair packets that recover what a
-// burst took, and handing out an ADU of one symbol; and the marks' pass, a part of each packet call.
+// burst took, and handing out an ADU of one symbol; and the work on marks in a new source packet.
 #include "library.h"
 #include "table.h"
 #define PACKETS 64
@@ -56,9 +56,11 @@ static void run_adu(void *of) {
   answer(r, r->library->adu(r->memory, r->memory_size, r->esi - r->slot, r->adu, n), n);
   r->slot = r->slot + 1 == r->setting.width ? 0 : r->slot + 1;
 }
-static void run_pass(void *of) {
+// The window's newest position is taken for one that a packet has just brought: the window began a row before.
+static void run_marks(void *of) {
   struct receiver *r = of;
-  r->library->pass(r->memory, r->memory_size, r->setting.size, r->setting.width, r->memory[8] * 256 + r->memory[9]);
+  size_t w = r->setting.width, row = r->memory[8] * 256 + r->memory[9];
+  r->library->marks(r->memory, r->memory_size, r->setting.size, w, row ? row - 1 : w - 1);
 }
 static void run_burst(void *of) {
   struct receiver *r = of;
@@ -124,7 +126,7 @@ static void fill_new(struct table *t, struct setting s) { fill(t, s, run_new, ru
 static void fill_repeated(struct table *t, struct setting s) { fill(t, s, run_repeated, run_copy); }
 static void fill_known(struct table *t, struct setting s) { fill(t, s, run_known, run_copy); }
 static void fill_adu(struct table *t, struct setting s) { fill(t, s, run_adu, run_adu_copy); }
-static void fill_pass(struct table *t, struct setting s) { fill(t, s, run_pass, run_new); }
+static void fill_marks(struct table *t, struct setting s) { fill(t, s, run_marks, run_new); }
 
 // How many of the repair packets it takes to recover what was lost.
 static size_t needed(struct receiver *r) {
@@ -156,9 +158,9 @@ int main(void) {
   static struct table news = {"New source packet of one symbol", NAMES}, repeated = {"Repeated source packet of one symbol", NAMES},
     known = {"Repair packet of one symbol, DT 15, all symbols of the window known", NAMES}, burst = {"Recovery after a burst", NAMES},
     adu = {"Handing out an ADU of one symbol", NAMES},
-    pass = {"The marks' pass, a part of each packet call, all positions marked and known", {"", "plain Rust", "the whole call for a new source packet"}};
+    marks = {"The work on marks in a new source packet of one symbol, all positions marked and known", {"", "plain Rust", "the whole call for a new source packet"}};
   make(&news, fill_new);
-  make(&pass, fill_pass);
+  make(&marks, fill_marks);
   make(&repeated, fill_repeated);
   make(&known, fill_known);
   make(&burst, fill_burst);

@@ -1,7 +1,9 @@
 // The row operations and the calls of sender and receiver under C names, for the drivers of bench/. A row operation whose lengths do not fit does nothing.
 ghost use mathlib.Core.Path.{_≡_};
+ghost use Prim.Native.Nat.{_<_};
 ghost use lib.ListN.{length};
 ghost use Rattle.rows.specs.Rows.{addScaled};
+ghost use Rattle.elimination.specs.Window.{Fits};
 use elimination::Shape;
 use field::Gf256;
 use field::tables;
@@ -173,9 +175,27 @@ pub extern "C" fn bench_adu(mem: &[u8], esi: u32, out: &mut [u8]) -> usize {
     }
 }
 
-// The marks' pass, which is a part of each packet call, through a receiver's window of that setting that begins in the row `base`.
+// The work on marks in the call for a new source packet of one symbol, at a receiver whose window began in the row `oldest`.
+fn mark_new(mem: &mut [u8], size: usize, width: usize, oldest: usize)
+    requires { ⌜ Fits width size (now mem) × (oldest < width) ⌝ }
+{
+    let before = Shape {
+        width,
+        size,
+        base: oldest,
+    };
+    let shape = Shape {
+        width,
+        size,
+        base: (oldest + 1) % width,
+    };
+    let had = starts::marks::known_among(mem, before, width, 1);
+    let has = starts::marks::known_among(mem, shape, width - 1, 1);
+    starts::marks::update(mem, shape, oldest, 1, width - 1, 1, has < had);
+}
+
 #[no_mangle]
-pub extern "C" fn bench_pass(mem: &mut [u8], size: usize, width: usize, base: usize) {
+pub extern "C" fn bench_marks(mem: &mut [u8], size: usize, width: usize, oldest: usize) {
     if size < 4 {
         return;
     }
@@ -185,11 +205,11 @@ pub extern "C" fn bench_pass(mem: &mut [u8], size: usize, width: usize, base: us
     if 255 < width {
         return;
     }
-    if width <= base {
+    if width <= oldest {
         return;
     }
     if mem.len() < 64 + width * (width + size + 4) {
         return;
     }
-    starts::marks::pass(mem, Shape { width, size, base });
+    mark_new(mem, size, width, oldest);
 }

@@ -1,10 +1,10 @@
--- `bench::bench_pass` meets its contract.
+-- `bench::bench_marks` meets its contract.
 use Prim.Native.Nat.{ℕ, _+_, _*_, _≤_}
 use native.Mathlib.Nat.{mul-le-mul}
 use native.Mathlib.Omega.{arith}
 use borrow.Author.Needs.{needs}
-use Rattle.bench.proofs.bench_pass.Statement.{statement}
-use Rattle.bench.proofs.bench_pass.Tie as tie
+use Rattle.bench.proofs.bench_marks.Statement.{statement}
+use Rattle.bench.proofs.bench_marks.Tie as tie
 
 -- The rows fit a usize.
 area : (w e : ℕ) → w ≤ 255 → e ≤ 1500 → w * (w + e + 4) ≤ 448545
@@ -41,8 +41,8 @@ add-if5-3 c =
 returns-5 : tie.Need-returns-5
 returns-5 c = search needs
 
-pass-requires : tie.Need-pass-requires
-pass-requires c κs = search needs
+mark-new-requires : tie.Need-mark-new-requires
+mark-new-requires c κs = search needs
 
 same-length : tie.Need-same-length
 same-length c = search needs
@@ -50,8 +50,8 @@ same-length c = search needs
 returns-6 : tie.Need-returns-6
 returns-6 c = search needs
 
-pub bench-pass-spec : {M : Type 1} → statement M
-bench-pass-spec =
+pub bench-marks-spec : {M : Type 1} → statement M
+bench-marks-spec =
     tie.close
     (tie.spec
     returns
@@ -63,6 +63,6 @@ bench-pass-spec =
     mul-if5
     add-if5-3
     returns-5
-    pass-requires
+    mark-new-requires
     same-length
     returns-6)
