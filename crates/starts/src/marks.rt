@@ -98,7 +98,7 @@ fn drop_first(mem: &mut [u8], shape: Shape, n: usize)
 }
 
 // The i-th position of the window, or the one just past it, is marked.
-pub fn set(mem: &mut [u8], shape: Shape, i: usize)
+fn set(mem: &mut [u8], shape: Shape, i: usize)
     requires { ⌜ Fits (shape .width) (shape .size) (now mem) × (shape .base < shape .width) × (i ≤ shape .width) ⌝ }
     ensures { λ _. ⌜ Added (shape .width) (shape .size) (shape .base) i (now (mem .entry)) (now (mem .exit)) ⌝ }
 {
@@ -115,7 +115,7 @@ pub fn begin(mem: &mut [u8], shape: Shape)
 }
 
 // The window moves on by `rise` positions: marks below its base are dropped, and the one just past it comes into a row.
-pub fn move_on(mem: &mut [u8], shape: Shape, rise: usize)
+fn move_on(mem: &mut [u8], shape: Shape, rise: usize)
     requires { ⌜ Fits (shape .width) (shape .size) (now mem) × (shape .base < shape .width) ⌝ }
     ensures { λ _. ⌜ Moved (shape .width) (shape .size) (shape .base) rise (now (mem .entry)) (now (mem .exit)) ⌝ }
 {
@@ -183,7 +183,7 @@ fn step_all(mem: &mut [u8], shape: Shape)
 }
 
 // A marked known position marks the one where the ADU that it begins ends, rising through the window.
-pub fn pass(mem: &mut [u8], shape: Shape)
+fn pass(mem: &mut [u8], shape: Shape)
     requires { ⌜ Fits (shape .width) (shape .size) (now mem) × (shape .base < shape .width) ⌝ }
     ensures { λ _. ⌜ Passed (shape .width) (shape .size) (shape .base) (now (mem .entry)) (now (mem .exit)) ⌝ }
 {
