@@ -20,7 +20,8 @@ use Rattle.decoder.specs.Receiver as decoder
 use Rattle.starts.specs.Adu.{View, needs}
 use Rattle.starts.specs.Starts.{Starts, zeroth, also, moved, pass, shown, seen}
 use Rattle.starts.proofs.Tests.{also-true, moved-true}
-use Rattle.starts.proofs.Chaining.{Chained, seed, next, pass-chained}
+use Rattle.starts.specs.Settled.{Reaches, seed, next}
+use Rattle.starts.proofs.Chaining.{pass-reaches}
 use Rattle.starts.proofs.Giving.{known-past}
 use Rattle.starts.proofs.Handing.{Shows}
 use Rattle.receiver.specs.Symbol.{Symbol, bytesOf, symbolOf}
@@ -153,7 +154,7 @@ module _ (s : Setting) where
     spanned j h = record { low = omega (arith, eb′); high = omega (arith, eb′) }
 
     -- What the marks reach is what the starts reach.
-    reaches : {j : ℕ} → Chained E see width N j → j ≤ width → Start s (q ∷ qs) (b′ + j)
+    reaches : {j : ℕ} → Reaches E width see N j → j ≤ width → Start s (q ∷ qs) (b′ + j)
     reaches {j} (seed h) l = already (made q (omega (arith, eb, eb′)) j h) (spanned j l)
     reaches (next {i} {v} c k h) l =
         let (f, a) = sees .filling in
@@ -163,7 +164,7 @@ module _ (s : Setting) where
         subst (Start s (q ∷ qs)) on
         (later (reaches c (omega arith)) (omega (arith, eb′)) n f a (subst (Spanned s (baseAfter s (q ∷ qs))) (sym on) (spanned (i + needs E v) l)))
 
-    reached : {p : ℕ} → Reached s (q ∷ qs) A p → Chained E see width N (p - b′)
+    reached : {p : ℕ} → Reached s (q ∷ qs) A p → Reaches E width see N (p - b′)
     reached {p} (already a sp) = seed (marked q p (subst (λ x. Spanned s x p) (sym eb′) sp) a)
     reached (later {p} r l k f a sp) =
         let sr = reached-spanned (q ∷ qs) A r in
@@ -171,14 +172,14 @@ module _ (s : Setting) where
         let h : see (p - b′) ≡ some (bytesOf E (f p)) =
         sees .shown (p - b′) (subst (Known E (q ∷ qs)) (sym e) k) f a ∙ ap (λ x. some (bytesOf E (f x))) e in
         let on : p - b′ + needs E (bytesOf E (f p)) ≡ p + needs E (bytesOf E (f p)) - b′ = omega (arith, eb′, sr .low) in
-        subst (Chained E see width N) on (next (reached r) (omega (arith, eb′, sr .low)) h)
+        subst (Reaches E width see N) on (next (reached r) (omega (arith, eb′, sr .low)) h)
 
     pub starts-after : AreStarts (q ∷ qs) b′ (pass E see width N)
     starts-after i l =
-        let c = pass-chained E see some-bytes width N i in
+        let c = pass-reaches E see some-bytes width N i in
         let e : b′ + i - b′ ≡ i = omega arith in (
           (λ h. reaches (c .0 h) l),
-          (λ r. c .1 (subst (Chained E see width N) e (reached r))),
+          (λ r. c .1 (subst (Reaches E width see N) e (reached r))),
         )
 
 -- ---- The model

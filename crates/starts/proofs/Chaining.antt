@@ -11,6 +11,7 @@ use Rattle.wire.specs.Packets.{symbolCount}
 use Rattle.wire.proofs.Adui.{room}
 use Rattle.starts.specs.Adu.{View, lengthIn, needs}
 use Rattle.starts.specs.Starts.{Starts, onward, pass}
+use Rattle.starts.specs.Settled.{Reaches, seed, next}
 use Rattle.starts.proofs.Tests.{also-true}
 
 -- An ADUI takes a symbol at least.
@@ -25,10 +26,6 @@ pub needs-some : (E : ℕ) (x : List ℕ) → 0 < E → 0 < needs E x
 needs-some E x h = symbols-some E (lengthIn x) h
 
 module _ (E : ℕ) (see : View) where
-  pub data Chained (w : ℕ) (M : Starts) : ℕ → Type 0 where
-    seed : {j : ℕ} → M j ≡ true → Chained w M j
-    next : {i : ℕ} {v : List ℕ} → Chained w M i → i < w → see i ≡ some v → Chained w M (i + needs E v)
-
   -- The turn of position n: what was marked stays, the position that its L names is marked, and no other.
   module _ (n : ℕ) (M : Starts) where
     pub stays : (b : Bool) (o : Option (List ℕ)) (j : ℕ) → M j ≡ true → onward E b o n M j ≡ true
@@ -51,20 +48,20 @@ module _ (E : ℕ) (see : View) where
     no-other true none j h = inl h
     no-other false o j h = inl h
 
-  chained-on : (w : ℕ) (M : Starts) {j : ℕ} → Chained w M j → Chained (suc w) M j
-  chained-on w M (seed h) = seed h
-  chained-on w M (next c l h) = next (chained-on w M c) (omega arith) h
+  reaches-on : (w : ℕ) (M : Starts) {j : ℕ} → Reaches E w see M j → Reaches E (suc w) see M j
+  reaches-on w M (seed h) = seed h
+  reaches-on w M (next c l h) = next (reaches-on w M c) (omega arith) h
 
-  to-chained : (w : ℕ) (M : Starts) (j : ℕ) → pass E see w M j ≡ true → Chained w M j
+  to-reaches : (w : ℕ) (M : Starts) (j : ℕ) → pass E see w M j ≡ true → Reaches E w see M j
   unfolding pass
-  to-chained zero M j h = seed h
-  to-chained (suc w) M j h =
-      go (no-other w (pass E see w M) (pass E see w M w) (see w) j h) (to-chained w M j) (to-chained w M w)
+  to-reaches zero M j h = seed h
+  to-reaches (suc w) M j h =
+      go (no-other w (pass E see w M) (pass E see w M w) (see w) j h) (to-reaches w M j) (to-reaches w M w)
     where
       go : (pass E see w M j ≡ true) ⊎ ((v : List ℕ) × (pass E see w M w ≡ true) × (see w ≡ some v) × (j ≡ w + needs E v))
-          → (pass E see w M j ≡ true → Chained w M j) → (pass E see w M w ≡ true → Chained w M w) → Chained (suc w) M j
-      go (inl k) f g = chained-on w M (f k)
-      go (inr (v, k, e, q)) f g = subst (Chained (suc w) M) (sym q) (next (chained-on w M (g k)) (omega arith) e)
+          → (pass E see w M j ≡ true → Reaches E w see M j) → (pass E see w M w ≡ true → Reaches E w see M w) → Reaches E (suc w) see M j
+      go (inl k) f g = reaches-on w M (f k)
+      go (inr (v, k, e, q)) f g = subst (Reaches E (suc w) see M) (sym q) (next (reaches-on w M (g k)) (omega arith) e)
 
   -- What is marked stays marked, and at its own turn a position is marked as at the end.
   pass-grows : (n d : ℕ) (M : Starts) (j : ℕ) → pass E see n M j ≡ true → pass E see (n + d) M j ≡ true
@@ -86,15 +83,15 @@ module _ (E : ℕ) (see : View) where
         go (inl k) f = f k
         go (inr (v, k, e, q)) f = absurd (omega (arith, q, needs-some E v some-bytes))
 
-    of-chained : (w : ℕ) (M : Starts) {j : ℕ} → Chained w M j → pass E see w M j ≡ true
+    of-reaches : (w : ℕ) (M : Starts) {j : ℕ} → Reaches E w see M j → pass E see w M j ≡ true
     unfolding pass
-    of-chained w M (seed {j} h) = subst (λ n. pass E see n M j ≡ true) (zero-add w) (pass-grows 0 w M j h)
-    of-chained w M (next {i} {v} c l h) =
+    of-reaches w M (seed {j} h) = subst (λ n. pass E see n M j ≡ true) (zero-add w) (pass-grows 0 w M j h)
+    of-reaches w M (next {i} {v} c l h) =
         let (d, e) : (d : ℕ) × (suc i + d ≡ w) = (w - suc i, omega arith) in
         let f : i + suc d ≡ w = omega arith in
-        let k = pass-settles i (suc d) M (subst (λ n. pass E see n M i ≡ true) (sym f) (of-chained w M c)) in
+        let k = pass-settles i (suc d) M (subst (λ n. pass E see n M i ≡ true) (sym f) (of-reaches w M c)) in
         subst (λ n. pass E see n M (i + needs E v) ≡ true) e
         (pass-grows (suc i) d M (i + needs E v) (marks i (pass E see i M) (pass E see i M i) (see i) v k h))
 
-    pub pass-chained : (w : ℕ) (M : Starts) (j : ℕ) → (pass E see w M j ≡ true) ↔ Chained w M j
-    pass-chained w M j = (to-chained w M j, of-chained w M)
+    pub pass-reaches : (w : ℕ) (M : Starts) (j : ℕ) → (pass E see w M j ≡ true) ↔ Reaches E w see M j
+    pass-reaches w M j = (to-reaches w M j, of-reaches w M)

@@ -16,8 +16,7 @@ use Rattle.starts.specs.Settled.{Open, Settled, Old, Reaches, seed, next
 use Rattle.starts.specs.MarkSteps.{owning}
 use Rattle.starts.proofs.Tests.{also-true, moved-true}
 use Rattle.starts.proofs.Agreeing.{Agree}
-use Rattle.starts.proofs.Chaining as chaining
-use Rattle.starts.proofs.Chaining.{Chained, pass-chained}
+use Rattle.starts.proofs.Chaining.{pass-reaches}
 
 module _ (E w : ℕ) (see : View) where
   -- What is open is so by the marks up to the width alone.
@@ -95,10 +94,6 @@ module _ (E w : ℕ) (see : View) where
 
   -- ---- what marks reach
 
-  reaches-chained : (M : Starts) {j : ℕ} → Reaches E w see M j → Chained E see w M j
-  reaches-chained M (seed h) = chaining.seed h
-  reaches-chained M (next c k h) = chaining.next (reaches-chained M c) k h
-
   pub reaches-agree : (M N : Starts) → Agree w M N → {j : ℕ} → j ≤ w → Reaches E w see M j → Reaches E w see N j
   reaches-agree M N a l (seed {j} h) = seed (sym (a j l) ∙ h)
   reaches-agree M N a l (next c k h) = next (reaches-agree M N a (omega arith) c) k h
@@ -106,9 +101,9 @@ module _ (E w : ℕ) (see : View) where
   -- Marks that keep those of M, are reached from them and are settled are those of the pass.
   module _ (some-bytes : 0 < E) (f : ℕ) (M N : Starts) (kept : (i : ℕ) → i ≤ w → M i ≡ true → N i ≡ true)
       (reached : (i : ℕ) → i ≤ w → N i ≡ true → Reaches E w see M i) (settled : Settled E w see f N) where
-    chained-marked : {j : ℕ} → Chained E see w M j → j ≤ w → N j ≡ true
-    chained-marked (chaining.seed {j} h) l = kept j l h
-    chained-marked (chaining.next {i} {v} c k h) l = go (N (i + needs E v)) refl (chained-marked c (omega arith))
+    reaches-marked : {j : ℕ} → Reaches E w see M j → j ≤ w → N j ≡ true
+    reaches-marked (seed {j} h) l = kept j l h
+    reaches-marked (next {i} {v} c k h) l = go (N (i + needs E v)) refl (reaches-marked c (omega arith))
       where
         go : (t : Bool) → N (i + needs E v) ≡ t → N i ≡ true → N (i + needs E v) ≡ true
         go true e m = e
@@ -130,9 +125,9 @@ module _ (E w : ℕ) (see : View) where
 
     pub is-pass : Agree w N (pass E see w M)
     is-pass j l =
-        let c = pass-chained E see some-bytes w M j in
+        let c = pass-reaches E see some-bytes w M j in
         same-bool (N j) (pass E see w M j)
-        (λ h. c .1 (reaches-chained M (reached j l h))) (λ h. chained-marked (c .0 h) l)
+        (λ h. c .1 (reached j l h)) (λ h. reaches-marked (c .0 h) l)
 
   -- ---- settled marks
 
@@ -145,8 +140,8 @@ module _ (E w : ℕ) (see : View) where
     where
       here : pass E see w M (k + needs E (o .bytes)) ≡ true
       here =
-          let c = pass-chained E see pos w M k .0 (o .mark) in
-          pass-chained E see pos w M (k + needs E (o .bytes)) .1 (chaining.next c (o .inside) (o .sees))
+          let c = pass-reaches E see pos w M k .0 (o .mark) in
+          pass-reaches E see pos w M (k + needs E (o .bytes)) .1 (next c (o .inside) (o .sees))
 
       split : Dec (w < k + needs E (o .bytes)) → ⊥
       split (yes l) = is-noted (o .unnoted l)
