@@ -11,8 +11,8 @@
  * call left them and as long as when they were opened. Bytes past the size that was asked are never changed. The receiver's packet calls borrow
  * working memory too, whose contents are free before and after a call: many receivers can share it.
  *
- * Calls. No function allocates, keeps a pointer or has state of its own: a call reads and writes what it is lent and nothing else, but for less than
- * 8 KiB of stack. So calls that are lent different memory can run in different threads at once, as can calls that take the same memory as const.
+ * Calls. No function allocates, keeps a pointer or has state of its own: a call reads and writes what it is lent and nothing else but its stack.
+ * So calls that are lent different memory can run in different threads at once, as can calls that take the same memory as const.
  *
  * What is asked of the caller. A pointer and the length after it are a slice: that many bytes, all of which the process can read and, where the
  * pointer is not to const, write. The pointer is not NULL, even where the length is 0; then it is not followed. Where a slice is written, it overlaps no
