@@ -1,5 +1,5 @@
 // The receiver's calls: a source packet that is new or known already, a repair packet over known symbols, the repair packets that recover what a
-// burst took, and handing out an ADU of one symbol; and the work on marks in a new source packet.
+// burst took, the repair packet that solves a whole window, and handing out an ADU of one symbol; and the work on marks in a new source packet.
 #include "library.h"
 #include "table.h"
 #define PACKETS 64
@@ -153,16 +153,50 @@ static void fill_burst(struct table *t, struct setting s) {
   add_ways(l, run_burst, run_copies, ready_burst, ends);
 }
 
+// A line on the longest call: no source packet came; repair packets of 16 symbols did, and the one is measured with which all are known.
+static size_t longest_size(struct setting s) { return 8 + 16 * s.size; }
+static size_t take_longest(struct receiver *r) {
+  return r->library->receive_repair(r->memory, r->memory_size, r->work, r->work_size, r->repair, longest_size(r->setting));
+}
+static void run_longest(void *of) {
+  struct receiver *r = of;
+  answer(r, take_longest(r), r->lost);
+}
+static struct receiver *unheard(const struct library *library, struct setting s) {
+  struct receiver *r = receiver_of(library, s, s.width, s.width, 15);
+  size_t sender_size = 32 + s.width * s.size, known = 0;
+  u8 *sender = room(sender_size), *adu = room(s.size);
+  expect("sender_open", proved.sender_open(sender, sender_size, s.scheme, s.size, s.width) == 0);
+  for (size_t k = 0; k < s.width; k++) {
+    for (size_t i = 0; i < adu_size(s); i++) adu[i] = i * i + 13 * k;
+    expect("add_adu", proved.add_adu(sender, sender_size, 1, adu, adu_size(s), r->source, s.size + 1) == s.size + 1);
+  }
+  for (size_t key = 0; known < s.width; key += 16) {
+    memcpy(r->before, r->memory, r->memory_size);
+    proved.make_repair(sender, sender_size, key, s.scheme == 9 ? 7 : 15, 16, r->repair, longest_size(s));
+    r->lost = take_longest(r), known += r->lost;
+    expect("receive_repair", r->lost <= s.width && key < 4096);
+  }
+  return r;
+}
+static void fill_longest(struct table *t, struct setting s) {
+  struct receiver *ends[3];
+  for (int k = 0; k < 3; k++) ends[k] = unheard(k ? &plain : &proved, s);
+  add_ways(add_line(t, s), run_longest, run_copies, ready_burst, ends);
+}
+
 #define NAMES {"", "plain Rust", "memcpy"}
 int main(void) {
   static struct table news = {"New source packet of one symbol", NAMES}, repeated = {"Repeated source packet of one symbol", NAMES},
     known = {"Repair packet of one symbol, DT 15, all symbols of the window known", NAMES}, burst = {"Recovery after a burst", NAMES},
     adu = {"Handing out an ADU of one symbol", NAMES},
+    longest = {"Longest call: a repair packet of 16 symbols with which all symbols of the window become known, none of them heard", NAMES},
     marks = {"The work on marks in a new source packet of one symbol, all positions marked and known", {"", "plain Rust", "the whole call for a new source packet"}};
   make(&news, fill_new);
   make(&marks, fill_marks);
   make(&repeated, fill_repeated);
   make(&known, fill_known);
   make(&burst, fill_burst);
+  make(&longest, fill_longest);
   make(&adu, fill_adu);
 }

@@ -30,7 +30,7 @@
 extern "C" {
 #endif
 
-/* Why a call says no. */
+/* Why a call says no. A refusal is minus its number: compare -answer with these (minus a variable of this type is no int64_t). */
 enum rlc_refusal {
     RLC_VALUES = 1,         /* scheme, E or width outside its values */
     RLC_SHORT = 2,          /* memory for opening, working memory or output too short */
@@ -115,6 +115,9 @@ int64_t rlc_symbol_place(const uint8_t *memory, size_t memory_length, uint32_t e
 /*
  * Hands out the ADU whose first symbol has an ESI, where all its symbols are known: writes it at the front of out. Answers flow x 65,536 + length of the
  * ADU, which has 0 to 65,535 bytes.
+ * Which ESI to ask for: the stream's first ADU is at ESI 0, and a source packet's last 4 bytes are the ESI of its ADU; the ADU after one of L bytes at an
+ * ESI is at ESI + (3 + L + E - 1) / E, modulo 2^32. RLC_BEHIND says that it has left the window for good; RLC_UNKNOWN and RLC_NO_START may be answered
+ * otherwise after a later packet.
  * Refusals: RLC_UNOPENED, RLC_BEHIND, RLC_UNKNOWN (past the window), RLC_NO_START, RLC_UNKNOWN (first symbol), RLC_PADDING (more symbols than the width),
  * RLC_UNKNOWN (another symbol), RLC_PADDING (padding not zero), RLC_SHORT (out).
  */
