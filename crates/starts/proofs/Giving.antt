@@ -237,6 +237,7 @@ module _ (w E base d : ℕ) (m out : List ℕ) where
         record {
           opened = λ y. absurd (omega (arith, ap reason y));
           leaves = (
+            k .read .short,
             h,
             ap length q ∙ length-splice 0 (part 3 L x) out (omega arith),
             ap (drop L) q ∙ past-splice L 0 (part 3 L x) out (omega arith) (omega arith),
