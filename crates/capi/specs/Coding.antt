@@ -2,14 +2,11 @@
 use mathlib.Core.Path.{_≡_}
 use mathlib.Core.Logic.{_≢_}
 use mathlib.Core.Option.{Option, none, some}
-use Prim.Native.Nat.{ℕ, _+_, _*_, _≤_, min}
+use Prim.Native.Nat.{ℕ, _≤_, min}
 use lib.IntN.{ℤ, pos, negℤ}
 use Rattle.wire.specs.declared.Setting.{Setting}
-use Rattle.wire.specs.Numbers.{numberOf}
 use Rattle.sender.specs.declared.Answer.{Answer}
 use Rattle.sender.specs.Promises as sender
-use Rattle.starts.specs.declared.Handed.{Handed}
-use Rattle.starts.specs.declared.Handed.the-variants.{Adu, Withheld}
 use Rattle.receiver.specs.History.{Said, value, refusal}
 
 -- The largest number of 64 bits with a sign.
@@ -34,11 +31,6 @@ ofSender (sender.refusal n) = refusal n
 
 abbrev pub senderSaid : Answer → Said
 senderSaid a = ofSender (sender.said a)
-
--- What an answer of the ADU call says: flow and length as one number, flow × 65,536 + length.
-abbrev pub handedSaid : Handed → Said
-handedSaid (Adu flow L) = value (flow * 65536 + L)
-handedSaid (Withheld r) = refusal (numberOf r)
 
 -- The number r codes what an answer says, and the promise holds of that answer.
 pub record Codes {A : Type 0} (said : A → Said) (Promise : A → Type 0) (r : ℤ) : Type 0 where
