@@ -2,12 +2,14 @@
 use mathlib.Core.Path.{_≡_}
 use mathlib.Core.Logic.{_≢_}
 use mathlib.Core.Option.{Option, none, some}
-use Prim.Native.Nat.{ℕ, _≤_, min}
+use Prim.Native.Nat.{ℕ, _≤_, _<_, min}
 use lib.IntN.{ℤ, pos, negℤ}
 use Rattle.wire.specs.declared.Setting.{Setting}
 use Rattle.sender.specs.declared.Answer.{Answer}
 use Rattle.sender.specs.Promises as sender
+use Rattle.starts.specs.declared.Handed.the-variants.{Adu}
 use Rattle.receiver.specs.History.{Said, value, refusal}
+use Rattle.receiver.specs.Promises.{handedSaid}
 
 -- The largest number of 64 bits with a sign.
 abbrev pub largest : ℕ
@@ -19,10 +21,13 @@ coded (value n) = pos (min n largest)
 coded (refusal n) = negℤ (pos n)
 
 -- A code is read back: no refusal has the code of a value, and neither two refusals nor two values up to the largest number share one.
+-- From the code of an ADU its flow, a byte, and its length, a number of two bytes, are read.
 pub record Readable : Type 0 where
   pub apart : (n k : ℕ) → 1 ≤ k → coded (value n) ≢ coded (refusal k)
   pub refusals : (n k : ℕ) → coded (refusal n) ≡ coded (refusal k) → n ≡ k
   pub values : (n k : ℕ) → n ≤ largest → k ≤ largest → coded (value n) ≡ coded (value k) → n ≡ k
+  pub adus : (flow L flow′ L′ : ℕ) → flow < 256 → flow′ < 256 → L ≤ 65535 → L′ ≤ 65535
+      → coded (handedSaid (Adu flow L)) ≡ coded (handedSaid (Adu flow′ L′)) → (flow ≡ flow′) × (L ≡ L′)
 
 -- What an answer of the sender says, in the receiver's words.
 abbrev pub ofSender : sender.Said → Said
