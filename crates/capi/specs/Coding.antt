@@ -2,15 +2,14 @@
 use mathlib.Core.Path.{_≡_}
 use mathlib.Core.Logic.{_≢_}
 use mathlib.Core.Option.{Option, none, some}
-use Prim.Native.Nat.{ℕ, _+_, _*_, _≤_, min}
+use Prim.Native.Nat.{ℕ, _≤_, _<_, min}
 use lib.IntN.{ℤ, pos, negℤ}
 use Rattle.wire.specs.declared.Setting.{Setting}
-use Rattle.wire.specs.Numbers.{numberOf}
 use Rattle.sender.specs.declared.Answer.{Answer}
 use Rattle.sender.specs.Promises as sender
-use Rattle.starts.specs.declared.Handed.{Handed}
-use Rattle.starts.specs.declared.Handed.the-variants.{Adu, Withheld}
+use Rattle.starts.specs.declared.Handed.the-variants.{Adu}
 use Rattle.receiver.specs.History.{Said, value, refusal}
+use Rattle.receiver.specs.Promises.{handedSaid}
 
 -- The largest number of 64 bits with a sign.
 abbrev pub largest : ℕ
@@ -22,10 +21,13 @@ coded (value n) = pos (min n largest)
 coded (refusal n) = negℤ (pos n)
 
 -- A code is read back: no refusal has the code of a value, and neither two refusals nor two values up to the largest number share one.
+-- From the code of an ADU its flow, a byte, and its length, a number of two bytes, are read.
 pub record Readable : Type 0 where
   pub apart : (n k : ℕ) → 1 ≤ k → coded (value n) ≢ coded (refusal k)
   pub refusals : (n k : ℕ) → coded (refusal n) ≡ coded (refusal k) → n ≡ k
   pub values : (n k : ℕ) → n ≤ largest → k ≤ largest → coded (value n) ≡ coded (value k) → n ≡ k
+  pub adus : (flow L flow′ L′ : ℕ) → flow < 256 → flow′ < 256 → L ≤ 65535 → L′ ≤ 65535
+      → coded (handedSaid (Adu flow L)) ≡ coded (handedSaid (Adu flow′ L′)) → (flow ≡ flow′) × (L ≡ L′)
 
 -- What an answer of the sender says, in the receiver's words.
 abbrev pub ofSender : sender.Said → Said
@@ -34,11 +36,6 @@ ofSender (sender.refusal n) = refusal n
 
 abbrev pub senderSaid : Answer → Said
 senderSaid a = ofSender (sender.said a)
-
--- What an answer of the ADU call says: flow and length as one number, flow × 65,536 + length.
-abbrev pub handedSaid : Handed → Said
-handedSaid (Adu flow L) = value (flow * 65536 + L)
-handedSaid (Withheld r) = refusal (numberOf r)
 
 -- The number r codes what an answer says, and the promise holds of that answer.
 pub record Codes {A : Type 0} (said : A → Said) (Promise : A → Type 0) (r : ℤ) : Type 0 where

@@ -16,7 +16,7 @@ use Rattle.starts.specs.Adu.{lengthIn, needs}
 use Rattle.sender.specs.declared.Answer.the-variants.{Done, Refused}
 use Rattle.receiver.specs.Symbol.{bytesOf, symbolOf}
 use Rattle.receiver.specs.History.{Filling, symbolsAt, Located, Satisfied, All, Known, Reading, fails, located, readPacket}
-use Rattle.receiver.specs.History.{Log, fresh, baseOf, Said, value, refusal, IsValue, logged, Named, Reached, already, later, Start}
+use Rattle.receiver.specs.History.{Log, fresh, baseOf, Said, value, refusal, IsValue, logged, MarkedBy, Reached, already, later, Start}
 use Rattle.starts.proofs.Chaining.{symbols-some}
 use Rattle.receiver.specs.Promises.{said}
 use Rattle.receiver.proofs.Says.{symbol-bytes, getD-at}
@@ -175,7 +175,7 @@ module _ (t s : Setting) (l : List SenderCall) (k : Peers t s l) where
   -- A packet that the sender's symbols satisfy and that names boundaries only.
   record Keeps (q : Located) : Type 0 where
     satisfied : (f : Filling E) → Carries E 0 all f → Satisfied E q f
-    names : (p : ℕ) → Named s q p → Boundary E l p
+    names : (p : ℕ) → MarkedBy s q p → Boundary E l p
 
   -- Of a log whose packets are all so: they are satisfied, and every start is a boundary.
   record Kept (g : Log) : Type 0 where
@@ -184,18 +184,18 @@ module _ (t s : Setting) (l : List SenderCall) (k : Peers t s l) where
 
   -- A packet of the sender's near the base names boundaries only.
   sent-names : (x : Packet) (p : ℕ) → Sent scheme E l x p → (base : ℕ) → Near p base → (q : Located) → readPacket s base (callOf x) ≡ located q
-      → (i : ℕ) → Named s q i → Boundary E l i
+      → (i : ℕ) → MarkedBy s q i → Boundary E l i
   sent-names x p (sent-source {flow = flow} {adu = adu} b) base near q h i =
       let r = source-read s base flow _ q h in
       let esi-is = source-esi adu (p % 2 ^ 32) (mod-lt p (lit< tt)) in
       let here = found-again p base (near .ahead) (near .behind) (rw esi-is at (r .near)) in
-      subst (λ y. Named s y i → Boundary E l i) (r .says)
+      subst (λ y. MarkedBy s y i → Boundary E l i) (r .says)
       (rw (esi-is, source-adu adu (p % 2 ^ 32), here) (λ n. go n))
     where
       go : (i ≡ p) ⊎ (i ≡ p + length (sourceSymbols flow adu E)) → Boundary E l i
       go (inl e) = subst (Boundary E l) (sym e) (begun-boundary E l p flow adu b)
       go (inr e) = subst (Boundary E l) (sym (e ∙ ap (λ (n : ℕ). p + n) (symbols-count flow adu E))) (end-boundary E l p flow adu b)
-  sent-names x p (sent-repair w) base near q h i = subst (λ y. Named s y i → Boundary E l i) (repair-read s base _ q h .says) (λ n. absurd n)
+  sent-names x p (sent-repair w) base near q h i = subst (λ y. MarkedBy s y i → Boundary E l i) (repair-read s base _ q h .says) (λ n. absurd n)
 
   logged-kept : (g : Log) (r : Reading) (a : Said) → ((q : Located) → r ≡ located q → IsValue a → Keeps q) → Kept g → Kept (logged s g r a)
   logged-kept g (fails m) a h w = w
@@ -203,9 +203,9 @@ module _ (t s : Setting) (l : List SenderCall) (k : Peers t s l) where
   logged-kept g (located q) (value n) h w =
       let y = h q refl tt in
       let z : (f : Filling E) → Carries E 0 all f → All E (q ∷ g .accepted) f = λ f c. (y .satisfied f c, w .filled f c) in
-      record { filled = z; starts = reached (q ∷ g .accepted) z (λ x. Start s (g .accepted) x ⊎ Named s q x) go }
+      record { filled = z; starts = reached (q ∷ g .accepted) z (λ x. Start s (g .accepted) x ⊎ MarkedBy s q x) go }
     where
-      go : (x : ℕ) → Start s (g .accepted) x ⊎ Named s q x → Boundary E l x
+      go : (x : ℕ) → Start s (g .accepted) x ⊎ MarkedBy s q x → Boundary E l x
       go x (inl d) = w .starts x d
       go x (inr d) = h q refl tt .names x d
 

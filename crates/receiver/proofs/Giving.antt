@@ -18,11 +18,12 @@ use Rattle.starts.specs.Starts.{Starts, seen}
 use Rattle.starts.specs.Marks as marks
 use Rattle.starts.specs.Contracts.{HandedOut}
 use Rattle.receiver.specs.declared.Header.{Header}
-use Rattle.receiver.specs.History.{placeOf}
+use Rattle.receiver.specs.History.{placeOf, refusal}
 use Rattle.receiver.specs.Model.{State, aduAt}
 use Rattle.receiver.specs.Header.{headerIn}
-use Rattle.receiver.specs.Promises.{AduAnswered}
+use Rattle.receiver.specs.Promises.{handedSaid, AduAnswered}
 use Rattle.receiver.specs.Layout.{Marks, receiverLayout}
+use Rattle.receiver.proofs.Cases.{IsRefusal, numeral}
 use Rattle.receiver.proofs.Headers.{of-header}
 
 pub adu-unopened : (m out : List ℕ) (e : ℕ) → headerIn m ≡ none → AduAnswered receiverLayout m e out out (Withheld Unopened)
@@ -32,10 +33,10 @@ adu-unopened m out e h = record {
   hands = λ s t M k l. absurd (Option·none-ne-some _ (sym h ∙ k .header));
 }
 
--- The number of a refusal, 0 of an ADU.
-abbrev reason : Handed → ℕ
-reason (Adu flow L) = 0
-reason (Withheld x) = numberOf x
+-- An ADU, or a refusal with another number, does not say 3.
+not-three : (r : Handed) → ((x : Refusal) → r ≡ Withheld x → numberOf x ≢ 3) → handedSaid r ≢ refusal 3
+not-three (Adu flow L) f z = subst IsRefusal (sym z) tt
+not-three (Withheld x) f z = f x refl (ap numeral z)
 
 module _ (m out : List ℕ) (e : ℕ) (h : Header) (k : headerIn m ≡ some h) where
   open Setting (h .setting) using (width, size)
@@ -48,7 +49,7 @@ module _ (m out : List ℕ) (e : ℕ) (h : Header) (k : headerIn m ≡ some h) w
       → ((t : State (h .setting)) (M : Starts) → h .base .0 ≡ t .base % 2 ^ 32 → aduAt (h .setting) t M (length out) e ≡ withholds (numberOf x))
       → AduAnswered receiverLayout m e out out (Withheld x)
   refused x n f = record {
-    unopened = ((λ q. absurd (n (ap reason q))), (λ z. absurd (Option·none-ne-some h (sym z ∙ k))));
+    unopened = ((λ q. absurd (n (ap numeral q))), (λ z. absurd (Option·none-ne-some h (sym z ∙ k))));
     leaves = refl;
     hands = λ s t M g l.
         of-header m h k (λ s t. HandedAs (aduAt s t M (length out) e) out out (Withheld x))
@@ -72,7 +73,7 @@ module _ (m out : List ℕ) (e : ℕ) (h : Header) (k : headerIn m ≡ some h) w
 
     pub adu-inside : (out′ : List ℕ) (r : Handed) → HandedOut width size (h .row) x m out out′ r → AduAnswered receiverLayout m e out out′ r
     adu-inside out′ r g = record {
-      unopened = ((λ z. absurd (g .opened z)), (λ z. absurd (Option·none-ne-some h (sym z ∙ k))));
+      unopened = ((λ z. absurd (not-three r (g .opened) z)), (λ z. absurd (Option·none-ne-some h (sym z ∙ k))));
       leaves = g .leaves;
       hands = λ s t M v l.
           of-header m h k (λ s t. Marks m s t M → HandedAs (aduAt s t M (length out) e) out out′ r)

@@ -26,7 +26,7 @@ use Rattle.starts.proofs.Giving.{known-past}
 use Rattle.starts.proofs.Handing.{Shows}
 use Rattle.receiver.specs.Symbol.{Symbol, bytesOf, symbolOf}
 use Rattle.receiver.specs.History.{Filling, symbolsAt, Located, source, repair, first, named, All, Consistent, Known, Reading, fails, located}
-use Rattle.receiver.specs.History.{Log, fresh, baseOf, raised, accept, logged, baseAfter, Spanned, Named, Reached, already, later, Start}
+use Rattle.receiver.specs.History.{Log, fresh, baseOf, raised, accept, logged, baseAfter, Spanned, MarkedBy, Reached, already, later, Start}
 use Rattle.receiver.specs.Model.{State, Outcome, refused, done, saidOf, stateAfter, responds, naming, startsAfter, marking}
 use Rattle.receiver.proofs.Says.{Whole, symbol-bytes, bytes-whole, head, rest}
 use Rattle.receiver.proofs.Answers.{Fits, Tracks, known-exactly, known-value, tracks-consistent, judged}
@@ -106,7 +106,7 @@ module _ (s : Setting) where
   module _ (some-bytes : 0 < E) (q : Located) (qs : List Located) (b b′ : ℕ) (eb : b ≡ baseAfter s qs) (eb′ : b′ ≡ baseAfter s (q ∷ qs))
       (ahead : b ≤ first q) (short : named q ≤ width) (M : Starts) (starts : AreStarts qs b M) (see : View) (sees : Sees E (q ∷ qs) b′ see) where
     abbrev A : ℕ → Type 0
-    A x = Start s qs x ⊎ Named s q x
+    A x = Start s qs x ⊎ MarkedBy s q x
 
     abbrev N : Starts
     N = naming s b′ q (moved width (b′ - b) M)
@@ -126,19 +126,19 @@ module _ (s : Setting) where
         moved-true width (b′ - b) M (p - b′) .1 (l, starts (b′ - b + (p - b′)) l .1 (subst (Start s qs) e h))
 
     -- And those that the packet makes.
-    made : (x : Located) → b′ ≤ first x → (j : ℕ) → naming s b′ x (moved width (b′ - b) M) j ≡ true → Start s qs (b′ + j) ⊎ Named s x (b′ + j)
+    made : (x : Located) → b′ ≤ first x → (j : ℕ) → naming s b′ x (moved width (b′ - b) M) j ≡ true → Start s qs (b′ + j) ⊎ MarkedBy s x (b′ + j)
     made (source p vs) f j h = go (also-true (p - b′) (also (p + length vs - b′) (moved width (b′ - b) M)) j .0 h)
       where
-        on : (j ≡ p + length vs - b′) ⊎ (moved width (b′ - b) M j ≡ true) → Start s qs (b′ + j) ⊎ Named s (source p vs) (b′ + j)
+        on : (j ≡ p + length vs - b′) ⊎ (moved width (b′ - b) M j ≡ true) → Start s qs (b′ + j) ⊎ MarkedBy s (source p vs) (b′ + j)
         on (inl e) = inr (inr (omega arith))
         on (inr k) = inl (stay j k)
 
-        go : (j ≡ p - b′) ⊎ (also (p + length vs - b′) (moved width (b′ - b) M) j ≡ true) → Start s qs (b′ + j) ⊎ Named s (source p vs) (b′ + j)
+        go : (j ≡ p - b′) ⊎ (also (p + length vs - b′) (moved width (b′ - b) M) j ≡ true) → Start s qs (b′ + j) ⊎ MarkedBy s (source p vs) (b′ + j)
         go (inl e) = inr (inl (omega arith))
         go (inr k) = on (also-true (p + length vs - b′) (moved width (b′ - b) M) j .0 k)
     made (repair p n cs vs) f j h = inl (stay j h)
 
-    marked : (x : Located) (p : ℕ) → Spanned s b′ p → Start s qs p ⊎ Named s x p → naming s b′ x (moved width (b′ - b) M) (p - b′) ≡ true
+    marked : (x : Located) (p : ℕ) → Spanned s b′ p → Start s qs p ⊎ MarkedBy s x p → naming s b′ x (moved width (b′ - b) M) (p - b′) ≡ true
     marked (source x vs) p sp (inl h) =
         also-true (x - b′) (also (x + length vs - b′) (moved width (b′ - b) M)) (p - b′) .1
         (inr (also-true (x + length vs - b′) (moved width (b′ - b) M) (p - b′) .1 (inr (stayed p sp h))))

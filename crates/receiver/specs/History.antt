@@ -214,9 +214,9 @@ module _ (s : Setting) where
     pub high : p ≤ base + width
 
   -- A source packet marks its first position and the one after its last.
-  abbrev pub Named : Located → ℕ → Type 0
-  Named (source p symbols) x = (x ≡ p) ⊎ (x ≡ p + length symbols)
-  Named (repair p n coefficients symbols) x = ⊥
+  abbrev pub MarkedBy : Located → ℕ → Type 0
+  MarkedBy (source p symbols) x = (x ≡ p) ⊎ (x ≡ p + length symbols)
+  MarkedBy (repair p n coefficients symbols) x = ⊥
 
   -- After the packets qs, from the positions that are marked already: a marked known position of the window, whose L needs n symbols in what the
   -- fillings hold there, marks the position n later.
@@ -229,4 +229,4 @@ module _ (s : Setting) where
   -- that it marks, and those that they reach.
   abbrev pub Start : List Located → ℕ → Type 0
   Start [] p = p ≡ 0
-  Start (q ∷ qs) p = Reached (q ∷ qs) (λ x. Start qs x ⊎ Named q x) p
+  Start (q ∷ qs) p = Reached (q ∷ qs) (λ x. Start qs x ⊎ MarkedBy q x) p

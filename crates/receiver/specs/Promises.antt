@@ -6,16 +6,15 @@ use mathlib.Core.Bool.{cond}
 use mathlib.Core.Option.{Option, none, some}
 use mathlib.Core.List.{List, []}
 use denote.Ref.{RefT, now}
-use Prim.Native.Nat.{ℕ, _+_, _≤_}
+use Prim.Native.Nat.{ℕ, _+_, _*_, _≤_}
 use lib.ListN.{length, drop}
 use lib.Dec.{ltb}
 use Rattle.memory.specs.Part.{part, LiesAt}
 use Rattle.wire.specs.declared.Setting.{Setting}
-use Rattle.wire.specs.declared.Refusal.the-variants.{Unopened}
 use Rattle.wire.specs.Numbers.{numberOf}
 use Rattle.wire.specs.Settings.{settingOf}
 use Rattle.starts.specs.declared.Handed.{Handed}
-use Rattle.starts.specs.declared.Handed.the-variants.{Withheld}
+use Rattle.starts.specs.declared.Handed.the-variants.{Adu, Withheld}
 use Rattle.starts.specs.Adu.{HandedAs, Leaves}
 use Rattle.starts.specs.Starts.{Starts, zeroth}
 use Rattle.receiver.specs.declared.Answer.{Answer}
@@ -30,6 +29,11 @@ use Rattle.receiver.specs.Header.{headerIn}
 abbrev pub said : Answer → Said
 said (Done n) = value n
 said (Refused r) = refusal (numberOf r)
+
+-- Flow and length of an ADU as one number, or the number of a refusal.
+abbrev pub handedSaid : Handed → Said
+handedSaid (Adu flow L) = value (flow * 65536 + L)
+handedSaid (Withheld r) = refusal (numberOf r)
 
 -- How a memory holds a state.
 pub record Layout : Type 1 where
@@ -113,6 +117,6 @@ module _ (L : Layout) where
 
   -- The ADU call for the ESI e, which changes nothing but its output.
   pub record AduAnswered (m : List ℕ) (e : ℕ) (out out′ : List ℕ) (a : Handed) : Type 0 where
-    pub unopened : (a ≡ Withheld Unopened) ↔ (headerIn m ≡ none)
+    pub unopened : (handedSaid a ≡ refusal 3) ↔ (headerIn m ≡ none)
     pub leaves : Leaves out out′ a
     pub hands : (s : Setting) (t : State s) (M : Starts) → Holds m s t → Marks m s t M → HandedAs (aduAt s t M (length out) e) out out′ a

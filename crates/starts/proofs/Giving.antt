@@ -140,7 +140,7 @@ Comes w E base d m room h = (b : ℕ) (S : State (Coded E) w) (M : Starts) → b
 refused : (w E base d : ℕ) (m out : List ℕ) (x : Refusal) → numberOf x ≢ 3 → Comes w E base d m (length out) (withholds (numberOf x))
     → HandedOut w E base d m out out (Withheld x)
 refused w E base d m out x n c = record {
-  opened = λ q. n (ap reason q);
+  opened = λ y q z. n (ap reason q ∙ z);
   leaves = refl;
   told = λ b S M e v k. subst (λ h. HandedAs h out out (Withheld x)) (sym (c b S M e v k)) (refl, refl);
 }
@@ -235,8 +235,9 @@ module _ (w E base d : ℕ) (m out : List ℕ) where
         length-part 3 L x (omega (arith, text-length w E base m fits d n, span-end w E d n L (fits .some-symbol) (spans k))) in
         let flow : flowIn x ≡ getD m at 0 = text-flow w E base m fits d n some-symbols ∙ ap (λ y. getD m y 0) (sym (k .read .here)) in
         record {
-          opened = λ y. absurd (omega (arith, ap reason y));
+          opened = λ y q z. absurd (omega (arith, ap reason q, z));
           leaves = (
+            k .read .short,
             h,
             ap length q ∙ length-splice 0 (part 3 L x) out (omega arith),
             ap (drop L) q ∙ past-splice L 0 (part 3 L x) out (omega arith) (omega arith),

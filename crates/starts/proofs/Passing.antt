@@ -26,7 +26,7 @@ use Rattle.starts.specs.Adu.{needs, View}
 use Rattle.starts.specs.Starts.{Starts, also, moved, onward, pass, shown, seen}
 use Rattle.starts.specs.Marks.{markAt, marked, Marks, notedIn, OnlyStarts}
 use Rattle.starts.specs.Settled.{Open, Settled, Old, Reaches, seed, next}
-use Rattle.starts.specs.MarkSteps.{Noted, Stepped, Followed, owning, Owned, MayWalk, Reached, Updated}
+use Rattle.starts.specs.MarkSteps.{Noted, Stepped, Followed, owning, Owned, MayWalk, Extended, Updated}
 use Rattle.starts.specs.Contracts.{Added, Moved, Passed}
 use Rattle.starts.proofs.Only.{only-refl, only-trans, starts-refl, starts-of, starts-trans, starts-window, note-no-mark, mark-not-note}
 use Rattle.starts.proofs.Agreeing.{Agree}
@@ -380,7 +380,7 @@ owned-none w E base first n m e = record {
 
 -- The marks after the packet: those of the pass, and settled.
 module _ (w E oldest base rise first n : ℕ) (others : Bool) (m m₁ m₂ m₃ : List ℕ) (fits : Fits w E m) (is : base ≡ (oldest + rise) % w)
-    (f : Moved w E oldest rise m m₁) (g : Owned w E base first n m₁ m₂) (p : Reached w E base rise first n others m₂ m₃) where
+    (f : Moved w E oldest rise m m₁) (g : Owned w E base first n m₁ m₂) (p : Extended w E base rise first n others m₂ m₃) where
   pos : 0 < w
   pos = fits .some-width
 

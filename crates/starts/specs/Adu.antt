@@ -76,7 +76,7 @@ HandedAs (hands flow adu) out out′ r = (r ≡ Adu flow (length adu)) × (out�
 HandedAs (withholds n) out out′ (Adu flow L) = ⊥
 HandedAs (withholds n) out out′ (Withheld x) = (numberOf x ≡ n) × (out′ ≡ out)
 
--- The same without a word of what was written: on any memory.
+-- The same without a word of what was written: on any memory. L is a number of two bytes.
 abbrev pub Leaves : (out out′ : List ℕ) → Handed → Type 0
-Leaves out out′ (Adu flow L) = (L ≤ length out) × (length out′ ≡ length out) × (drop L out′ ≡ drop L out)
+Leaves out out′ (Adu flow L) = (L ≤ 65535) × (L ≤ length out) × (length out′ ≡ length out) × (drop L out′ ≡ drop L out)
 Leaves out out′ (Withheld x) = out′ ≡ out

@@ -5,7 +5,8 @@ use mathlib.Core.Logic.{_≢_}
 use mathlib.Core.List.{List}
 use Prim.Native.Nat.{ℕ, _+_, _%_}
 use lib.ListN.{length}
-use Rattle.wire.specs.declared.Refusal.the-variants.{Unopened}
+use Rattle.wire.specs.declared.Refusal.{Refusal}
+use Rattle.wire.specs.Numbers.{numberOf}
 use Rattle.decoder.specs.Bytes.{Coded}
 use Rattle.decoder.specs.Model.{State}
 use Rattle.elimination.specs.Window.{Window}
@@ -39,7 +40,7 @@ pub record Passed (w E base : ℕ) (m m′ : List ℕ) : Type 0 where
 
 -- The ADU call for the d-th position of the window has been made; refusal 3 is none of its refusals.
 pub record HandedOut (w E base d : ℕ) (m out out′ : List ℕ) (r : Handed) : Type 0 where
-  pub opened : r ≢ Withheld Unopened
+  pub opened : (x : Refusal) → r ≡ Withheld x → numberOf x ≢ 3
   pub leaves : Leaves out out′ r
   pub told : (b : ℕ) (S : State (Coded E) w) (M : Starts) → b % w ≡ base → Window w E m b S → Marks w E base m M
       → HandedAs (handing E w (length out) M (seen E w S) d) out out′ r

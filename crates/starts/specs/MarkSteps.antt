@@ -77,7 +77,7 @@ pub record Decided (rise : ℕ) (others : Bool) (m : List ℕ) (r : Bool) : Type
 
 -- What the marks M reach has been marked after a packet with n symbols of its own from `first` on. Either the pass has been made, or positions
 -- have been followed.
-pub record Reached (w E base rise first n : ℕ) (others : Bool) (m m′ : List ℕ) : Type 0 where
+pub record Extended (w E base rise first n : ℕ) (others : Bool) (m m′ : List ℕ) : Type 0 where
   pub how : Passed w E base m m′
       ⊎ (MayWalk rise others m × Followed w E base (λ k. (0 < n) × (first ≤ k) × (k < first + (n + 1))) m m′)
 

@@ -4,7 +4,7 @@ ghost use Prim.Native.Nat.{_+_, _%_, _≤_, _<_};
 ghost use lib.ListN.{length};
 ghost use Rattle.elimination.specs.Window.{place, Fits};
 ghost use Rattle.starts.specs.Marks.{markAt, marked};
-ghost use Rattle.starts.specs.MarkSteps.{Written, Dropped, Noted, Stepped, Followed, Owned, Decided, Reached, Updated, OneKnown, Tallied};
+ghost use Rattle.starts.specs.MarkSteps.{Written, Dropped, Noted, Stepped, Followed, Owned, Decided, Extended, Updated, OneKnown, Tallied};
 ghost use Rattle.starts.specs.Contracts.{Begun, Added, Moved, Passed};
 use elimination::Shape;
 
@@ -242,7 +242,7 @@ fn must_pass(mem: &[u8], rise: usize, others: bool) -> bool
 // What the marks reach is marked, after a packet with `named` symbols of its own from the position `first` on.
 fn reach(mem: &mut [u8], shape: Shape, rise: usize, first: usize, named: usize, others: bool)
     requires { ⌜ Fits (shape .width) (shape .size) (now mem) × (shape .base < shape .width) × (first + named ≤ shape .width) ⌝ }
-    ensures { λ _. ⌜ Reached (shape .width) (shape .size) (shape .base) rise first named others (now (mem .entry)) (now (mem .exit)) ⌝ }
+    ensures { λ _. ⌜ Extended (shape .width) (shape .size) (shape .base) rise first named others (now (mem .entry)) (now (mem .exit)) ⌝ }
 {
     if must_pass(mem, rise, others) {
         pass(mem, shape);

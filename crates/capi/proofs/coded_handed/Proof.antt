@@ -1,5 +1,5 @@
 -- `capi::coded_handed` meets its contract.
-use Rattle.capi.specs.Coding.{handedSaid}
+use Rattle.receiver.specs.Promises.{handedSaid}
 use Rattle.capi.proofs.Coding.{coded-case}
 use borrow.Author.Needs.{needs}
 use Rattle.capi.proofs.coded_handed.Statement.{statement}
