@@ -10,12 +10,17 @@ fn main() {
         Some(folder) => PathBuf::from(folder),
         None => PathBuf::from(env::var_os("CARGO_MANIFEST_DIR").unwrap_or_default()).join("../target/staticlib"),
     };
+    if folder.is_relative() {
+        eprintln!("rlc8681: RLC8681_LIB_DIR is {}; it must be an absolute path.", folder.display());
+        exit(1);
+    }
     let library = folder.join("libcapi.a");
     println!("cargo:rerun-if-changed={}", library.display());
     if !library.is_file() {
         eprintln!("rlc8681: {} is not there.", library.display());
         eprintln!(
-            "Write it with `rt staticlib capi` at the root of the repository, or set RLC8681_LIB_DIR to the folder that holds libcapi.a."
+            "Write it with `rt staticlib capi` at the root of the repository, or set RLC8681_LIB_DIR to the absolute path of the folder that \
+             holds libcapi.a."
         );
         exit(1);
     }

@@ -68,7 +68,7 @@ fn show(options: &Options) -> ExitCode {
             true
         }
         Err(why) => {
-            complain(&format!("{}: {why}", options.svg.display()));
+            complain(&format!("the picture cannot be written to {}: {why}", options.svg.display()));
             false
         }
     };
@@ -80,8 +80,10 @@ fn show(options: &Options) -> ExitCode {
     }
 }
 
+/// Writes the picture. Only the default path's folder is made where it is missing.
 fn write(path: &Path, text: &str) -> io::Result<()> {
-    if let Some(folder) = path.parent() {
+    let usual = Path::new(options::SVG);
+    if let (true, Some(folder)) = (path == usual, usual.parent()) {
         fs::create_dir_all(folder)?;
     }
     fs::write(path, text)

@@ -6,6 +6,9 @@ use std::fmt::Display;
 use std::path::PathBuf;
 use std::str::FromStr;
 
+/// Where the picture goes by default.
+pub const SVG: &str = "target/demo.svg";
+
 #[derive(Clone, Debug)]
 pub struct Options {
     pub file: Option<PathBuf>,
@@ -40,7 +43,7 @@ impl Default for Options {
             density: 15,
             every: 2,
             repairs: 1,
-            svg: PathBuf::from("target/demo.svg"),
+            svg: PathBuf::from(SVG),
             corrupt: None,
         }
     }

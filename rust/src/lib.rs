@@ -56,13 +56,33 @@ impl Scheme {
     pub const fn number(self) -> u8 {
         self as u8
     }
+
+    /// The scheme of a FEC Encoding ID; none for a number other than 9 and 10.
+    ///
+    /// ```
+    /// use rlc8681::Scheme;
+    /// assert_eq!(Scheme::from_number(9), Some(Scheme::Gf2));
+    /// assert_eq!(Scheme::from_number(10), Some(Scheme::Gf256));
+    /// assert_eq!(Scheme::from_number(11), None);
+    /// ```
+    #[must_use]
+    pub const fn from_number(number: u8) -> Option<Scheme> {
+        match number {
+            9 => Some(Scheme::Gf2),
+            10 => Some(Scheme::Gf256),
+            _ => None,
+        }
+    }
 }
 
 /// A call's answer: its value, or a refusal.
+///
+/// The library promises that a negative answer is minus a refusal's number, that a place lies in the memory and that an ADU lies in the
+/// output. An answer that breaks this cannot come; here, in `Receiver::symbol` and in `Receiver::adu` it would be `Refusal::Unopened`,
+/// which no call gives on the memory that these types own.
 fn answer(raw: i64) -> Result<usize, Refusal> {
     match usize::try_from(raw) {
         Ok(value) => Ok(value),
-        // A negative answer is minus a refusal's number by the library's promise; any other would mean memory that is not its own.
         Err(_) => Err(u8::try_from(raw.unsigned_abs()).ok().and_then(Refusal::from_number).unwrap_or(Refusal::Unopened)),
     }
 }

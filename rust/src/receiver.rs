@@ -115,8 +115,8 @@ impl Receiver {
     pub fn symbol(&self, esi: u32) -> Result<&[u8], Refusal> {
         // SAFETY: pointer and length are those of a slice that is borrowed for the call alone.
         let place = answer(unsafe { ffi::rlc_symbol_place(self.memory.as_ptr(), self.memory.len(), esi) })?;
-        // The library promises that the symbol lies in the memory.
-        self.memory.get(place..).and_then(|rest| rest.get(..self.symbol_size as usize)).ok_or(Refusal::Unknown)
+        // The library promises that the symbol lies in the memory: see `answer`.
+        self.memory.get(place..).and_then(|rest| rest.get(..self.symbol_size as usize)).ok_or(Refusal::Unopened)
     }
 
     /// Writes the ADU that starts at this ESI to the front of `out`, whose other bytes stay, and gives it with its flow.
@@ -142,9 +142,9 @@ impl Receiver {
     pub fn adu<'a>(&self, esi: u32, out: &'a mut [u8]) -> Result<Adu<'a>, Refusal> {
         // SAFETY: pointers and lengths are those of slices that are borrowed for the call alone; only `out` is written.
         let told = answer(unsafe { ffi::rlc_adu(self.memory.as_ptr(), self.memory.len(), esi, out.as_mut_ptr(), out.len()) })?;
+        // The library promises that the answer is flow × 65,536 + length, and that the output holds the ADU: see `answer`.
         let [_, flow, high, low] = u32::try_from(told).map_err(|_| Refusal::Unopened)?.to_be_bytes();
-        // The library promises that the output holds the ADU.
-        let bytes = out.get(..usize::from(u16::from_be_bytes([high, low]))).ok_or(Refusal::Short)?;
+        let bytes = out.get(..usize::from(u16::from_be_bytes([high, low]))).ok_or(Refusal::Unopened)?;
         Ok(Adu { flow, bytes })
     }
 

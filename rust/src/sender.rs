@@ -60,7 +60,7 @@ impl Sender {
 
     /// Writes a repair packet over the whole window, 8 + count × symbol size bytes, to the front of `out` and gives the bytes written;
     /// those after them stay. The packet has `count` (1 to 16) repair symbols, whose keys count up from `key`; of the coefficients,
-    /// (`dt` + 1) / 16 are not zero, all at `dt` 15.
+    /// on average (`dt` + 1) / 16 are not zero, all at `dt` 15.
     ///
     /// # Errors
     ///

@@ -26,6 +26,13 @@ fn packet(random: &mut Random, setting: Setting, source: bool) -> Vec<u8> {
     }
 }
 
+/// The setting that a header names, and the size of the end that it opens; of any other memory, whatever stands there.
+fn header_of(memory: &[u8]) -> (Setting, usize) {
+    let [kind, scheme, symbol_size, width] = [0, 2, 4, 6].map(|at| usize::from(u16::from_be_bytes([memory[at], memory[at + 1]])));
+    let setting = Setting { scheme: scheme as u32, symbol_size, width };
+    (setting, if kind == 1 { setting.sender_memory() } else { setting.receiver_memory() })
+}
+
 /// Makes every call on this memory. With `refusal`, each must give it; else any answer in range will do.
 fn call_all(random: &mut Random, setting: Setting, content: &[u8], refusal: Option<i64>) {
     for call in 0..7 {
@@ -65,9 +72,16 @@ fn call_all(random: &mut Random, setting: Setting, content: &[u8], refusal: Opti
             assert!(out.get() == out_before, "call {call} refused and wrote output");
             continue;
         }
+        let (header, size) = header_of(content);
+        assert!(size <= content.len(), "call {call} worked on memory that is too short");
+        assert!(memory.get()[size..] == content[size..], "call {call} wrote past the size");
+        if call < 2 {
+            let size = header.working_memory();
+            assert!(size <= work_before.len() && work.get()[size..] == work_before[size..], "call {call} wrote past the working memory");
+        }
         let written = match call {
             3 => {
-                assert!(answer as usize <= content.len(), "a place outside the memory");
+                assert!(answer as usize + header.symbol_size <= size, "a symbol outside the memory");
                 0
             }
             4 => answer as usize % 65_536,
@@ -80,7 +94,12 @@ fn call_all(random: &mut Random, setting: Setting, content: &[u8], refusal: Opti
 
 fn setting(random: &mut Random) -> Setting {
     let width = if random.chance(90) { random.between(1, 12) } else { random.between(1, 255) };
-    let symbol_size = if random.chance(90) { random.between(4, 20) } else { random.between(4, 300) };
+    let symbol_size = match random.below(100) {
+        0..=89 => random.between(4, 20),
+        90..=95 => random.between(4, 300),
+        96..=97 => random.between(4, 1500),
+        _ => random.one_of(&[1400, 1499, 1500]),
+    };
     Setting { scheme: 9 + random.below(2) as u32, symbol_size, width }
 }
 
@@ -148,7 +167,7 @@ fn memory_of_the_other_end() {
     });
 }
 
-/// Junk, and states with some bytes changed: mostly of the header, where the first bytes lie.
+/// Junk, and states with some bytes changed, mostly of the header, where the first bytes lie, and some bytes more lent than the size.
 #[test]
 fn junk_memory() {
     runs(3000, |seed| {
@@ -163,6 +182,10 @@ fn junk_memory() {
             1..=2 => sender,
             _ => receiver,
         };
+        if random.chance(60) {
+            let more = random.between(1, 100);
+            content.extend(random.bytes(more));
+        }
         for _ in 0..random.between(0, 12) {
             if !content.is_empty() {
                 let front = if random.chance(50) { content.len().min(64) } else { content.len() };

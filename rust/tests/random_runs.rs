@@ -12,14 +12,16 @@ use std::collections::{BTreeMap, HashMap};
 
 /// A setting: mostly small, now and then at the ends of its ranges.
 fn setting(random: &mut Random, widest: usize, longest: usize) -> Setting {
-    let width = match random.below(10) {
-        0..=5 => random.between(1, 8),
-        6..=8 => random.between(1, 30),
+    let width = match random.below(20) {
+        0..=11 => random.between(1, 8),
+        12..=16 => random.between(1, 30),
+        17..=18 => random.one_of(&[1, 2, 64, 254, 255]),
         _ => random.between(1, 255),
     };
-    let symbol_size = match random.below(10) {
-        0..=6 => random.between(4, 9),
-        7..=8 => random.between(4, 64),
+    let symbol_size = match random.below(20) {
+        0..=12 => random.between(4, 9),
+        13..=16 => random.between(4, 64),
+        17..=18 => random.one_of(&[4, 5, 1400, 1499, 1500]),
         _ => random.between(4, 1500),
     };
     Setting { scheme: 9 + random.below(2) as u32, symbol_size: symbol_size.min(longest), width: width.min(widest) }
@@ -178,7 +180,11 @@ fn mixed_run(random: &mut Random, receivers: &mut Receivers, packets: usize) {
     let damage = random.one_of(&[0, 2, 10]);
     let repeats = random.one_of(&[0, 5]);
     let jumps = random.one_of(&[0, 0, 1, 5]);
-    let looks = if setting.width * setting.symbol_size > 2000 { 10 } else { 60 };
+    let looks = match setting.width * setting.symbol_size {
+        0..=2000 => 60,
+        2001..=50_000 => 10,
+        _ => 2,
+    };
     for _ in 0..packets {
         let base = receivers.base();
         let packet = if random.chance(oddity) {
@@ -241,9 +247,10 @@ fn receiver_on_mixed_packets() {
 #[test]
 fn receiver_with_wide_windows() {
     let mut tally = Tally::default();
-    runs(20, |seed| {
+    runs(40, |seed| {
         let random = &mut Random::new(seed);
-        let setting = Setting { width: random.between(60, 255), ..setting(random, 255, 24) };
+        let width = if random.chance(50) { random.between(60, 255) } else { random.one_of(&[64, 254, 255]) };
+        let setting = Setting { width, ..setting(random, 255, 1500) };
         let mut receivers = Receivers::open(setting, random);
         mixed_run(random, &mut receivers, 400);
         tally.add(&receivers.tally);
@@ -337,51 +344,97 @@ impl Link {
     }
 }
 
-/// A sender, a link and a receiver. What the receiver shows and hands out is what was sent.
+/// How one run over a link sends.
+struct Sending {
+    adus: usize,
+    /// A repair packet after every so many ADUs, mostly with this density threshold.
+    spacing: usize,
+    dt: u32,
+    /// How often, in a hundred ADUs, the whole window is compared.
+    looks: u64,
+}
+
+/// One run of a sender, a link and a receiver. What the receiver shows and hands out is what was sent. Gives how many symbols repair
+/// packets made known.
+fn link_run(random: &mut Random, mut senders: Senders, receivers: &mut Receivers, mut link: Link, sending: &Sending) -> u64 {
+    let setting = senders.reference.setting;
+    let mut found = 0;
+    for i in 0..sending.adus {
+        let symbols = if random.chance(70) { 1 } else { random.between(1, setting.width.min(6)) };
+        let length = random.between(0, symbols * setting.symbol_size - 3);
+        let adu = random.bytes(length);
+        let flow = random.byte();
+        let Ok(packet) = senders.add_adu(random, flow, &adu) else { continue };
+        let mut packets = vec![(Some(flow), packet)];
+        if i % sending.spacing == 0 {
+            let count = if random.chance(70) { 1 } else { random.between(1, 16) as u32 };
+            let dt = if random.chance(80) { sending.dt } else { random.below(16) as u32 };
+            let key = random.next() as u16;
+            packets.extend(senders.make_repair(random, key, dt, count).map(|packet| (None, packet)));
+        }
+        for packet in packets {
+            for (flow, packet) in link.send(random, packet) {
+                let answer = receivers.receive(random, flow, &packet);
+                assert!(answer.is_ok() || [Err(4), Err(6), Err(8)].contains(&answer), "{answer:?}");
+                found += if flow.is_none() { answer.unwrap_or(0) } else { 0 };
+            }
+        }
+        if random.chance(sending.looks) {
+            receivers.look_around(random);
+            compare_with_sent(&senders, receivers);
+        }
+    }
+    receivers.look_around(random);
+    compare_with_sent(&senders, receivers);
+    found
+}
+
+/// Any setting, and another width at the other end now and then.
 #[test]
 fn sender_over_a_link() {
     let mut tally = Tally::default();
     runs(400, |seed| {
         let random = &mut Random::new(seed);
         let setting = setting(random, 255, 1500);
-        let mut senders = Senders::open(setting, random);
+        let senders = Senders::open(setting, random);
         // The other end may be wider or narrower
         let other = if random.chance(60) { setting.width } else { random.between(1, 255) };
         let mut receivers = Receivers::open(Setting { width: other, ..setting }, random);
         let loss = random.one_of(&[5, 20, 50]);
-        let mut link = Link { bursts: random.chance(40), losing: false, loss, late: Vec::new(), now: 0 };
-        let spacing = random.between(1, 5);
-        let dt = random.below(16) as u32;
-        for i in 0..if setting.width > 60 { 40 } else { 120 } {
-            let symbols = if random.chance(70) { 1 } else { random.between(1, setting.width.min(6)) };
-            let length = random.between(0, symbols * setting.symbol_size - 3);
-            let adu = random.bytes(length);
-            let flow = random.byte();
-            let Ok(packet) = senders.add_adu(random, flow, &adu) else { continue };
-            let mut packets = vec![(Some(flow), packet)];
-            if i % spacing == 0 {
-                let count = if random.chance(70) { 1 } else { random.between(1, 16) as u32 };
-                let dt = if random.chance(80) { dt } else { random.below(16) as u32 };
-                let key = random.next() as u16;
-                packets.extend(senders.make_repair(random, key, dt, count).map(|packet| (None, packet)));
-            }
-            for packet in packets {
-                for (flow, packet) in link.send(random, packet) {
-                    let answer = receivers.receive(random, flow, &packet);
-                    assert!(answer.is_ok() || [Err(4), Err(6), Err(8)].contains(&answer), "{answer:?}");
-                }
-            }
-            if random.chance(if other > 30 { 10 } else { 60 }) {
-                receivers.look_around(random);
-                compare_with_sent(&senders, &receivers);
-            }
-        }
-        receivers.look_around(random);
-        compare_with_sent(&senders, &receivers);
+        let link = Link { bursts: random.chance(40), losing: false, loss, late: Vec::new(), now: 0 };
+        let looks = match other * setting.symbol_size {
+            50_001.. => 3,
+            _ if other > 30 => 10,
+            _ => 60,
+        };
+        let adus = if setting.width > 60 { 40 } else { 120 };
+        let sending = Sending { adus, spacing: random.between(1, 5), dt: random.below(16) as u32, looks };
+        link_run(random, senders, &mut receivers, link, &sending);
         tally.add(&receivers.tally);
     });
     tally.told("a link");
     tally.met(&[6, 8], &[0, 8, 12, 13]);
+}
+
+/// The sizes that streams are sent with, and the largest, until the window is full and has moved on.
+#[test]
+fn largest_sizes_over_a_link() {
+    let mut tally = Tally::default();
+    runs(24, |seed| {
+        let random = &mut Random::new(seed);
+        let (symbol_size, width) = [(1400, 64), (1400, 255), (1500, 255)][seed as usize / 2 % 3];
+        let setting = Setting { scheme: 9 + seed as u32 % 2, symbol_size, width };
+        let senders = Senders::open(setting, random);
+        let mut receivers = Receivers::open(setting, random);
+        let loss = random.one_of(&[5, 15, 25]);
+        let link = Link { bursts: seed / 6 % 2 == 1, losing: false, loss, late: Vec::new(), now: 0 };
+        let sending = Sending { adus: 400, spacing: random.between(2, 4), dt: if setting.scheme == 9 { 7 } else { 15 }, looks: 2 };
+        let found = link_run(random, senders, &mut receivers, link, &sending);
+        assert!(found > 0 && receivers.base() > 0, "{found} symbols found, base {}", receivers.base());
+        tally.add(&receivers.tally);
+    });
+    tally.told("largest sizes");
+    tally.met(&[], &[0, 12, 13]);
 }
 
 /// Every symbol that the receiver shows is the sender's, and every ADU that it hands out is one that was sent, with its flow.
@@ -455,12 +508,10 @@ fn longest_adus() {
     }
 }
 
-/// A sender whose ESIs wrap: some seventeen million ADUs of 255 symbols, so only where RLC8681_RUNS asks for long runs.
+/// A sender whose ESIs wrap: some seventeen million ADUs of 255 symbols.
 #[test]
+#[ignore = "takes half a minute: tests/run has it where RLC8681_RUNS is set"]
 fn sender_past_the_wrap() {
-    if std::env::var_os("RLC8681_RUNS").is_none() {
-        return;
-    }
     let mut memory = vec![0; 32 + 255 * 4];
     assert_eq!(library::sender_open(&mut memory, 10, 4, 255), 0);
     let adu = vec![7; 255 * 4 - 3];

@@ -5,6 +5,9 @@ pub mod pair;
 
 // The crate's own link to the library serves these declarations too.
 use rlc8681 as _;
+use std::fs::{self, File};
+use std::io::{Seek, Write};
+use std::path::Path;
 
 mod raw {
     extern "C" {
@@ -135,26 +138,43 @@ impl Lent {
 }
 
 /// How many random runs a test makes: `usual`, times RLC8681_RUNS where it is set. With RLC8681_SEED only that seed is run.
-pub fn runs(usual: u64, mut run: impl FnMut(u64)) {
+pub fn runs<R: FnMut(u64)>(usual: u64, mut run: R) {
     let number = |name: &str| std::env::var(name).ok().map(|text| text.parse::<u64>().expect("a number"));
     let seeds = match number("RLC8681_SEED") {
         Some(seed) => seed..seed + 1,
         None => 0..usual * number("RLC8681_RUNS").unwrap_or(1),
     };
+    let test = test_of::<R>();
+    let note = Path::new(env!("CARGO_TARGET_TMPDIR")).join("seeds").join(test.replace("::", "."));
+    fs::create_dir_all(note.parent().expect("a folder")).expect("a folder for the seeds");
+    let mut file = File::create(&note).expect("a file for the seed");
     for seed in seeds {
-        let told = Told(seed);
+        // A crash prints nothing: then this line is there. Each is as long as the last, so the file need not be cut
+        file.rewind().and_then(|()| writeln!(file, "{test}: RLC8681_SEED={seed:<20}")).expect("the seed written");
+        let told = Told { test, seed };
         run(seed);
         drop(told);
     }
+    fs::remove_file(&note).expect("the seed removed");
 }
 
-/// Prints its seed when a run panics.
-struct Told(u64);
+/// The name of the test that a closure stands in: threads have it as their name only where there are several.
+fn test_of<R>() -> &'static str {
+    std::any::type_name::<R>().trim_end_matches("::{{closure}}")
+}
+
+/// Prints its test and seed when a run panics.
+struct Told {
+    test: &'static str,
+    seed: u64,
+}
 
 impl Drop for Told {
     fn drop(&mut self) {
         if std::thread::panicking() {
-            eprintln!("failing seed: {} (RLC8681_SEED={} runs it alone)", self.0, self.0);
+            let Told { test, seed } = self;
+            let name = test.rsplit("::").next().unwrap_or(test);
+            eprintln!("failing seed of {test}: {seed} (RLC8681_SEED={seed} tests/run {name} runs it alone)");
         }
     }
 }
