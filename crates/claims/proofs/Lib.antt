@@ -8,6 +8,7 @@ pub mod Handing
 pub mod Reading
 pub mod Sent
 pub mod SentAdus
+pub mod Heard
 pub mod NotEmpty
 pub mod ReceiverUnopened
 pub mod Receiver

@@ -7,6 +7,7 @@ use Rattle.claims.proofs.Reading.{reads}
 use Rattle.claims.proofs.Sent.{sender-fills, sent-accepted, sent-shown}
 use Rattle.claims.proofs.Sending.{sender-sends}
 use Rattle.claims.proofs.SentAdus.{start-gives, junk-gives, sent-written, sent-starts, sent-handed}
+use Rattle.claims.proofs.Heard.{chain-goes-on, heard, heard-handed}
 use Rattle.claims.proofs.NotEmpty.{runs-exist}
 use Rattle.claims.proofs.ReceiverUnopened.{receiver-unopened}
 
@@ -15,6 +16,9 @@ receiver-claims = record {
   demand-3 = demand-3 receiverLayout;
   no-choice = no-choice;
   hands-out = hands-out receiverLayout;
+  goes-on = chain-goes-on;
+  heard = heard;
+  heard-handed = heard-handed receiverLayout;
   runs-exist = runs-exist;
   reads = reads;
   sender-fills = sender-fills;
