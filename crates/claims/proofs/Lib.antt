@@ -4,6 +4,7 @@ pub mod Sending
 pub mod Adus
 pub mod Carrying
 pub mod Demand
+pub mod Placing
 pub mod Handing
 pub mod Reading
 pub mod Sent

@@ -2,6 +2,7 @@
 use Rattle.receiver.specs.Layout.{receiverLayout}
 use Rattle.claims.specs.Receiver.{Receiver-claims}
 use Rattle.claims.proofs.Demand.{demand-3, no-choice}
+use Rattle.claims.proofs.Placing.{every-place}
 use Rattle.claims.proofs.Handing.{hands-out}
 use Rattle.claims.proofs.Reading.{reads}
 use Rattle.claims.proofs.Sent.{sender-fills, sent-accepted, sent-shown}
@@ -15,6 +16,7 @@ pub receiver-claims : Receiver-claims
 receiver-claims = record {
   demand-3 = demand-3 receiverLayout;
   no-choice = no-choice;
+  places = every-place receiverLayout;
   hands-out = hands-out receiverLayout;
   goes-on = chain-goes-on;
   heard = heard;

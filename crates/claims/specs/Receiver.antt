@@ -1,6 +1,7 @@
 -- All that is claimed of the receiver, at the layout that its calls have.
 use Rattle.receiver.specs.Layout.{receiverLayout}
 use Rattle.claims.specs.Demand.{Every-list, No-choice}
+use Rattle.claims.specs.Placing.{Every-place}
 use Rattle.claims.specs.Handing.{Hands-out, Goes-on, Heard, Heard-handed}
 use Rattle.claims.specs.Reading.{Reads}
 use Rattle.claims.specs.Sent.{Sender-fills, Sent-accepted, Sent-shown}
@@ -11,6 +12,7 @@ use Rattle.claims.specs.ReceiverUnopened.{Receiver-unopened}
 pub record Receiver-claims : Type 0 where
   pub demand-3 : Every-list receiverLayout
   pub no-choice : No-choice
+  pub places : Every-place receiverLayout
   pub hands-out : Hands-out receiverLayout
   pub goes-on : Goes-on
   pub heard : Heard
