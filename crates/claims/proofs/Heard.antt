@@ -1,26 +1,32 @@
 -- Positions become starts: after an ADU that is held at one, and where a source packet was accepted.
 use mathlib.Core.Path.{_≡_, refl, sym, ap, _∙_, subst}
 use mathlib.Core.Logic.{_⊎_, inl, inr}
-use mathlib.Core.List.{List, [], _∷_, _++_}
+use mathlib.Core.List.{List, [], _∷_, _++_, append-assoc}
 use Prim.Native.Nat.{ℕ, _+_, _-_, _≤_, _<_}
 use native.Mathlib.Omega.{arith}
-use lib.Dec.{lit<}
-use lib.ListN.{length, getD}
+use lib.Dec.{lit<, leb}
+use lib.ListN.{length, getD, drop}
+use borrow.Author.Tests.{leb-true}
 use Rattle.wire.specs.declared.Setting.{Setting}
 use Rattle.wire.specs.Settings.{Valid}
-use Rattle.wire.specs.Packets.{symbolCount, sourceSymbols}
+use Rattle.wire.specs.Packets.{symbolCount, sourceSymbols, sourceAdu}
 use Rattle.wire.proofs.Adui.{symbols-count}
+use Rattle.wire.proofs.Settings.{both}
+use Rattle.starts.specs.declared.Handed.{Handed}
+use Rattle.starts.specs.declared.Handed.the-variants.{Adu}
 use Rattle.starts.proofs.Chaining.{symbols-some}
 use Rattle.receiver.specs.Symbol.{bytesOf, symbolOf}
-use Rattle.receiver.specs.History.{Filling, symbolsAt, Located, source, repair, Satisfied, All, Consistent, Known, Reading, fails, located}
-use Rattle.receiver.specs.History.{Log, fresh, baseOf, Said, value, refusal, logged, baseAfter, Spanned, Named, already, later, Start}
+use Rattle.receiver.specs.History.{Filling, symbolsAt, Located, source, repair, Satisfied, All, Consistent, Known, Reading, fails, located, first}
+use Rattle.receiver.specs.History.{readSource, readPacket, Log, fresh, baseOf, Said, value, refusal, IsValue, logged, baseAfter, Spanned, Named}
+use Rattle.receiver.specs.History.{already, later, Start}
 use Rattle.receiver.specs.Promises.{Layout, said, AduAnswered}
 use Rattle.receiver.proofs.Says.{symbol-bytes}
+use Rattle.receiver.proofs.Readings.{check-passed, source-read, reading-passed}
 use Rattle.receiver.proofs.Starting.{start-spanned}
 use Rattle.claims.specs.SenderRun.{AreSymbols}
 use Rattle.claims.specs.Run.{Step, read, goes-on, history}
 use Rattle.claims.specs.Demand.{esi}
-use Rattle.claims.specs.Handing.{HoldsAdu, Goes-on, Heard, Heard-handed}
+use Rattle.claims.specs.Handing.{HoldsAdu, Handed-out, Goes-on, Heard, Heard-handed}
 use Rattle.claims.proofs.Carrying.{differ}
 use Rattle.claims.proofs.SentAdus.{first-here, length-here}
 
@@ -105,8 +111,13 @@ heard s ts newer older q e p n h =
     subst (λ qs. Start s qs p) (sym e)
     (stays s newer older q p n (subst (λ qs. baseAfter s qs ≤ p) e (subst (λ b. b ≤ p) (base-is s ts) h)))
 
-pub heard-handed : (L : Layout) → Heard-handed L
-heard-handed L s v ts m g newer older p flow adu short e h out out′ a k room =
+-- An ADU whose symbols are those of an accepted source packet.
+held-handed : (L : Layout) (s : Setting) → Valid s → (ts : List Step) (m : List ℕ) → Handed-out L s m (history s ts .accepted) (baseOf (history s ts))
+    → (newer older : List Located) (p flow : ℕ) (adu : List ℕ) → length adu ≤ 65535
+    → history s ts .accepted ≡ newer ++ (source p (sourceSymbols flow adu (s .size)) ∷ older) → baseOf (history s ts) ≤ p
+    → (out out′ : List ℕ) (a : Handed) → AduAnswered L m (esi p) out out′ a → length adu ≤ length out
+    → (a ≡ Adu flow (length adu)) × (out′ ≡ adu ++ drop (length adu) out)
+held-handed L s v ts m g newer older p flow adu short e h out out′ a k room =
     let E = s .size in
     let qs = history s ts .accepted in
     let base = baseOf (history s ts) in
@@ -127,3 +138,51 @@ heard-handed L s v ts m g newer older p flow adu short e h out out′ a k room =
     } in
     g .calls d (omega (arith, inside, v .width-most)) .handed inside out out′ a (subst (λ x. AduAnswered L m (esi x) out out′ a) (sym here) k) flow adu .1
     (subst (λ x. Start s qs x × HoldsAdu s qs base x flow adu × (length adu ≤ length out)) (sym here) (start, held, room))
+
+-- ---- The packet of a call
+
+module _ (s : Setting) where
+  logged-keeps : (l : Log) (r : Reading) (a : Said) → (newer : List Located) × (logged s l r a .accepted ≡ newer ++ l .accepted)
+  logged-keeps l (fails n) a = ([], refl)
+  logged-keeps l (located q) (refusal n) = ([], refl)
+  logged-keeps l (located q) (value n) = (q ∷ [], refl)
+
+  keeps : (ts : List Step) (l : Log) → (newer : List Located) × (goes-on s l ts .accepted ≡ newer ++ l .accepted)
+  keeps [] l = ([], refl)
+  keeps (t ∷ ts) l =
+      let (b, g) = logged-keeps l (read s l t) (said (t .answer)) in
+      let (a, e) = keeps ts (logged s l (read s l t) (said (t .answer))) in
+      (a ++ b, e ∙ ap (λ (x : List Located). a ++ x) g ∙ sym (append-assoc a b (l .accepted)))
+
+  logged-takes : (l : Log) (r : Reading) (a : Said) (q : Located) → r ≡ located q → IsValue a → logged s l r a .accepted ≡ q ∷ l .accepted
+  logged-takes l r (value n) q e h = ap (λ x. logged s l x (value n) .accepted) e
+  logged-takes l r (refusal n) q e h = absurd h
+
+  -- An accepted packet stands in the history.
+  takes : (before : List Step) (t : Step) (after : List Step) (l : Log) (q : Located) → read s (goes-on s l before) t ≡ located q
+      → IsValue (said (t .answer))
+      → (newer : List Located) × (goes-on s l (before ++ (t ∷ after)) .accepted ≡ newer ++ (q ∷ goes-on s l before .accepted))
+  takes [] t after l q e h =
+      let (a, g) = keeps after (logged s l (read s l t) (said (t .answer))) in
+      (a, g ∙ ap (λ (x : List Located). a ++ x) (logged-takes l (read s l t) (said (t .answer)) q e h))
+  takes (u ∷ before) t after l q e h = takes before t after _ q e h
+
+  -- An ADU that was read is short.
+  read-short : (base flow : ℕ) (p : List ℕ) (q : Located) → readSource s base flow p ≡ located q → length (sourceAdu p) ≤ 65535
+  unfolding readSource
+  read-short base flow p q h =
+      let (a, g) = check-passed _ 5 _ q h in
+      let (b, j) = check-passed _ 4 _ q g in
+      leb-true _ _ (both (leb (length (sourceAdu p)) 65535) _ b .0)
+
+pub heard-handed : (L : Layout) → Heard-handed L
+heard-handed L s v before t after m g flow packet q c e y h out out′ a k room =
+    let base = baseOf (history s before) in
+    let r : readSource s base flow packet ≡ located q =
+    ap (readPacket s base) (sym c) ∙ reading-passed s base (length (t .working)) (t .call) q e in
+    let z : q ≡ source (first q) (sourceSymbols flow (sourceAdu packet) (s .size)) =
+    subst (λ w. w ≡ source (first w) (sourceSymbols flow (sourceAdu packet) (s .size))) (source-read s base flow packet q r .says) refl in
+    let (newer, x) = takes s before t after fresh q e y in
+    held-handed L s v (before ++ (t ∷ after)) m g newer (history s before .accepted) (first q) flow (sourceAdu packet) (read-short s base flow packet q r)
+    (x ∙ ap (λ (w : Located). newer ++ (w ∷ history s before .accepted)) z)
+    h out out′ a k room

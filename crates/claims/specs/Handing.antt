@@ -8,15 +8,15 @@ use Prim.Native.Nat.{ℕ, _+_, _^_, _≤_, _<_}
 use lib.ListN.{length, drop}
 use Rattle.wire.specs.declared.Setting.{Setting}
 use Rattle.wire.specs.Settings.{settingOf, Valid}
-use Rattle.wire.specs.Packets.{symbolCount, sourceSymbols}
+use Rattle.wire.specs.Packets.{symbolCount, sourceSymbols, sourceAdu}
 use Rattle.starts.specs.declared.Handed.{Handed}
 use Rattle.starts.specs.declared.Handed.the-variants.{Adu}
 use Rattle.starts.specs.Adu.{View, withholds, handing, HandedAs}
 use Rattle.receiver.specs.declared.Answer.{Answer}
 use Rattle.receiver.specs.Symbol.{bytesOf}
-use Rattle.receiver.specs.History.{Filling, symbolsAt, Located, source, All, Consistent, Known, baseOf, value, Named, Start}
+use Rattle.receiver.specs.History.{Filling, symbolsAt, Located, first, All, Consistent, Known, source-call, located, baseOf, value, IsValue, Named, Start}
 use Rattle.receiver.specs.Promises.{Layout, said, Opened, AduAnswered}
-use Rattle.claims.specs.Run.{Step, Run, final, history}
+use Rattle.claims.specs.Run.{Step, Run, final, read, history}
 use Rattle.claims.specs.Demand.{esi}
 
 module _ (s : Setting) where
@@ -83,11 +83,15 @@ Heard =
     (s : Setting) (ts : List Step) (later earlier : List Located) (q : Located) → history s ts .accepted ≡ later ++ (q ∷ earlier)
     → (p : ℕ) → Named s q p → baseOf (history s ts) ≤ p → Start s (history s ts .accepted) p
 
--- So an ADU whose source packet was accepted is handed out with its flow as long as the base has not passed its first position, where output has room.
+-- So where a source packet's call answered a count, the ADU call at its first position hands out its ADU with its flow, where output has room: as long
+-- as the base has not passed that position, whatever calls come after.
 abbrev pub Heard-handed : Layout → Type 0
 Heard-handed L =
-    (s : Setting) → Valid s → (ts : List Step) (m : List ℕ) → Handed-out L s m (history s ts .accepted) (baseOf (history s ts))
-    → (later earlier : List Located) (p flow : ℕ) (adu : List ℕ) → length adu ≤ 65535
-    → history s ts .accepted ≡ later ++ (source p (sourceSymbols flow adu (s .size)) ∷ earlier) → baseOf (history s ts) ≤ p
-    → (out out′ : List ℕ) (a : Handed) → AduAnswered L m (esi p) out out′ a → length adu ≤ length out
-    → (a ≡ Adu flow (length adu)) × (out′ ≡ adu ++ drop (length adu) out)
+    (s : Setting) → Valid s → (before : List Step) (t : Step) (after : List Step) (m : List ℕ)
+    → let l = history s (before ++ (t ∷ after)) in
+    Handed-out L s m (l .accepted) (baseOf l)
+    → (flow : ℕ) (packet : List ℕ) (q : Located) → t .call ≡ source-call flow packet → read s (history s before) t ≡ located q → IsValue (said (t .answer))
+    → baseOf l ≤ first q
+    → (out out′ : List ℕ) (a : Handed) → AduAnswered L m (esi (first q)) out out′ a
+    → let adu = sourceAdu packet in
+    length adu ≤ length out → (a ≡ Adu flow (length adu)) × (out′ ≡ adu ++ drop (length adu) out)
