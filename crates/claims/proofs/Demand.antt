@@ -83,11 +83,11 @@ module _ (L : Layout) (s : Setting) (v : Valid s) where
   -- ---- The symbol calls
 
   module _ (m : List ℕ) (l : Log) (g : Stands m l) where
-    abbrev state : State s
+    abbrev pub state : State s
     state = g .state
 
     -- What the two calls find at the ESI of the position base + d.
-    at-base : (d : ℕ) (o : Finding E) → finding s state ((state .base + d) % 2 ^ 32) ≡ o → finding s state (esi (baseOf l + d)) ≡ o
+    pub at-base : (d : ℕ) (o : Finding E) → finding s state ((state .base + d) % 2 ^ 32) ≡ o → finding s state (esi (baseOf l + d)) ≡ o
     at-base d o e = subst (λ b. finding s state ((b + d) % 2 ^ 32) ≡ o) (g .tracks .base-is) e
 
     answer-is : (d : ℕ) (o : Finding E) → finding s state (esi (baseOf l + d)) ≡ o → (a : Answer) → SymbolAnswered L m (esi (baseOf l + d)) a
@@ -111,13 +111,13 @@ module _ (L : Layout) (s : Setting) (v : Valid s) where
         go (no n) memory part q p = part-is d (hides 8) (at-base d (hides 8) (found-behind s state d h (omega arith))) memory part q p
 
     module _ (i : ℕ) (within : i < width) where
-      abbrev symbol : Option (Symbol E)
+      abbrev pub symbol : Option (Symbol E)
       symbol = known (state .window) i
 
-      here : finding s state (esi (baseOf l + i)) ≡ shown s (state .base + i) symbol
+      pub here : finding s state (esi (baseOf l + i)) ≡ shown s (state .base + i) symbol
       here = let n = v .width-most in at-base i (shown s (state .base + i) symbol) (found-inside s state i (omega arith) (omega arith) within)
 
-      exactly : decoder.Accepted symbol ↔ Known E (l .accepted) (baseOf l + i)
+      pub exactly : decoder.Accepted symbol ↔ Known E (l .accepted) (baseOf l + i)
       exactly = known-exactly s some-bytes l state (g .tracks) i
 
       zero-or-twelve : (o : Option (Symbol E)) (a : Answer) → Finds L (shown s (state .base + i) o) a → (said a ≡ value 0) ⊎ (said a ≡ refusal 12)

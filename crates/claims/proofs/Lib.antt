@@ -4,10 +4,12 @@ pub mod Sending
 pub mod Adus
 pub mod Carrying
 pub mod Demand
+pub mod Placing
 pub mod Handing
 pub mod Reading
 pub mod Sent
 pub mod SentAdus
+pub mod Heard
 pub mod NotEmpty
 pub mod ReceiverUnopened
 pub mod Receiver

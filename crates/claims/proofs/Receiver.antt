@@ -2,11 +2,13 @@
 use Rattle.receiver.specs.Layout.{receiverLayout}
 use Rattle.claims.specs.Receiver.{Receiver-claims}
 use Rattle.claims.proofs.Demand.{demand-3, no-choice}
+use Rattle.claims.proofs.Placing.{every-place}
 use Rattle.claims.proofs.Handing.{hands-out}
 use Rattle.claims.proofs.Reading.{reads}
 use Rattle.claims.proofs.Sent.{sender-fills, sent-accepted, sent-shown}
 use Rattle.claims.proofs.Sending.{sender-sends}
 use Rattle.claims.proofs.SentAdus.{start-gives, junk-gives, sent-written, sent-starts, sent-handed}
+use Rattle.claims.proofs.Heard.{chain-goes-on, heard, heard-handed}
 use Rattle.claims.proofs.NotEmpty.{runs-exist}
 use Rattle.claims.proofs.ReceiverUnopened.{receiver-unopened}
 
@@ -14,7 +16,11 @@ pub receiver-claims : Receiver-claims
 receiver-claims = record {
   demand-3 = demand-3 receiverLayout;
   no-choice = no-choice;
+  places = every-place receiverLayout;
   hands-out = hands-out receiverLayout;
+  goes-on = chain-goes-on;
+  heard = heard;
+  heard-handed = heard-handed receiverLayout;
   runs-exist = runs-exist;
   reads = reads;
   sender-fills = sender-fills;

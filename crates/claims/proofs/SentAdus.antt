@@ -39,13 +39,13 @@ pub junk-gives : Junk-gives
 junk-gives s qs base offset all f a c p flow adu h n = sym (h .held f a) ∙ carried-stretch (s .size) offset all f c p (symbolCount (s .size) (length adu)) n
 
 -- Where a filling holds an ADU from a position on, its first symbol stands there, and says its length.
-first-here : (E : ℕ) → 0 < E → (f : Filling E) (p flow : ℕ) (adu : List ℕ)
+pub first-here : (E : ℕ) → 0 < E → (f : Filling E) (p flow : ℕ) (adu : List ℕ)
     → symbolsAt E f p (symbolCount E (length adu)) ≡ sourceSymbols flow adu E → bytesOf E (f p) ≡ getD (sourceSymbols flow adu E) 0 []
 first-here E z f p flow adu e =
     ap (λ q. bytesOf E (f q)) (sym (add-zero p)) ∙ sym (getD-at E f p (symbolCount E (length adu)) 0 (symbols-some E (length adu) z))
     ∙ ap (λ (l : List (List ℕ)). getD l 0 []) e
 
-length-here : (E : ℕ) → 4 ≤ E → (f : Filling E) (p flow : ℕ) (adu : List ℕ) → length adu ≤ 65535
+pub length-here : (E : ℕ) → 4 ≤ E → (f : Filling E) (p flow : ℕ) (adu : List ℕ) → length adu ≤ 65535
     → symbolsAt E f p (symbolCount E (length adu)) ≡ sourceSymbols flow adu E → lengthIn (bytesOf E (f p)) ≡ length adu
 length-here E z f p flow adu h e = ap lengthIn (first-here E (omega arith) f p flow adu e) ∙ length-first flow adu E z h
 

@@ -1,5 +1,5 @@
--- The bench sheet of document 01 (C1 to C12), the small examples of its refusals, and cases at the limits of place and density, computed from the
--- definitions that the promises use, from the packets' bytes on: one table, one result.
+-- The bench sheet of document 01 (C1 to C12), the small examples of its refusals, cases at the limits of place and density, and cases of starts and of
+-- the ADU call, computed from the definitions that the promises use, from the packets' bytes on: one table, one result.
 use mathlib.Core.Path.{_≡_, refl}
 use mathlib.Core.Option.{Option, none, some}
 use mathlib.Core.List.{List, [], _∷_, map}
@@ -139,6 +139,11 @@ zero-at dt = repair-call (0 ∷ 1 ∷ dt * 16 ∷ 1 ∷ 0 ∷ 0 ∷ 0 ∷ 0 ∷ 
 abbrev symbol-at : (esi a b c d : ℕ) → Call
 symbol-at e a b c d = repair-call (0 ∷ 0 ∷ 0xF0 ∷ 1 ∷ 0 ∷ 0 ∷ 0 ∷ e ∷ a ∷ b ∷ c ∷ d ∷ [])
 
+-- the same in scheme 10, with key 1: its coefficient is 37 (C4)
+abbrev scaled-at : (esi a b c d : ℕ) → Call
+scaled-at e a b c d =
+    repair-call (0 ∷ 1 ∷ 0xF0 ∷ 1 ∷ 0 ∷ 0 ∷ 0 ∷ e ∷ product 37 a ∷ product 37 b ∷ product 37 c ∷ product 37 d ∷ [])
+
 -- the source packet of an ADU of five bytes, which takes two symbols, at ESI 0
 abbrev five : Call
 five = source-call 1 (0x11 ∷ 1 ∷ 0 ∷ 1 ∷ 0x55 ∷ 0 ∷ 0 ∷ 0 ∷ 0 ∷ [])
@@ -212,6 +217,8 @@ pub bench :
     ∷ handing-case (gf2 2) (adu 0x41 0 ∷ symbol-at 1 1 0 5 0x42 ∷ symbol-at 3 1 0 1 0x47 ∷ []) (ask 3 1 ∷ [])
     -- a position that becomes known marks the next in the same call, and so on
     ∷ handing-case (gf2 4) (symbol-at 1 1 0 1 0x42 ∷ symbol-at 2 1 0 1 0x43 ∷ symbol-at 0 1 0 1 0x41 ∷ []) (ask 0 1 ∷ ask 1 1 ∷ ask 2 1 ∷ ask 3 1 ∷ [])
+    -- the same in scheme 10, with F 2
+    ∷ handing-case (gf256 4) (scaled-at 1 2 0 1 0x42 ∷ scaled-at 0 2 0 1 0x41 ∷ []) (ask 0 1 ∷ ask 1 1 ∷ ask 2 1 ∷ [])
     -- a start inside of an ADU, marked by a packet that agrees with it: the filling's bytes from there on, which are no ADU of the sender's
     ∷ handing-case (gf2 2) (five ∷ adu 0x55 1 ∷ []) (ask 0 5 ∷ ask 1 1 ∷ [])
     ∷ []
@@ -242,6 +249,7 @@ pub bench :
     ∷ handed (value 1 ∷ value 1 ∷ value 1 ∷ value 1 ∷ []) (hands 1 (0x47 ∷ []) ∷ [])
     ∷ handed (value 1 ∷ value 1 ∷ value 1 ∷ []) (withholds 13 ∷ [])
     ∷ handed (value 1 ∷ value 1 ∷ value 1 ∷ []) (hands 1 (0x41 ∷ []) ∷ hands 1 (0x42 ∷ []) ∷ hands 1 (0x43 ∷ []) ∷ withholds 12 ∷ [])
+    ∷ handed (value 1 ∷ value 1 ∷ []) (hands 2 (0x41 ∷ []) ∷ hands 2 (0x42 ∷ []) ∷ withholds 12 ∷ [])
     ∷ handed (value 2 ∷ value 0 ∷ []) (hands 1 (0x11 ∷ 1 ∷ 0 ∷ 1 ∷ 0x55 ∷ []) ∷ hands 1 (0x55 ∷ []) ∷ [])
     ∷ []
 unfolding

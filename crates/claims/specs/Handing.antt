@@ -1,22 +1,22 @@
--- Handing out an ADU: what is claimed of the ADU call after every list of packet calls from a fresh receiver.
+-- Handing out an ADU: what is claimed of the ADU call after every list of packet calls from a fresh receiver, and that positions become starts.
 use mathlib.Core.Path.{_≡_}
 use mathlib.Core.Logic.{_↔_}
 use mathlib.Core.Bool.{Bool, true}
 use mathlib.Core.Option.{none, some}
-use mathlib.Core.List.{List, _++_}
+use mathlib.Core.List.{List, _∷_, _++_}
 use Prim.Native.Nat.{ℕ, _+_, _^_, _≤_, _<_}
 use lib.ListN.{length, drop}
 use Rattle.wire.specs.declared.Setting.{Setting}
-use Rattle.wire.specs.Settings.{settingOf}
-use Rattle.wire.specs.Packets.{symbolCount, sourceSymbols}
+use Rattle.wire.specs.Settings.{settingOf, Valid}
+use Rattle.wire.specs.Packets.{symbolCount, sourceSymbols, sourceAdu}
 use Rattle.starts.specs.declared.Handed.{Handed}
 use Rattle.starts.specs.declared.Handed.the-variants.{Adu}
 use Rattle.starts.specs.Adu.{View, withholds, handing, HandedAs}
 use Rattle.receiver.specs.declared.Answer.{Answer}
 use Rattle.receiver.specs.Symbol.{bytesOf}
-use Rattle.receiver.specs.History.{Filling, symbolsAt, Located, All, Known, baseOf, value, Start}
+use Rattle.receiver.specs.History.{Filling, symbolsAt, Located, first, All, Consistent, Known, source-call, located, baseOf, value, IsValue, Named, Start}
 use Rattle.receiver.specs.Promises.{Layout, said, Opened, AduAnswered}
-use Rattle.claims.specs.Run.{Step, Run, final, history}
+use Rattle.claims.specs.Run.{Step, Run, final, read, history}
 use Rattle.claims.specs.Demand.{esi}
 
 module _ (s : Setting) where
@@ -52,6 +52,7 @@ module _ (L : Layout) (s : Setting) (m : List ℕ) (qs : List Located) (base : �
         → ((a ≡ Adu flow (length adu)) × (out′ ≡ adu ++ drop (length adu) out))
         ↔ (Start s qs (base + d) × HoldsAdu s qs base (base + d) flow adu × (length adu ≤ length out))
 
+  -- `told` leaves no choice of what is seen and marked, since some filling exists (demand 3).
   pub record Handed-out : Type 0 where
     pub see : View
     pub marked : ℕ → Bool
@@ -64,3 +65,33 @@ Hands-out L =
     (scheme E w : ℕ) (m₀ m : List ℕ) (a : Answer) → Opened L scheme E w m₀ m a → said a ≡ value 0
     → (ts : List Step) → Run L m ts
     → (s : Setting) × (settingOf scheme E w ≡ some s) × Handed-out L s (final m ts) (history s ts .accepted) (baseOf (history s ts))
+
+-- ---- Positions become starts
+
+-- Where a start has an ADU's symbols in every filling, inside the window, the position after its last symbol is a start too. Some filling satisfies the
+-- accepted packets by demand 3.
+abbrev pub Goes-on : Type 0
+Goes-on =
+    (s : Setting) → Valid s → (ts : List Step) → Consistent (s .size) (history s ts .accepted)
+    → (p flow : ℕ) (adu : List ℕ) → Start s (history s ts .accepted) p → HoldsAdu s (history s ts .accepted) (baseOf (history s ts)) p flow adu
+    → Start s (history s ts .accepted) (p + symbolCount (s .size) (length adu))
+
+-- The first position of an accepted source packet, and the one after its last, are starts as long as the base has not passed them, whatever packets
+-- are accepted later.
+abbrev pub Heard : Type 0
+Heard =
+    (s : Setting) (ts : List Step) (later earlier : List Located) (q : Located) → history s ts .accepted ≡ later ++ (q ∷ earlier)
+    → (p : ℕ) → Named s q p → baseOf (history s ts) ≤ p → Start s (history s ts .accepted) p
+
+-- So where a source packet's call answered a count, the ADU call at its first position hands out its ADU with its flow, where output has room: as long
+-- as the base has not passed that position, whatever calls come after.
+abbrev pub Heard-handed : Layout → Type 0
+Heard-handed L =
+    (s : Setting) → Valid s → (before : List Step) (t : Step) (after : List Step) (m : List ℕ)
+    → let l = history s (before ++ (t ∷ after)) in
+    Handed-out L s m (l .accepted) (baseOf l)
+    → (flow : ℕ) (packet : List ℕ) (q : Located) → t .call ≡ source-call flow packet → read s (history s before) t ≡ located q → IsValue (said (t .answer))
+    → baseOf l ≤ first q
+    → (out out′ : List ℕ) (a : Handed) → AduAnswered L m (esi (first q)) out out′ a
+    → let adu = sourceAdu packet in
+    length adu ≤ length out → (a ≡ Adu flow (length adu)) × (out′ ≡ adu ++ drop (length adu) out)

@@ -3,6 +3,7 @@ pub mod Unopened
 pub mod Run
 pub mod Carrying
 pub mod Demand
+pub mod Placing
 pub mod Sent
 pub mod Reading
 pub mod NotEmpty

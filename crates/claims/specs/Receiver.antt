@@ -1,7 +1,8 @@
 -- All that is claimed of the receiver, at the layout that its calls have.
 use Rattle.receiver.specs.Layout.{receiverLayout}
 use Rattle.claims.specs.Demand.{Every-list, No-choice}
-use Rattle.claims.specs.Handing.{Hands-out}
+use Rattle.claims.specs.Placing.{Every-place}
+use Rattle.claims.specs.Handing.{Hands-out, Goes-on, Heard, Heard-handed}
 use Rattle.claims.specs.Reading.{Reads}
 use Rattle.claims.specs.Sent.{Sender-fills, Sent-accepted, Sent-shown}
 use Rattle.claims.specs.SentAdus.{Sender-sends, Start-gives, Junk-gives, Sent-written, Sent-starts, Sent-handed}
@@ -11,7 +12,11 @@ use Rattle.claims.specs.ReceiverUnopened.{Receiver-unopened}
 pub record Receiver-claims : Type 0 where
   pub demand-3 : Every-list receiverLayout
   pub no-choice : No-choice
+  pub places : Every-place receiverLayout
   pub hands-out : Hands-out receiverLayout
+  pub goes-on : Goes-on
+  pub heard : Heard
+  pub heard-handed : Heard-handed receiverLayout
   pub runs-exist : Runs-exist
   pub reads : Reads
   pub sender-fills : Sender-fills

@@ -82,7 +82,7 @@ Sent-starts =
     (t s : Setting) (l : List SenderCall) → Peers t s l → (ts : List Step) → AsSent s l fresh ts
     → (p : ℕ) → Start s (history s ts .accepted) p → Boundary (s .size) l p
 
--- And what is handed out is an ADU that it took, with its flow.
+-- And an ADU that every filling holds at a start is one that it took, with its flow. Together with `handed` this is what the ADU call hands out.
 abbrev pub Sent-handed : Type 0
 Sent-handed =
     (t s : Setting) (l : List SenderCall) → Peers t s l → (ts : List Step) → AsSent s l fresh ts

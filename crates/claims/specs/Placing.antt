@@ -1,0 +1,37 @@
+-- The place of a symbol: what is claimed of the call for it after every list of packet calls from a fresh receiver.
+use mathlib.Core.Path.{_≡_}
+use mathlib.Core.Option.{some}
+use mathlib.Core.List.{List}
+use Prim.Native.Nat.{ℕ, _+_, _^_, _≤_, _<_}
+use Rattle.memory.specs.Part.{part}
+use Rattle.wire.specs.declared.Setting.{Setting}
+use Rattle.wire.specs.Settings.{settingOf}
+use Rattle.receiver.specs.declared.Answer.{Answer}
+use Rattle.receiver.specs.Symbol.{bytesOf}
+use Rattle.receiver.specs.History.{Filling, Located, All, Known, baseOf, value, refusal}
+use Rattle.receiver.specs.Promises.{Layout, said, Opened, PlaceAnswered}
+use Rattle.claims.specs.Run.{Step, Run, final, history}
+use Rattle.claims.specs.Demand.{esi}
+
+-- After the packets `qs` were accepted, when the receiver's memory is m: of whatever the call may answer by its promise.
+module _ (L : Layout) (s : Setting) (m : List ℕ) (qs : List Located) where
+  open Setting s using (size as E, width)
+
+  -- A position in the window: where it is known, the E bytes at the answer are those that every filling holds there; else the call answers 12.
+  pub record PlacedExactly (p : ℕ) : Type 0 where
+    pub known : (a : Answer) → PlaceAnswered L m (esi p) a → Known E qs p
+        → (at : ℕ) × (said a ≡ value at) × ((f : Filling E) → All E qs f → part at E m ≡ bytesOf E (f p))
+    pub unknown : (a : Answer) → PlaceAnswered L m (esi p) a → ¬ Known E qs p → said a ≡ refusal 12
+
+  -- Past the window 12, from 2^31 on 8.
+  pub record Placed (base : ℕ) : Type 0 where
+    pub window : (i : ℕ) → i < width → PlacedExactly (base + i)
+    pub past : (d : ℕ) → width ≤ d → d < 2 ^ 31 → (a : Answer) → PlaceAnswered L m (esi (base + d)) a → said a ≡ refusal 12
+    pub behind : (d : ℕ) → 2 ^ 31 ≤ d → d < 2 ^ 32 → (a : Answer) → PlaceAnswered L m (esi (base + d)) a → said a ≡ refusal 8
+
+-- From memory on which opening has just answered 0, after every list of packet calls.
+abbrev pub Every-place : Layout → Type 0
+Every-place L =
+    (scheme E w : ℕ) (m₀ m : List ℕ) (a : Answer) → Opened L scheme E w m₀ m a → said a ≡ value 0
+    → (ts : List Step) → Run L m ts
+    → (s : Setting) × (settingOf scheme E w ≡ some s) × Placed L s (final m ts) (history s ts .accepted) (baseOf (history s ts))
