@@ -52,7 +52,7 @@ module _ (L : Layout) (s : Setting) (m : List ℕ) (qs : List Located) (base : �
         → ((a ≡ Adu flow (length adu)) × (out′ ≡ adu ++ drop (length adu) out))
         ↔ (Start s qs (base + d) × HoldsAdu s qs base (base + d) flow adu × (length adu ≤ length out))
 
-  -- `told` leaves no choice of what is seen and marked, since some filling exists (demand 3).
+  -- `told` leaves no choice of what is seen, nor of what is marked up to the width, since some filling exists (demand 3).
   pub record Handed-out : Type 0 where
     pub see : View
     pub marked : ℕ → Bool
