@@ -17,7 +17,7 @@ use Rattle.starts.specs.declared.Handed.the-variants.{Adu}
 use Rattle.starts.proofs.Chaining.{symbols-some}
 use Rattle.receiver.specs.Symbol.{bytesOf, symbolOf}
 use Rattle.receiver.specs.History.{Filling, symbolsAt, Located, source, repair, Satisfied, All, Consistent, Known, Reading, fails, located, first}
-use Rattle.receiver.specs.History.{readSource, readPacket, Log, fresh, baseOf, Said, value, refusal, IsValue, logged, baseAfter, Spanned, Named}
+use Rattle.receiver.specs.History.{readSource, readPacket, Log, fresh, baseOf, Said, value, refusal, IsValue, logged, baseAfter, Spanned, MarkedBy}
 use Rattle.receiver.specs.History.{already, later, Start}
 use Rattle.receiver.specs.Promises.{Layout, said, AduAnswered}
 use Rattle.receiver.proofs.Says.{symbol-bytes}
@@ -79,12 +79,12 @@ module _ (s : Setting) where
   -- ---- A source packet's positions
 
   -- The window reaches as far as a packet that was accepted.
-  named-high : (q : Located) (p base : ℕ) → Named s q p → baseAfter s (q ∷ []) ≤ base → p ≤ base + width
+  named-high : (q : Located) (p base : ℕ) → MarkedBy s q p → baseAfter s (q ∷ []) ≤ base → p ≤ base + width
   named-high (source x symbols) p base (inl e) h = omega (arith, e, h)
   named-high (source x symbols) p base (inr e) h = omega (arith, e, h)
   named-high (repair x n coefficients symbols) p base e h = absurd e
 
-  stays : (newer older : List Located) (q : Located) (p : ℕ) → Named s q p → baseAfter s (newer ++ (q ∷ older)) ≤ p → Start s (newer ++ (q ∷ older)) p
+  stays : (newer older : List Located) (q : Located) (p : ℕ) → MarkedBy s q p → baseAfter s (newer ++ (q ∷ older)) ≤ p → Start s (newer ++ (q ∷ older)) p
   stays [] older q p e h = already (inr e) (record { low = h; high = named-high q p (baseAfter s (q ∷ older)) e (omega arith) })
   stays (x ∷ newer) older q p e h =
       let r = stays newer older q p e (omega (arith, h)) in

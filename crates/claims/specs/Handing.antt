@@ -14,7 +14,7 @@ use Rattle.starts.specs.declared.Handed.the-variants.{Adu}
 use Rattle.starts.specs.Adu.{View, withholds, handing, HandedAs}
 use Rattle.receiver.specs.declared.Answer.{Answer}
 use Rattle.receiver.specs.Symbol.{bytesOf}
-use Rattle.receiver.specs.History.{Filling, symbolsAt, Located, first, All, Consistent, Known, source-call, located, baseOf, value, IsValue, Named, Start}
+use Rattle.receiver.specs.History.{Filling, symbolsAt, Located, first, All, Consistent, Known, source-call, located, baseOf, value, IsValue, MarkedBy, Start}
 use Rattle.receiver.specs.Promises.{Layout, said, Opened, AduAnswered}
 use Rattle.claims.specs.Run.{Step, Run, final, read, history}
 use Rattle.claims.specs.Demand.{esi}
@@ -81,7 +81,7 @@ Goes-on =
 abbrev pub Heard : Type 0
 Heard =
     (s : Setting) (ts : List Step) (later earlier : List Located) (q : Located) → history s ts .accepted ≡ later ++ (q ∷ earlier)
-    → (p : ℕ) → Named s q p → baseOf (history s ts) ≤ p → Start s (history s ts .accepted) p
+    → (p : ℕ) → MarkedBy s q p → baseOf (history s ts) ≤ p → Start s (history s ts .accepted) p
 
 -- So where a source packet's call answered a count, the ADU call at its first position hands out its ADU with its flow, where output has room: as long
 -- as the base has not passed that position, whatever calls come after.
