@@ -5,19 +5,10 @@ mod reference;
 
 use reference::coefficients::{coefficients, combination, keys};
 use reference::equations::Equation;
+use reference::figures::{FIGURE_10, FIGURE_9};
 use reference::generator::Generator;
 use reference::random::Random;
 use reference::{dense, field, repair_packet, Field, Receiver, Sender, Setting};
-
-const FIGURE_9: [u8; 50] = [
-    37, 225, 177, 176, 21, 246, 54, 139, 168, 237, 211, 187, 62, 190, 104, 135, 210, 99, 176, 11, 207, 35, 40, 113, 179, 214, 254, 101,
-    212, 211, 226, 41, 234, 232, 203, 29, 194, 211, 112, 107, 217, 104, 197, 135, 23, 89, 210, 252, 109, 166,
-];
-
-const FIGURE_10: [u8; 50] = [
-    5, 1, 1, 0, 5, 6, 6, 11, 8, 13, 3, 11, 14, 14, 8, 7, 2, 3, 0, 11, 15, 3, 8, 1, 3, 6, 14, 5, 4, 3, 2, 9, 10, 8, 11, 13, 2, 3, 0, 11, 9,
-    8, 5, 7, 7, 9, 2, 12, 13, 6,
-];
 
 #[test]
 fn figures_9_and_10() {

@@ -8,6 +8,7 @@ pub mod coefficients;
 pub mod dense;
 pub mod equations;
 pub mod field;
+pub mod figures;
 pub mod generator;
 pub mod random;
 pub mod receiver;
