@@ -3,7 +3,7 @@ use mathlib.Core.Path.{_≡_, refl, sym, ap, _∙_}
 use mathlib.Core.Bool.{Bool, true, false, cond}
 use mathlib.Core.List.{List, [], _∷_, _++_, append-assoc, append-nil}
 use Prim.Native.Nat.{ℕ, zero, suc, _+_, _-_, _*_, _≤_, _<_}
-use native.Mathlib.Nat.{le-of-eq, le-of-suc-le-suc, not-suc-le-zero, suc-mul, zero-mul}
+use native.Mathlib.Nat.{le-of-eq, le-of-suc-le-suc, not-suc-le-zero, add-zero, zero-add, suc-mul, zero-mul}
 use native.Mathlib.Numerals.{add-one}
 use native.Mathlib.Omega.{arith}
 use lib.ListN.{length, take, drop, getD, set, replicate, length-append, length-replicate, length-take, take-append-drop}
@@ -19,87 +19,98 @@ use Rattle.wire.specs.declared.Scheme.the-variants.{Gf2}
 use Rattle.coefficients.specs.declared.Coefficient.{Coefficient}
 use Rattle.coefficients.specs.declared.Filled.{Filled}
 use Rattle.coefficients.specs.declared.Filled.the-variants.{Done, Refused}
-use Rattle.coefficients.specs.Coefficients.{coefficientOf, Coefficients, coefficientsOf, keys, listsOf, allOk}
+use Rattle.coefficients.specs.Coefficients.{coefficientOf, Coefficients, coefficientsOf, keys, listsOf, allOk, drawsOf}
 use Rattle.coefficients.specs.Promises.{filledOf, Fills, FillsLists}
-use Rattle.coefficients.proofs.Lists.{extend-ok, list-more, list-length, refused-stays, ones, length-keys}
+use Rattle.coefficients.proofs.Lists.{extend-ok, list-more, list-length, refused-stays, ones, length-keys, coefficient-draws, list-draws, packet-draws}
 
--- the first i bytes of out are the first i coefficients, none was refused, and state are the words after them
-pub record Partly (scheme : Scheme) (key dt : ℕ) (out state : List ℕ) (i : ℕ) : Type 0 where
+-- the first i bytes of out are the first i coefficients, none was refused, they took so many draws, and state are the words after them
+pub record Partly (scheme : Scheme) (key dt : ℕ) (out state : List ℕ) (drawn i : ℕ) : Type 0 where
   pub list : take i out ≡ coefficientsOf scheme key dt i .list
   pub ok : coefficientsOf scheme key dt i .ok ≡ true
+  pub draws : drawn ≡ coefficientsOf scheme key dt i .draws
   pub words : state ≡ coefficientsOf scheme key dt i .state
 
-pub partly-none : (scheme : Scheme) (key dt : ℕ) (out : List ℕ) {state : List ℕ} → state ≡ startOf key → Partly scheme key dt out state 0
+pub partly-none : (scheme : Scheme) (key dt : ℕ) (out : List ℕ) {state : List ℕ} → state ≡ startOf key → Partly scheme key dt out state 0 0
 unfolding coefficientsOf
-partly-none scheme key dt out e = record { list = refl; ok = refl; words = e }
+partly-none scheme key dt out e = record { list = refl; ok = refl; draws = refl; words = e }
 
-module _ {scheme : Scheme} {key dt : ℕ} {out state : List ℕ} {i : ℕ} (f : Partly scheme key dt out state i) where
+module _ {scheme : Scheme} {key dt : ℕ} {out state : List ℕ} {drawn i : ℕ} (f : Partly scheme key dt out state drawn i) where
   module _ {c : Coefficient} (ec : c ≡ coefficientOf scheme dt state) where
     next : coefficientsOf scheme key dt (i + 1) ≡ record {
       list = take i out ++ cond (c .ok) (c .value ∷ []) [];
       ok = c .ok;
-      draws = coefficientsOf scheme key dt i .draws + c .draws;
+      draws = drawn + c .draws;
       state = c .state;
     }
-    next = rw (list-more scheme key dt i, f .list, extend-ok scheme dt (coefficientsOf scheme key dt i) (f .ok) (rw (f .words) at ec))
+    next = rw (list-more scheme key dt i, f .list, f .draws, extend-ok scheme dt (coefficientsOf scheme key dt i) (f .ok) (rw (f .words) at ec))
 
-    pub partly-more : i < length out → c .ok ≡ true → Partly scheme key dt (set out i (c .value)) (c .state) (i + 1)
-    partly-more h e = record { list = rw (next, e, add-one, take-suc-set); ok = rw next e; words = rw next }
+    pub partly-more : i < length out → c .ok ≡ true → Partly scheme key dt (set out i (c .value)) (c .state) (drawn + c .draws) (i + 1)
+    partly-more h e = record { list = rw (next, e, add-one, take-suc-set); ok = rw next e; draws = rw next; words = rw next }
+
+    -- no more than 17 draws for each
+    pub next-draws : c .draws ≤ 17
+    next-draws = rw ec (coefficient-draws scheme dt state)
 
     pub partly-refused : (n : ℕ) → i < n → c .ok ≡ false → coefficientsOf scheme key dt n .ok ≡ false
     partly-refused n h e = refused-stays scheme key dt (i + 1) n (rw add-one h) (rw next e)
+
+  pub partly-draws : drawn ≤ 17 * i
+  partly-draws = rw (f .draws) (list-draws scheme key dt i)
 
   pub partly-all : i ≡ length out → out ≡ coefficientsOf scheme key dt i .list
   partly-all e = sym (take-all i out (le-of-eq (sym e))) ∙ f .list
 
 -- ---- one list
 
-pub fills-done : {l : Coefficients} {out out′ : List ℕ} → l .ok ≡ true → length out′ ≡ length out → out′ ≡ l .list → Fills l out Done out′
-fills-done e s f = record { answer = rw e; size = s; bytes = λ _. f }
+pub fills-done : {l : Coefficients} {out out′ : List ℕ} {d : ℕ} → l .ok ≡ true → d ≡ l .draws → length out′ ≡ length out → out′ ≡ l .list
+    → Fills l out (Done d) out′
+fills-done e k s f = record { answer = rw (e, k); size = s; bytes = λ _ _. f }
 
 pub fills-refused : {l : Coefficients} {out out′ : List ℕ} → l .ok ≡ false → length out′ ≡ length out → Fills l out Refused out′
-fills-refused e s = record { answer = rw e; size = s; bytes = λ f. cc }
+fills-refused e s = record { answer = rw e; size = s; bytes = λ d f. cc }
 
-done-true : (b : Bool) → Done ≡ filledOf b → b ≡ true
-done-true true h = refl
-done-true false h = cc
+done-true : (b : Bool) (d n : ℕ) → Done d ≡ filledOf b n → (b ≡ true) × (d ≡ n)
+done-true true d n h = (refl, cc)
+done-true false d n h = (cc, cc)
 
-refused-false : (b : Bool) → Refused ≡ filledOf b → b ≡ false
-refused-false true h = cc
-refused-false false h = refl
+refused-false : (b : Bool) (n : ℕ) → Refused ≡ filledOf b n → b ≡ false
+refused-false true n h = cc
+refused-false false n h = refl
 
 -- all ones, where GF(2) has the density threshold 15
 pub fills-ones : (scheme : Scheme) (key dt : ℕ) (out out′ : List ℕ) → scheme ≡ Gf2 → dt ≡ 15 → out′ ≡ replicate (length out) 1
-    → Fills (coefficientsOf scheme key dt (length out)) out Done out′
+    → Fills (coefficientsOf scheme key dt (length out)) out (Done 0) out′
 fills-ones scheme key dt out out′ q d e = rw (q, d, e, ones key (length out)) (record {
   answer = refl;
   size = length-replicate (length out) 1;
-  bytes = λ _. refl;
+  bytes = λ _ _. refl;
 })
 
 module _ {l : Coefficients} {out : List ℕ} {r : Filled} {out′ : List ℕ} (f : Fills l out r out′) where
-  pub fills-was-done : r ≡ Done → l .ok ≡ true
-  fills-was-done e = done-true (l .ok) (sym e ∙ f .answer)
+  pub fills-was-done : {d : ℕ} → r ≡ Done d → (l .ok ≡ true) × (d ≡ l .draws)
+  fills-was-done e = done-true (l .ok) _ _ (sym e ∙ f .answer)
 
   pub fills-was-refused : r ≡ Refused → l .ok ≡ false
-  fills-was-refused e = refused-false (l .ok) (sym e ∙ f .answer)
+  fills-was-refused e = refused-false (l .ok) _ (sym e ∙ f .answer)
 
 -- ---- the lists of a packet
 
--- after i lists: those still to come, from the key on, and the bytes before them give all that was asked; the bytes past them are as they were
-pub record Listed (scheme : Scheme) (dt n first count : ℕ) (out₀ out : List ℕ) (key i : ℕ) : Type 0 where
+-- after i lists: those still to come, from the key on, and the bytes and draws before them give all that was asked; the bytes past them are as they
+-- were
+pub record Listed (scheme : Scheme) (dt n first count : ℕ) (out₀ out : List ℕ) (key drawn i : ℕ) : Type 0 where
   pub size : length out ≡ length out₀
   pub ok : allOk scheme dt n (keys first count) ≡ allOk scheme dt n (keys key (count - i))
+  pub draws : drawsOf scheme dt n (keys first count) ≡ drawn + drawsOf scheme dt n (keys key (count - i))
   pub bytes : joined (listsOf scheme dt n (keys first count)) ≡ take (i * n) out ++ joined (listsOf scheme dt n (keys key (count - i)))
   pub past : drop (i * n) out ≡ drop (i * n) out₀
 
-pub listed-none : (scheme : Scheme) (dt n first count : ℕ) (out : List ℕ) → Listed scheme dt n first count out out first 0
+pub listed-none : (scheme : Scheme) (dt n first count : ℕ) (out : List ℕ) → Listed scheme dt n first count out out first 0 0
 listed-none scheme dt n first count out =
     let e : count - 0 ≡ count = omega arith in
-    record { size = refl; ok = rw e; bytes = rw (e, zero-mul); past = refl }
+    record { size = refl; ok = rw e; draws = rw (e, zero-add); bytes = rw (e, zero-mul); past = refl }
 
-module _ {scheme : Scheme} {dt n first count : ℕ} {out₀ out : List ℕ} {key i : ℕ} (room : count * n ≤ length out₀) (below : i < count)
-    (l : Listed scheme dt n first count out₀ out key i) where
+module _ {scheme : Scheme} {dt n first count : ℕ} {out₀ out : List ℕ} {key drawn i : ℕ} (room : count * n ≤ length out₀) (below : i < count)
+    (l : Listed scheme dt n first count out₀ out key drawn i) where
   -- the bytes that are lent for list i
   abbrev lent : List ℕ
   lent = take (i * n + n - i * n) (drop (i * n) out)
@@ -130,18 +141,19 @@ module _ {scheme : Scheme} {dt n first count : ℕ} {out₀ out : List ℕ} {key
         past-splice k (i * n) x out (omega (arith, lengthed)) (omega (arith, fits))
         ∙ rw e (sym (drop-drop (k - i * n) (i * n) out) ∙ ap (drop (k - i * n)) (l .past) ∙ drop-drop (k - i * n) (i * n) out₀)
 
-    pub listed-more : r ≡ Done
-        → Listed scheme dt n first count out₀ (take (i * n) out ++ (x ++ drop (i * n + n - i * n) (drop (i * n) out))) (keyAfter key) (i + 1)
+    pub listed-more : {more : ℕ} → r ≡ Done more
+        → Listed scheme dt n first count out₀ (take (i * n) out ++ (x ++ drop (i * n + n - i * n) (drop (i * n) out))) (keyAfter key) (drawn + more) (i + 1)
     listed-more d =
-        let k : coefficientsOf scheme key dt n .ok ≡ true = rw lent-length at (fills-was-done f d) in
-        let e : x ≡ coefficientsOf scheme key dt n .list = rw lent-length at (f .bytes d) in
+        let (k, z) = rw lent-length at (fills-was-done f d) in
+        let e : x ≡ coefficientsOf scheme key dt n .list = rw lent-length at (f .bytes _ d) in
         let m : (i + 1) * n ≡ i * n + n = rw add-one (suc-mul i n) in
         let o = rw (left, k) at (l .ok) in
         let b = rw (left, ← e, ← append-assoc (take (i * n) out) x) at (l .bytes) in
         let g : length (take (i * n) out ++ x) ≡ i * n + n = simp (length-append, length-take) (omega (arith, fits, lengthed)) in
         let h : take (i * n + n) (take (i * n) out ++ (x ++ drop (i * n + n - i * n) (drop (i * n) out))) ≡ take (i * n) out ++ x =
         rw (← append-assoc (take (i * n) out) x) (take-at (take (i * n) out ++ x) _ (i * n + n) g) in
-        record { size = rw spliced resized; ok = o; bytes = rw (m, h) b; past = rw (m, spliced) (passed (i * n + n) (omega arith)) }
+        let t = rw left at (l .draws) in
+        record { size = rw spliced resized; ok = o; draws = omega (arith, t, z); bytes = rw (m, h) b; past = rw (m, spliced) (passed (i * n + n) (omega arith)) }
 
     pub lists-refused : r ≡ Refused
         → FillsLists scheme dt n (keys first count) out₀ Refused (take (i * n) out ++ (x ++ drop (i * n + n - i * n) (drop (i * n) out)))
@@ -150,29 +162,35 @@ module _ {scheme : Scheme} {dt n first count : ℕ} {out₀ out : List ℕ} {key
         record {
           answer = rw (l .ok, left, k);
           size = rw spliced resized;
-          bytes = λ e. cc;
+          bytes = λ d e. cc;
           past = rw (length-keys first count, spliced) (passed (count * n) (row-fits count n i below));
         }
 
-pub lists-done : {scheme : Scheme} {dt n first count : ℕ} {out₀ out : List ℕ} {key : ℕ} → Listed scheme dt n first count out₀ out key count
-    → FillsLists scheme dt n (keys first count) out₀ Done out
+-- the draws so far are no more than those of a whole packet
+pub listed-draws : {scheme : Scheme} {dt n first count : ℕ} {out₀ out : List ℕ} {key drawn i : ℕ} → n ≤ 255 → count ≤ 16
+    → Listed scheme dt n first count out₀ out key drawn i → drawn ≤ 69360
+listed-draws {scheme = scheme} {dt = dt} {n = n} {first = first} {count = count} h k l =
+    omega (arith, l .draws, packet-draws scheme dt n h (keys first count) (rw (length-keys first count) k))
+
+pub lists-done : {scheme : Scheme} {dt n first count : ℕ} {out₀ out : List ℕ} {key drawn : ℕ} → Listed scheme dt n first count out₀ out key drawn count
+    → FillsLists scheme dt n (keys first count) out₀ (Done drawn) out
 lists-done {n = n} {first = first} {count = count} {out = out} l =
     let z : count - count ≡ 0 = omega arith in
     let b = rw (z, append-nil) at (l .bytes) in
     record {
-      answer = rw (l .ok, z);
+      answer = rw (l .ok, l .draws, z, add-zero);
       size = l .size;
-      bytes = λ e. rw (length-keys first count, b, ← l .past) (sym (take-append-drop (count * n) out));
+      bytes = λ d e. rw (length-keys first count, b, ← l .past) (sym (take-append-drop (count * n) out));
       past = rw (length-keys first count) (l .past);
     }
 
 -- what a caller learns from the answer
 module _ {scheme : Scheme} {dt n : ℕ} {ks out : List ℕ} {r : Filled} {out′ : List ℕ} (f : FillsLists scheme dt n ks out r out′) where
-  pub lists-were-done : r ≡ Done → allOk scheme dt n ks ≡ true
-  lists-were-done e = done-true (allOk scheme dt n ks) (sym e ∙ f .answer)
+  pub lists-were-done : {d : ℕ} → r ≡ Done d → (allOk scheme dt n ks ≡ true) × (d ≡ drawsOf scheme dt n ks)
+  lists-were-done e = done-true (allOk scheme dt n ks) _ _ (sym e ∙ f .answer)
 
   pub lists-were-refused : r ≡ Refused → allOk scheme dt n ks ≡ false
-  lists-were-refused e = refused-false (allOk scheme dt n ks) (sym e ∙ f .answer)
+  lists-were-refused e = refused-false (allOk scheme dt n ks) _ (sym e ∙ f .answer)
 
 -- list i, where the lists stand
 pub list-at : (scheme : Scheme) (dt n : ℕ) (ks rest : List ℕ) (i : ℕ) → allOk scheme dt n ks ≡ true → i < length ks

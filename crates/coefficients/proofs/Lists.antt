@@ -1,8 +1,8 @@
--- Laws of lists of coefficients: their lengths, that GF(2) never refuses and has zeros and ones only, that all are bytes.
+-- Laws of lists of coefficients: their lengths, that GF(2) never refuses and has zeros and ones only, that all are bytes, how many draws they take.
 use mathlib.Core.Path.{_≡_, refl, ap, _∙_}
 use mathlib.Core.Bool.{Bool, true, false, cond}
 use mathlib.Core.List.{List, [], _∷_, _++_}
-use Prim.Native.Nat.{ℕ, zero, suc, _+_, _^_, _%_, _≤_, _<_}
+use Prim.Native.Nat.{ℕ, zero, suc, _+_, _*_, _^_, _%_, _≤_, _<_}
 use native.Mathlib.Nat.{not-suc-le-zero, le-of-suc-le-suc}
 use native.Mathlib.Numerals.{add-one}
 use native.Mathlib.Decide.{le-ind}
@@ -15,7 +15,7 @@ use Rattle.wire.specs.Numbers.{keyAfter}
 use Rattle.wire.specs.declared.Scheme.{Scheme}
 use Rattle.wire.specs.declared.Scheme.the-variants.{Gf2, Gf256}
 use Rattle.coefficients.specs.declared.Coefficient.{Coefficient}
-use Rattle.coefficients.specs.Coefficients.{lastZero, nonzeroFrom, bitOf, byteOf, coefficientOf, Coefficients, extend, coefficientsOf, keys, allOk}
+use Rattle.coefficients.specs.Coefficients.{lastZero, nonzeroFrom, bitOf, byteOf, coefficientOf, Coefficients, extend, coefficientsOf, keys, allOk, drawsOf}
 
 -- one coefficient more after a list that was not refused, and after one that was
 module _ (scheme : Scheme) (dt : ℕ) (l : Coefficients) where
@@ -145,3 +145,36 @@ bits-ok key dt (suc n) = rw (bits-ok key dt n) (bit-ok dt (coefficientsOf Gf2 ke
 pub bits-all-ok : (dt n : ℕ) (l : List ℕ) → allOk Gf2 dt n l ≡ true
 bits-all-ok dt n [] = refl
 bits-all-ok dt n (key ∷ l) = rw (bits-ok key dt n) (bits-all-ok dt n l)
+
+-- ---- the draws
+
+-- one coefficient takes at most 17: rand16 and sixteen bytes
+nonzero-draws : (n k : ℕ) (s : List ℕ) → nonzeroFrom n k s .draws ≤ k + n
+unfolding nonzeroFrom
+nonzero-draws zero k s = omega arith
+nonzero-draws (suc n) k s =
+    cond-both (λ (c : Coefficient). c .draws ≤ k + suc n) (eqb (low8 (drawOf s .value)) 0)
+    (omega (arith, nonzero-draws n (k + 1) (drawOf s .state))) (omega arith)
+
+pub coefficient-draws : (scheme : Scheme) (dt : ℕ) (s : List ℕ) → coefficientOf scheme dt s .draws ≤ 17
+unfolding bitOf byteOf
+coefficient-draws Gf2 dt s = cond-both (λ (c : Coefficient). c .draws ≤ 17) (eqb dt 15) (omega arith) (omega arith)
+coefficient-draws Gf256 dt s =
+    cond-both (λ (c : Coefficient). c .draws ≤ 17) (eqb dt 15) (omega (arith, nonzero-draws lastZero 0 s))
+    (cond-both (λ (c : Coefficient). c .draws ≤ 17) (leb (low4 (drawOf s .value)) dt) (nonzero-draws lastZero 1 (drawOf s .state)) (omega arith))
+
+pub list-draws : (scheme : Scheme) (key dt n : ℕ) → coefficientsOf scheme key dt n .draws ≤ 17 * n
+unfolding coefficientsOf extend
+list-draws scheme key dt zero = omega arith
+list-draws scheme key dt (suc n) =
+    let l = coefficientsOf scheme key dt n in
+    cond-both (λ (r : Coefficients). r .draws ≤ 17 * suc n) (l .ok)
+    (omega (arith, list-draws scheme key dt n, coefficient-draws scheme dt (l .state))) (omega (arith, list-draws scheme key dt n))
+
+-- those of a packet within our sizes, 16 lists of 255, at most 69,360
+lists-draws : (scheme : Scheme) (dt n : ℕ) → n ≤ 255 → (ks : List ℕ) → drawsOf scheme dt n ks ≤ 4335 * length ks
+lists-draws scheme dt n h [] = omega arith
+lists-draws scheme dt n h (key ∷ ks) = omega (arith, list-draws scheme key dt n, lists-draws scheme dt n h ks)
+
+pub packet-draws : (scheme : Scheme) (dt n : ℕ) → n ≤ 255 → (ks : List ℕ) → length ks ≤ 16 → drawsOf scheme dt n ks ≤ 69360
+packet-draws scheme dt n h ks k = omega (arith, lists-draws scheme dt n h ks)

@@ -5,15 +5,15 @@ use native.Mathlib.Omega.{arith}
 use lib.ListN.{length}
 use borrow.Author.Needs.{needs}
 use Rattle.memory.proofs.Parts.{row-fits}
-use Rattle.coefficients.proofs.Fills.{Listed, listed-none, listed-more, lists-refused, lists-done}
+use Rattle.coefficients.proofs.Fills.{Listed, listed-none, lent-length, listed-more, listed-draws, lists-refused, lists-done}
 use Rattle.coefficients.proofs.fill_lists.Statement.{statement}
 use Rattle.coefficients.proofs.fill_lists.Tie as tie
 
 abbrev Inv-loop : tie.InvT-loop
-Inv-loop out₀ n scheme dt count key₀ i₀ out key i = (i ≤ count) × Listed scheme dt n (key₀ .0) count out₀ out (key .0) i
+Inv-loop out₀ n scheme dt count key₀ draws₀ i₀ out key draws i = (i ≤ count) × Listed scheme dt n (key₀ .0) count out₀ out (key .0) draws i
 
 abbrev μ-loop : tie.MeasureT-loop
-μ-loop out₀ n scheme dt count key₀ i₀ out key i = count - i
+μ-loop out₀ n scheme dt count key₀ draws₀ i₀ out key draws i = count - i
 
 -- list i ends within the output
 in-room : (p : tie.In-loop Inv-loop μ-loop) → let a = p .before .before .before .args in p .before .loop .i * a .n + a .n ≤ length (p .before .loop .out)
@@ -24,19 +24,31 @@ in-room p =
 loop-holds : tie.Need-loop-holds Inv-loop μ-loop
 loop-holds c = (omega arith, listed-none _ _ _ _ _ _)
 
+fill-requires : tie.Need-fill-requires Inv-loop μ-loop
+fill-requires c κs =
+    let q = c .before in
+    rw (lent-length (q .before .before .before .pre .0) (q .loop-test .taken) (q .before .loop .inv .1)) (q .before .before .before .pre .1)
+
 returns : tie.Need-returns Inv-loop μ-loop
 returns c =
     let p = c .before .before .before .before in
     let q = p .before .before in
     lists-refused (q .before .before .before .pre .0) (q .loop-test .taken) (q .before .loop .inv .1) (p .fill .ensures) (c .enum-told .given .1)
 
+add-draws : tie.Need-add-draws Inv-loop μ-loop
+add-draws c =
+    let p = c .before .before .before .before .before in
+    let q = p .before .before in
+    let a = q .before .before .before in
+    omega (arith, listed-draws (a .pre .1) (a .pre .2) (listed-more (a .pre .0) (q .loop-test .taken) (q .before .loop .inv .1) (p .fill .ensures) (c .before .more .given .1)))
+
 loop-again : tie.Need-loop-again Inv-loop μ-loop
 loop-again c =
-    let p = c .before .before .before .before .before in
+    let p = c .before .before .before .before .before .before in
     let q = p .before .before in (
       omega arith,
       rw (c .next .ensures)
-          (listed-more (q .before .before .before .pre .0) (q .loop-test .taken) (q .before .loop .inv .1) (p .fill .ensures) (c .before .enum-told2 .given .1)),
+          (listed-more (q .before .before .before .pre .0) (q .loop-test .taken) (q .before .loop .inv .1) (p .fill .ensures) (c .before .before .more .given .1)),
     )
 
 returns-2 : tie.Need-returns-2 Inv-loop μ-loop
@@ -56,11 +68,12 @@ fill-lists-spec =
     (λ c. omega (arith, in-room c))
     (λ c. omega (arith, in-room c))
     (λ c. omega (arith, in-room c))
-    (λ c κs. search needs)
+    fill-requires
+    (λ c. search needs)
     (λ c. search needs)
     (λ c. search needs)
     returns
-    (λ c. search needs)
+    add-draws
     (λ c κs. search needs)
     (λ c. search needs)
     (λ c. omega arith)
