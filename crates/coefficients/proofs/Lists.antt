@@ -12,10 +12,12 @@ use lib.Dec.{eqb, leb, lit<}
 use Rattle.tinymt.specs.Generator.{startOf, drawOf, low4, low8}
 use Rattle.memory.specs.Number.{Bytes}
 use Rattle.wire.specs.Numbers.{keyAfter}
+use Rattle.wire.specs.Packets.{Sized, repairPacket}
+use Rattle.wire.proofs.Reading.{repair-symbols, repair-key, density-threshold, protected-count}
 use Rattle.wire.specs.declared.Scheme.{Scheme}
 use Rattle.wire.specs.declared.Scheme.the-variants.{Gf2, Gf256}
 use Rattle.coefficients.specs.declared.Coefficient.{Coefficient}
-use Rattle.coefficients.specs.Coefficients.{lastZero, nonzeroFrom, bitOf, byteOf, coefficientOf, Coefficients, extend, coefficientsOf, keys, allOk, drawsOf}
+use Rattle.coefficients.specs.Coefficients.{lastZero, nonzeroFrom, bitOf, byteOf, coefficientOf, Coefficients, extend, coefficientsOf, keys, allOk, drawsOf, packetDraws}
 
 -- one coefficient more after a list that was not refused, and after one that was
 module _ (scheme : Scheme) (dt : ℕ) (l : Coefficients) where
@@ -178,3 +180,15 @@ lists-draws scheme dt n h (key ∷ ks) = omega (arith, list-draws scheme key dt 
 
 pub packet-draws : (scheme : Scheme) (dt n : ℕ) → n ≤ 255 → (ks : List ℕ) → length ks ≤ 16 → drawsOf scheme dt n ks ≤ 69360
 packet-draws scheme dt n h ks k = omega (arith, lists-draws scheme dt n h ks)
+
+-- a packet takes the draws of the lists that its symbols were made with
+pub written-draws : (scheme : Scheme) (key dt nss first E : ℕ) (xs : List (List ℕ)) → Sized E xs → 0 < E → key < 2 ^ 16 → dt < 16 → nss < 4096
+    → packetDraws scheme E (repairPacket key dt nss first xs) ≡ drawsOf scheme dt nss (keys key (length xs))
+unfolding packetDraws
+written-draws scheme key dt nss first E xs s z k d n =
+    rw (
+      repair-symbols key dt nss first E xs s z,
+      repair-key key dt nss first xs k,
+      density-threshold key dt nss first xs d n,
+      protected-count key dt nss first xs d n,
+    )

@@ -112,6 +112,7 @@ pub committed : (w E base rise k n : ℕ) (work m m₁ m₂ : List ℕ) → Fits
     → Committed w E base rise k n work m m₂
 committed w E base rise k n work m m₁ m₂ fits f g a c = record {
   unchanged = kept-trans (a .kept) (c .kept);
+  most = c .most;
   outcome = λ b S es e v r h.
       let start = a .moves b S e v in
       let T = place-rows (spelled w E (b + rise) work) k (advance-by rise S) in

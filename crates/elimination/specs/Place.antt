@@ -4,7 +4,7 @@ use mathlib.Core.Path.{_≡_}
 use mathlib.Core.Bool.{Bool, true, false}
 use mathlib.Core.List.{List}
 use mathlib.Core.Option.{none, some}
-use Prim.Native.Nat.{ℕ, _+_, _%_, _<_}
+use Prim.Native.Nat.{ℕ, _+_, _*_, _%_, _≤_, _<_}
 use Rattle.decoder.specs.Bytes.{Coded}
 use Rattle.decoder.specs.Model.{Row, State, Rref, known}
 use Rattle.decoder.specs.Receiver.{empty, advance-by, insert-all, newly}
@@ -27,9 +27,10 @@ Known w E r true m = (b i : ℕ) (S : State (Coded E) w) → i < w → (b + i) %
 Known w E r false m = (b i : ℕ) (S : State (Coded E) w) → i < w → (b + i) % w ≡ r → Window w E m b S → known S i ≡ none
 
 -- The window has moved on by `rise` positions, and the rows that working memory keeps of the equations `es` have joined it:
--- the memory holds what the model says of `es`, and `count` positions have become known.
+-- the memory holds what the model says of `es`, and `count` positions have become known, no more than 256 for a row on any memory.
 pub record Committed (w E base rise kept count : ℕ) (work m m′ : List ℕ) : Type 0 where
   pub unchanged : Kept w E m m′
+  pub most : count ≤ kept * 256
   pub outcome : (b : ℕ) (S : State (Coded E) w) (es : List (Row (Coded E) w)) → b % w ≡ base → Window w E m b S → Rref S
       → Gathered w E (b + rise) (advance-by rise S) work kept es
       → (T : State (Coded E) w) × (insert-all es (advance-by rise S) ≡ some T) × Window w E m′ (b + rise) T

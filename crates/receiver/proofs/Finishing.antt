@@ -143,6 +143,7 @@ module _ (h : Header) (place : PacketPlace) (kept count esi : ℕ) (work m m₁ 
           ap (λ x. getD x (flagAt w E r) 0) stored ∙ rebased-rows (place .shape .base) esi m₁ long (flagAt w E r) (omega arith)
           ∙ f .unchanged .flags r (w + E + 1) l (omega arith) (omega arith);
     };
+    most = f .most;
     outcome = λ s t es k row g.
         let is = header-held m h s t has k in
         let fits = header-fits m (headerOf s t) (k .header) in

@@ -17,6 +17,7 @@ pub mod Finishing
 pub mod Gathering
 pub mod Marking
 pub mod Receiving
+pub mod Drawing
 pub mod Sourcing
 pub mod SourceCall
 pub mod Repairing

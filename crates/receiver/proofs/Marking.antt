@@ -195,6 +195,7 @@ module _ (h : Header) (at : PacketPlace) (kept own count had has : ℕ) (others 
   pub accepted : Accepted h at kept own count work m m₂
   accepted = record {
     contained = contained-more (f .contained) (starts-contained (h .setting) m₁ m₂ (u′ .only));
+    most = f .most;
     outcome = λ s t es k row g.
         let (T, i, held, n) = f .outcome s t es k row g in
         let is = header-held m h s t head k in

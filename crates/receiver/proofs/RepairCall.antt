@@ -18,7 +18,7 @@ use Rattle.wire.specs.Packets.{joined, chunks, repairCount, repairForm, repairK
 use Rattle.wire.specs.Headers.{repairFields, repairHeaderOf}
 use Rattle.wire.proofs.Adui.{length-chunks}
 use Rattle.wire.proofs.Settings.{both, within-bounds}
-use Rattle.coefficients.specs.Coefficients.{keys, listsOf, allOk}
+use Rattle.coefficients.specs.Coefficients.{keys, listsOf, allOk, drawsOf, packetDraws}
 use Rattle.coefficients.proofs.Fills.{lists-cut}
 use Rattle.decoder.specs.Bytes.{Coded}
 use Rattle.decoder.specs.Receiver as decoder
@@ -33,7 +33,7 @@ use Rattle.receiver.specs.declared.packet.PlaceFound.the-variants.{Place
 use Rattle.receiver.specs.History.{Located, repair, named, Call, repair-call, Reading, located, check, placeOf, placed, workingSize, readRepair, reading}
 use Rattle.receiver.specs.Model.{packetOf}
 use Rattle.receiver.specs.Header.{headerIn}
-use Rattle.receiver.specs.Promises.{Received}
+use Rattle.receiver.specs.Promises.{drawsFor, Received}
 use Rattle.receiver.specs.Layout.{receiverLayout}
 use Rattle.receiver.specs.Steps.{placeFound, firsts, Gathers, Accepted}
 use Rattle.receiver.specs.RepairSteps.{equationAt}
@@ -104,6 +104,11 @@ module _ (p m v : List ℕ) (h : Header) (has : headerIn m ≡ some h) (lent : w
   module _ (f : RepairFields) (read : Repair f ≡ repairHeaderOf E p) where
     is : f ≡ repairFields E p
     is = fields-are E p f read
+
+    -- The draws of its lists are those that it takes.
+    pub draws-are : drawsOf scheme (f .dt) (f .nss) (keys (f .key .0) (f .count)) ≡ drawsFor (h .setting) c
+    unfolding packetDraws
+    draws-are = rw (is, count-is E p)
 
     pub call-range : within 1 width (f .nss) ≡ false → Received receiverLayout c m m v v (Refused refusals.Range)
     unfolding reading check readRepair

@@ -13,15 +13,18 @@ use Rattle.memory.specs.Part.{part, LiesAt}
 use Rattle.wire.specs.declared.Setting.{Setting}
 use Rattle.wire.specs.Numbers.{numberOf}
 use Rattle.wire.specs.Settings.{settingOf}
+use Rattle.coefficients.specs.Coefficients.{packetDraws}
 use Rattle.starts.specs.declared.Handed.{Handed}
 use Rattle.starts.specs.declared.Handed.the-variants.{Adu, Withheld}
 use Rattle.starts.specs.Adu.{HandedAs, Leaves}
 use Rattle.starts.specs.Starts.{Starts, zeroth}
 use Rattle.receiver.specs.declared.Answer.{Answer}
 use Rattle.receiver.specs.declared.Answer.the-variants.{Done, Refused}
+use Rattle.receiver.specs.declared.PacketAnswer.{PacketAnswer}
+use Rattle.receiver.specs.declared.PacketAnswer.the-variants.{Accepted, NotAccepted}
 use Rattle.receiver.specs.declared.Header.{Header}
 use Rattle.receiver.specs.Symbol.{bytesOf}
-use Rattle.receiver.specs.History.{Call, reading, memorySize, workingSize, Said, value, refusal}
+use Rattle.receiver.specs.History.{Call, source-call, repair-call, reading, memorySize, workingSize, Said, value, refusal}
 use Rattle.receiver.specs.Model.{State, opened, Outcome, refused, done, stateAfter, receiving, marking, Finding, shows, hides, finding, aduAt}
 use Rattle.receiver.specs.Header.{headerIn}
 
@@ -29,6 +32,11 @@ use Rattle.receiver.specs.Header.{headerIn}
 abbrev pub said : Answer → Said
 said (Done n) = value n
 said (Refused r) = refusal (numberOf r)
+
+-- The answer to a packet call, without the draws.
+abbrev pub answerOf : PacketAnswer → Answer
+answerOf (Accepted n draws) = Done n
+answerOf (NotAccepted r) = Refused r
 
 -- Flow and length of an ADU as one number, or the number of a refusal.
 abbrev pub handedSaid : Handed → Said
@@ -53,6 +61,21 @@ pub record Contained (size : ℕ) (m m′ : List ℕ) : Type 0 where
 abbrev pub opening : Option Setting → (room : ℕ) → Said
 opening none room = refusal 1
 opening (some s) room = cond (ltb room (memorySize s)) (refusal 2) (value 0)
+
+-- The draws that a packet's coefficients take at a receiver of the setting; a source packet has none.
+abbrev pub drawsFor : Setting → Call → ℕ
+drawsFor s (source-call flow p) = 0
+drawsFor s (repair-call p) = packetDraws (s .scheme) (s .size) p
+
+-- d are the draws that the packet takes; both numbers are small, whatever the memory.
+pub record Drew (c : Call) (m : List ℕ) (n d : ℕ) : Type 0 where
+  pub draws : (h : Header) → headerIn m ≡ some h → d ≡ drawsFor (h .setting) c
+  pub small : (n ≤ 65535) × (d ≤ 69360)
+
+-- A refusal has no draws.
+abbrev pub Draws : Call → (m : List ℕ) → PacketAnswer → Type 0
+Draws c m (Accepted n d) = Drew c m n d
+Draws c m (NotAccepted r) = Unit {0}
 
 module _ (L : Layout) where
   open Layout L using (Holds, Marks, symbolStart)
@@ -82,6 +105,11 @@ module _ (L : Layout) where
     -- And the marks are those that it comes to.
     pub starts : (s : Setting) (t : State s) (M : Starts) → Holds m s t → Marks m s t M
         → let o = receiving s t (length v) c in Marks m′ s (stateAfter t o) (marking s t M (reading s (t .base) (length v) c) o)
+
+  -- A packet call, with the draws beside the count.
+  pub record PacketAnswered (c : Call) (m m′ v v′ : List ℕ) (a : PacketAnswer) : Type 0 where
+    pub received : Received c m m′ v v′ (answerOf a)
+    pub draws : Draws c m a
 
   -- The symbol call found this: it answers 0 for a known symbol, else a refusal.
   abbrev pub Finds : {E : ℕ} → Finding E → Answer → Type 0

@@ -4,7 +4,7 @@ use mathlib.Core.Path.{_≡_}
 use mathlib.Core.Bool.{cond}
 use mathlib.Core.Option.{none, some}
 use mathlib.Core.List.{List, [], _∷_, _++_}
-use Prim.Native.Nat.{ℕ, zero, suc, _+_, _-_, _%_, _^_, _≤_, _<_}
+use Prim.Native.Nat.{ℕ, zero, suc, _+_, _-_, _*_, _%_, _^_, _≤_, _<_}
 use lib.Dec.{ltb, leb}
 use lib.ListN.{length, getD}
 use Rattle.wire.specs.declared.Setting.{Setting}
@@ -141,6 +141,7 @@ pub record PlacedBy (h : Header) (at : PacketPlace) (own : ℕ) : Type 0 where
 pub record Finished (h : Header) (at : PacketPlace) (kept count : ℕ) (work m m′ : List ℕ) : Type 0 where
   pub contained : Contained (memorySize (h .setting)) m m′
   pub marks : SameMarks (h .setting .width) (h .setting .size) m m′
+  pub most : count ≤ kept * 256
   pub outcome : (s : Setting) (t : State s) (es : List (model.Row (Coded (s .size)) (s .width))) → Holds m s t
       → at .shape .base ≡ (t .base + at .rise) % s .width
       → packet.Gathered (s .width) (s .size) (t .base + at .rise) (decoder.advance-by (at .rise) (t .window)) work kept es
@@ -151,6 +152,7 @@ pub record Finished (h : Header) (at : PacketPlace) (kept count : ℕ) (work m m
 -- And the marks are those that the packet with `own` symbols of its own makes.
 pub record Accepted (h : Header) (at : PacketPlace) (kept own count : ℕ) (work m m′ : List ℕ) : Type 0 where
   pub contained : Contained (memorySize (h .setting)) m m′
+  pub most : count ≤ kept * 256
   pub outcome : (s : Setting) (t : State s) (es : List (model.Row (Coded (s .size)) (s .width))) → Holds m s t
       → at .shape .base ≡ (t .base + at .rise) % s .width
       → packet.Gathered (s .width) (s .size) (t .base + at .rise) (decoder.advance-by (at .rise) (t .window)) work kept es

@@ -1,5 +1,5 @@
 // The receiver: opening, the two packet calls, the calls that show a symbol, and the ADU call (RFC 8681, section 3.4; document 01).
-ghost use Rattle.receiver.specs.Promises.{Opened, Received, SymbolAnswered, PartShown, PlaceAnswered, AduAnswered};
+ghost use Rattle.receiver.specs.Promises.{Opened, PacketAnswered, SymbolAnswered, PartShown, PlaceAnswered, AduAnswered};
 ghost use Rattle.receiver.specs.History.{source-call, repair-call};
 ghost use Rattle.receiver.specs.Layout.{receiverLayout};
 
@@ -21,11 +21,16 @@ use wire::RepairHeader;
 use wire::Setting;
 use wire::SourceHeader;
 
-// What a call answers: a number (opening and the symbol call: 0; a packet call: how many positions of the window became known; the call for a
-// symbol's place: where it starts), or a refusal.
+// What a call answers: a number (opening and the symbol call: 0; the call for a symbol's place: where it starts), or a refusal.
 pub enum Answer {
     Done(usize),
     Refused(Refusal),
+}
+
+// What a packet call answers: how many positions of the window became known and the draws that the packet's coefficients took, or a refusal.
+pub enum PacketAnswer {
+    Accepted(usize, u32),
+    NotAccepted(Refusal),
 }
 
 // A receiver's header: its setting, and the row and the ESI of the window's base.
@@ -122,73 +127,79 @@ pub fn adu(mem: &[u8], esi: Esi, out: &mut [u8]) -> Handed
 }
 
 // Receives a source packet that came with a flow. The state is only read until all its symbols are known to agree with it. Gives how many
-// positions of the window became known.
-pub fn receive_source(mem: &mut [u8], work: &mut [u8], flow: u8, packet: &[u8]) -> Answer
-    ensures { λ r. ⌜ Received receiverLayout (source-call flow (now (packet .entry)))
+// positions of the window became known; it draws nothing.
+pub fn receive_source(mem: &mut [u8], work: &mut [u8], flow: u8, packet: &[u8]) -> PacketAnswer
+    ensures { λ r. ⌜ PacketAnswered receiverLayout (source-call flow (now (packet .entry)))
         (now (mem .entry)) (now (mem .exit)) (now (work .entry)) (now (work .exit)) r ⌝ }
 {
     let Found::HeaderIs(header) = front::read_header(mem) else {
-        return Answer::Refused(Refusal::Unopened);
+        return PacketAnswer::NotAccepted(Refusal::Unopened);
     };
     let setting = header.setting;
     if work.len() < front::working_size(setting) {
-        return Answer::Refused(Refusal::Short);
+        return PacketAnswer::NotAccepted(Refusal::Short);
     }
     let SourceHeader::Source(fields) = wire::read_source(packet) else {
-        return Answer::Refused(Refusal::Form);
+        return PacketAnswer::NotAccepted(Refusal::Form);
     };
     if 65535 < fields.len {
-        return Answer::Refused(Refusal::Long);
+        return PacketAnswer::NotAccepted(Refusal::Long);
     }
     let count = wire::symbol_count(setting.size, fields.len);
     if setting.width < count {
-        return Answer::Refused(Refusal::Long);
+        return PacketAnswer::NotAccepted(Refusal::Long);
     }
     let place = match packet::locate(header, fields.first, count) {
         PlaceFound::PlaceIs(at) => at,
-        PlaceFound::Out(refusal) => return Answer::Refused(refusal),
+        PlaceFound::Out(refusal) => return PacketAnswer::NotAccepted(refusal),
     };
     let adu = memory::part(packet, 0, fields.len);
     let Gathered::All(kept) = source::gather_source(mem, work, place, flow, adu, count) else {
-        return Answer::Refused(Refusal::Contradiction);
+        return PacketAnswer::NotAccepted(Refusal::Contradiction);
     };
-    Answer::Done(packet::accept(mem, work, header, place, kept, count))
+    PacketAnswer::Accepted(packet::accept(mem, work, header, place, kept, count), 0)
 }
 
 // Receives a repair packet. The state is only read until all its symbols are known to agree with it. Gives how many positions of the window
-// became known.
-pub fn receive_repair(mem: &mut [u8], work: &mut [u8], packet: &[u8]) -> Answer
-    ensures { λ r. ⌜ Received receiverLayout (repair-call (now (packet .entry)))
+// became known, and the draws.
+pub fn receive_repair(mem: &mut [u8], work: &mut [u8], packet: &[u8]) -> PacketAnswer
+    ensures { λ r. ⌜ PacketAnswered receiverLayout (repair-call (now (packet .entry)))
         (now (mem .entry)) (now (mem .exit)) (now (work .entry)) (now (work .exit)) r ⌝ }
 {
     let Found::HeaderIs(header) = front::read_header(mem) else {
-        return Answer::Refused(Refusal::Unopened);
+        return PacketAnswer::NotAccepted(Refusal::Unopened);
     };
     let setting = header.setting;
     if work.len() < front::working_size(setting) {
-        return Answer::Refused(Refusal::Short);
+        return PacketAnswer::NotAccepted(Refusal::Short);
     }
     let RepairHeader::Repair(fields) = wire::read_repair(packet, setting.size) else {
-        return Answer::Refused(Refusal::Form);
+        return PacketAnswer::NotAccepted(Refusal::Form);
     };
     let n = fields.nss;
     let count = fields.count;
     if !wire::between(1, setting.width, n) {
-        return Answer::Refused(Refusal::Range);
+        return PacketAnswer::NotAccepted(Refusal::Range);
     }
     let place = match packet::locate(header, fields.first, n) {
         PlaceFound::PlaceIs(at) => at,
-        PlaceFound::Out(refusal) => return Answer::Refused(refusal),
+        PlaceFound::Out(refusal) => return PacketAnswer::NotAccepted(refusal),
     };
     let mut lists = coefficients::room_for_lists();
     let scheme = setting.scheme;
-    let Filled::Done = coefficients::fill_lists(&mut lists, n, scheme, fields.key, fields.dt, count)
-    else {
-        return Answer::Refused(Refusal::Draws);
+    let Filled::Done(draws) = coefficients::fill_lists(
+        &mut lists,
+        n,
+        scheme,
+        fields.key,
+        fields.dt,
+        count,
+    ) else {
+        return PacketAnswer::NotAccepted(Refusal::Draws);
     };
     let Gathered::All(kept) = repair::gather_repair(mem, work, &lists, packet, place, n, count)
     else {
-        return Answer::Refused(Refusal::Contradiction);
+        return PacketAnswer::NotAccepted(Refusal::Contradiction);
     };
-    Answer::Done(packet::accept(mem, work, header, place, kept, 0))
+    PacketAnswer::Accepted(packet::accept(mem, work, header, place, kept, 0), draws)
 }

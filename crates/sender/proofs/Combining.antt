@@ -1,19 +1,21 @@
 -- The repair symbols of a packet: each combined by slot, and one after the other in the output.
 use mathlib.Core.Path.{_≡_, refl, sym, ap, _∙_}
-use mathlib.Core.Bool.{Bool, true, false, _||_, not}
-use mathlib.Core.Option.{some}
-use Prim.Native.Nat.{ℕ, zero, suc, _+_, _*_, _%_, _≤_, _<_}
-use native.Mathlib.Nat.{zero-mul, add-mul, one-mul, le-of-suc-le-suc, not-suc-le-zero}
+use mathlib.Core.Bool.{Bool, true, false, cond, _||_, not}
+use mathlib.Core.Option.{some, Option·some-injective}
+use Prim.Native.Nat.{ℕ, zero, suc, _+_, _*_, _%_, _^_, _≤_, _<_}
+use native.Mathlib.Nat.{zero-mul, add-mul, one-mul, mul-le-mul, le-of-suc-le-suc, not-suc-le-zero}
 use native.Mathlib.Numerals.{add-one}
 use native.Mathlib.Omega.{arith}
 use mathlib.Core.List.{List, [], _∷_, _++_, map, append-nil, append-assoc}
 use lib.ListN.{length, take, getD, replicate, length-append, length-map, take-append-drop}
-use lib.Seq.{take-suc, take-all}
+use lib.Seq.{take-suc, take-all, take-at}
 use Rattle.memory.specs.Part.{part, splice}
 use Rattle.memory.proofs.Parts.{splice-next, cons-eq}
-use lib.Dec.{ltb}
+use lib.Dec.{eqb, ltb, lit<}
 use Rattle.wire.specs.declared.Scheme.{Scheme}
-use Rattle.wire.specs.declared.Refusal.the-variants.{Draws}
+use Rattle.wire.specs.declared.Scheme.the-variants.{Gf2, Gf256}
+use Rattle.wire.specs.declared.Refusal.{Refusal}
+use Rattle.wire.specs.declared.Refusal.the-variants as refusals
 use Rattle.wire.specs.Numbers.{within, esiBefore}
 use Rattle.wire.specs.Packets.{Sized, joined, chunks, repairHeader, repairPacket}
 use Rattle.wire.proofs.Adui.{front-next, length-chunks, getD-chunks}
@@ -21,15 +23,16 @@ use Rattle.wire.proofs.Reading.{repair-length}
 use Rattle.rows.specs.Combination.{coefficient, combination, combined, rowAt}
 use Rattle.rows.proofs.Dot.{dot-same}
 use Rattle.rows.proofs.Combinations.{long-rows, length-combination, combined-sums}
-use Rattle.coefficients.specs.Coefficients.{keys, listsOf, allOk}
-use Rattle.coefficients.proofs.Lists.{length-keys}
+use Rattle.coefficients.specs.Coefficients.{keys, listsOf, allOk, drawsOf, packetDraws}
+use Rattle.coefficients.proofs.Lists.{length-keys, packet-draws, written-draws}
 use Rattle.coefficients.proofs.Fills.{lists-cut}
 use Rattle.sender.specs.declared.Header.{Header}
-use Rattle.sender.specs.declared.Answer.{Answer}
-use Rattle.sender.specs.declared.Answer.the-variants.{Done, Refused}
+use Rattle.sender.specs.declared.Answer.the-variants.{Refused}
+use Rattle.sender.specs.declared.RepairAnswer.{RepairAnswer}
+use Rattle.sender.specs.declared.RepairAnswer.the-variants.{Made, NotMade}
 use Rattle.sender.specs.State.{headerIn}
 use Rattle.sender.specs.Calls.{done, repairing}
-use Rattle.sender.specs.Promises.{Promise}
+use Rattle.sender.specs.Promises.{answerOf, Repairs, Draws, RepairMade}
 use Rattle.sender.specs.Repair.{repairSymbol, writtenKey}
 use Rattle.sender.specs.Inner.{firstSlot, windowIn, Laid, symbolsFrom, packetFrom, PacketOr10, Packed}
 use Rattle.sender.proofs.Heads.{Opened, opened}
@@ -112,7 +115,7 @@ symbols-of scheme dt size window n e (k ∷ ks) = cons-eq (rw e) (symbols-of sch
 
 module _ (h : Header) (key dt count : ℕ) (m out : List ℕ) (written : ℕ) (ew : written ≡ writtenKey (h .setting .scheme) key dt) where
   -- a list was refused
-  pub packed-refused : allOk (h .setting .scheme) dt (h .held) (keys written count) ≡ false → Packed h key dt count m out (Refused Draws) out
+  pub packed-refused : allOk (h .setting .scheme) dt (h .held) (keys written count) ≡ false → Packed h key dt count m out (NotMade refusals.Draws) out
   packed-refused e = rw (← ew, e) (refl, refl)
 
   -- the header was written, and then the symbols
@@ -121,46 +124,113 @@ module _ (h : Header) (key dt count : ℕ) (m out : List ℕ) (written : ℕ) (e
       → lists ≡ joined (listsOf (h .setting .scheme) dt (h .held) (keys written count)) ++ rest
       → out₁ ≡ splice 0 (repairHeader written dt (h .held) first) out
       → out₂ ≡ splice 8 (joined (symbolsFrom h m count lists)) out₁
-      → Packed h key dt count m out (Done (8 + count * h .setting .size)) out₂
+      → (draws : ℕ) → draws ≡ drawsOf (h .setting .scheme) dt (h .held) (keys written count)
+      → Packed h key dt count m out (Made (8 + count * h .setting .size) draws) out₂
   unfolding symbolsFrom packetFrom repairPacket repairHeader
-  packed-done ok first rest lists out₁ out₂ ef el e₁ e₂ =
+  packed-done ok first rest lists out₁ out₂ ef el e₁ e₂ draws ed =
       let scheme = h .setting .scheme in
       let ls = listsOf scheme dt (h .held) (keys written count) in
       let c : chunks count (h .held) lists ≡ ls = rw el (lists-cut scheme dt (h .held) written count rest ok) in
       let s = symbols-of scheme dt (h .setting .size) (windowIn h m) (h .held) (length-stored _ _ m _ (h .held)) (keys written count) in
-      rw (← ew, ok) (refl, rw (e₂, e₁, c, s, ef) (front-next 8 (repairHeader written dt (h .held) (esiBefore (h .esi .0) (h .held))) _ out refl))
+      rw (← ew, ok) (ap (Made (8 + count * h .setting .size)) ed, rw (e₂, e₁, c, s, ef) (front-next 8 (repairHeader written dt (h .held) (esiBefore (h .esi .0) (h .held))) _ out refl))
 
 sized-map : (f : ℕ → List ℕ) (size : ℕ) → ((key : ℕ) → length (f key) ≡ size) → (ks : List ℕ) → Sized size (map f ks)
 sized-map f size e [] = tt
 sized-map f size e (k ∷ ks) = (e k, sized-map f size e ks)
 
-length-packet : (h : Header) (m : List ℕ) (key dt count : ℕ) → 0 < h .setting .size → length (packetFrom h m key dt count) ≡ 8 + count * h .setting .size
-unfolding packetFrom repairSymbol
-length-packet h m key dt count z =
-    let f = repairSymbol (h .setting .scheme) dt (h .setting .size) (windowIn h m) in
-    repair-length key dt (h .held) (esiBefore (h .esi .0) (h .held)) (h .setting .size) (map f (keys key count))
-    (sized-map f (h .setting .size) (λ k. length-combination (h .setting .size) _ (windowIn h m)) (keys key count)) z
-    ∙ ap (λ (n : ℕ). 8 + n * h .setting .size) (length-map (keys key count) f ∙ length-keys key count)
+-- the packet's length, and its draws
+module _ (h : Header) (m : List ℕ) (key dt count : ℕ) (z : 0 < h .setting .size) where
+  abbrev symbols : List (List ℕ)
+  symbols = map (repairSymbol (h .setting .scheme) dt (h .setting .size) (windowIn h m)) (keys key count)
+
+  abbrev first : ℕ
+  first = esiBefore (h .esi .0) (h .held)
+
+  sized : Sized (h .setting .size) symbols
+  unfolding repairSymbol
+  sized = sized-map _ (h .setting .size) (λ k. length-combination (h .setting .size) _ (windowIn h m)) (keys key count)
+
+  counted : length symbols ≡ count
+  counted = length-map (keys key count) _ ∙ length-keys key count
+
+  length-packet : length (packetFrom h m key dt count) ≡ 8 + count * h .setting .size
+  unfolding packetFrom
+  length-packet = repair-length key dt (h .held) first (h .setting .size) symbols sized z ∙ ap (λ (n : ℕ). 8 + n * h .setting .size) counted
+
+  draws-packet : key < 2 ^ 16 → dt < 16 → h .held < 4096
+      → packetDraws (h .setting .scheme) (h .setting .size) (packetFrom h m key dt count) ≡ drawsOf (h .setting .scheme) dt (h .held) (keys key count)
+  unfolding packetFrom
+  draws-packet k d n =
+      written-draws (h .setting .scheme) key dt (h .held) first (h .setting .size) symbols sized z k d n
+      ∙ ap (λ (n : ℕ). drawsOf (h .setting .scheme) dt (h .held) (keys key n)) counted
+
+written-small : (scheme : Scheme) (key dt : ℕ) → key < 2 ^ 16 → writtenKey scheme key dt < 2 ^ 16
+written-small Gf2 key dt h = go (eqb dt 15)
+  where
+    go : (b : Bool) → cond b 0 key < 2 ^ 16
+    go true = lit< tt
+    go false = h
+written-small Gf256 key dt h = h
+
+front : (n : ℕ) (x out : List ℕ) → length x ≡ n → take n (splice 0 x out) ≡ x
+unfolding splice
+front n x out e = take-at x _ n e
 
 -- the promise of a call that passed the checks before the draws
-pub repairs : (h : Header) (key dt count : ℕ) (m out : List ℕ) → headerIn m ≡ some h → (ltb 15 dt || not (within 1 16 count)) ≡ false → (h .held ≡ 0 → ⊥)
-    → 8 + count * h .setting .size ≤ length out → (r : Answer) (out′ : List ℕ) → Packed h key dt count m out r out′
-    → Promise (λ s. repairing s key dt count (length out)) m out r m out′
-repairs h key dt count m out o g n room r out′ p =
-    go (allOk (h .setting .scheme) dt (h .held) (keys (writtenKey (h .setting .scheme) key dt) count)) refl p
-  where
-    go : (b : Bool) → allOk (h .setting .scheme) dt (h .held) (keys (writtenKey (h .setting .scheme) key dt) count) ≡ b
-        → PacketOr10 b h (writtenKey (h .setting .scheme) key dt) dt count m out r out′ → Promise (λ s. repairing s key dt count (length out)) m out r m out′
-    go false e q =
-        rw (q .0, q .1)
-        (promise-refused (λ s. repairing s key dt count (length out)) m out h o Draws (λ z. omega arith) (λ s k i. repairing-draws key dt count (length out) s g h i n room e))
-    go true e q =
-        rw (q .0)
-        (promise-done (λ s. repairing s key dt count (length out)) m out h o (packetFrom h m (writtenKey (h .setting .scheme) key dt) dt count) (8 + count * h .setting .size) m out′
-        (length-packet h m _ dt count (omega (arith, opened m h o .valid .size-least))) room (q .1) refl refl
-        (λ s k i. (
-          s,
-          repairing-done key dt count (length out) s g h i n room e ∙ ap (λ (x : List ℕ). done x s) (sym (rw i (packet-of m s k _ dt count))),
-          k,
-          ap (λ (x : Header). x .setting) i,
-        )))
+module _ (h : Header) (key dt count : ℕ) (m out : List ℕ) (o : headerIn m ≡ some h) (g : (ltb 15 dt || not (within 1 16 count)) ≡ false) where
+  abbrev written : ℕ
+  written = writtenKey (h .setting .scheme) key dt
+
+  pub repairs : (h .held ≡ 0 → ⊥) → 8 + count * h .setting .size ≤ length out → (r : RepairAnswer) (out′ : List ℕ) → Packed h key dt count m out r out′
+      → Repairs key dt count m out (answerOf r) out′
+  repairs n room r out′ p = go (allOk (h .setting .scheme) dt (h .held) (keys written count)) refl p
+    where
+      go : (b : Bool) → allOk (h .setting .scheme) dt (h .held) (keys written count) ≡ b → PacketOr10 b h written dt count m out r out′
+          → Repairs key dt count m out (answerOf r) out′
+      go false e q =
+          rw (q .0, q .1)
+          (promise-refused (λ s. repairing s key dt count (length out)) m out h o refusals.Draws (λ z. omega arith)
+          (λ s k i. repairing-draws key dt count (length out) s g h i n room e))
+      go true e q =
+          rw (q .0)
+          (promise-done (λ s. repairing s key dt count (length out)) m out h o (packetFrom h m written dt count) (8 + count * h .setting .size) m out′
+          (length-packet h m written dt count (omega (arith, opened m h o .valid .size-least))) room (q .1) refl refl
+          (λ s k i. (
+            s,
+            repairing-done key dt count (length out) s g h i n room e ∙ ap (λ (x : List ℕ). done x s) (sym (rw i (packet-of m s k _ dt count))),
+            k,
+            ap (λ (x : Header). x .setting) i,
+          )))
+
+  -- and the draws
+  pub repair-made : key < 2 ^ 16 → dt ≤ 15 → count ≤ 16 → (h .held ≡ 0 → ⊥) → 8 + count * h .setting .size ≤ length out
+      → (r : RepairAnswer) (out′ : List ℕ) → Packed h key dt count m out r out′ → RepairMade key dt count m out r out′
+  repair-made k d c n room r out′ p =
+      record { repairs = repairs n room r out′ p; draws = go (allOk (h .setting .scheme) dt (h .held) (keys written count)) p }
+    where
+      says : Opened m h
+      says = opened m h o
+
+      few : drawsOf (h .setting .scheme) dt (h .held) (keys written count) ≤ 69360
+      few = packet-draws (h .setting .scheme) dt (h .held) (omega (arith, says .held, says .valid .width-most)) (keys written count) (rw (length-keys written count) c)
+
+      short : 8 + count * h .setting .size ≤ 24008
+      short = omega (arith, mul-le-mul c (says .valid .size-most))
+
+      go : (b : Bool) → PacketOr10 b h written dt count m out r out′ → Draws m out′ r
+      go false q = rw (q .0) tt
+      go true q =
+          let z : 0 < h .setting .size = omega (arith, says .valid .size-least) in
+          let l = length-packet h m written dt count z in
+          let t = front (8 + count * h .setting .size) (packetFrom h m written dt count) out l in
+          rw (q .0) (record {
+            draws = λ h′ e.
+                let i : h ≡ h′ = Option·some-injective h h′ (sym o ∙ e) in
+                rw (← i, q .1, t) (sym (draws-packet h m written dt count z (written-small (h .setting .scheme) key dt k) (omega arith) (omega (arith, says .held, says .valid .width-most))));
+            small = (short, few);
+          })
+
+-- a refusal before the draws
+pub refused-made : (key dt count : ℕ) (m out : List ℕ) (n : Refusal) → Repairs key dt count m out (Refused n) out
+    → RepairMade key dt count m out (NotMade n) out
+refused-made key dt count m out n p = record { repairs = p; draws = tt }

@@ -14,9 +14,9 @@ use Rattle.wire.specs.declared.Setting.{Setting}
 use Rattle.wire.specs.Settings.{Valid}
 use Rattle.wire.specs.Packets.{symbolCount, sourceSymbols, chunks, repairPacket}
 use Rattle.rows.specs.Combination.{dot, coefficient, combination}
-use Rattle.coefficients.specs.Coefficients.{keys, allOk}
-use Rattle.sender.specs.declared.Answer.{Answer}
-use Rattle.sender.specs.declared.Answer.the-variants.{Done, Refused}
+use Rattle.coefficients.specs.Coefficients.{keys, allOk, drawsOf}
+use Rattle.sender.specs.declared.RepairAnswer.{RepairAnswer}
+use Rattle.sender.specs.declared.RepairAnswer.the-variants.{Made, NotMade}
 use Rattle.sender.specs.declared.Header.{Header}
 use Rattle.sender.specs.declared.Found.{Found}
 use Rattle.sender.specs.declared.Found.the-variants.{HeaderIs, NoHeader}
@@ -106,11 +106,13 @@ packetFrom h m key dt count =
     (map (repairSymbol (h .setting .scheme) dt (h .setting .size) (windowIn h m)) (keys key count))
 
 -- a repair packet was written, or the coefficients met refusal 10 and nothing was
-abbrev pub PacketOr10 : Bool → (h : Header) (key dt count : ℕ) (m out : List ℕ) (r : Answer) (out′ : List ℕ) → Type 0
-PacketOr10 true h key dt count m out r out′ = (r ≡ Done (8 + count * h .setting .size)) × (out′ ≡ splice 0 (packetFrom h m key dt count) out)
-PacketOr10 false h key dt count m out r out′ = (r ≡ Refused Draws) × (out′ ≡ out)
+abbrev pub PacketOr10 : Bool → (h : Header) (key dt count : ℕ) (m out : List ℕ) (r : RepairAnswer) (out′ : List ℕ) → Type 0
+PacketOr10 true h key dt count m out r out′ =
+    (r ≡ Made (8 + count * h .setting .size) (drawsOf (h .setting .scheme) dt (h .held) (keys key count)))
+    × (out′ ≡ splice 0 (packetFrom h m key dt count) out)
+PacketOr10 false h key dt count m out r out′ = (r ≡ NotMade Draws) × (out′ ≡ out)
 
-abbrev pub Packed : (h : Header) (key dt count : ℕ) (m out : List ℕ) (r : Answer) (out′ : List ℕ) → Type 0
+abbrev pub Packed : (h : Header) (key dt count : ℕ) (m out : List ℕ) (r : RepairAnswer) (out′ : List ℕ) → Type 0
 Packed h key dt count m out r out′ =
     let written = writtenKey (h .setting .scheme) key dt in
     PacketOr10 (allOk (h .setting .scheme) dt (h .held) (keys written count)) h written dt count m out r out′

@@ -2,13 +2,16 @@
 -- m, out and r are memory, output and answer; m′ and out′ memory and output afterwards.
 use mathlib.Core.Path.{_≡_}
 use mathlib.Core.Option.{none, some}
-use Prim.Native.Nat.{ℕ}
+use Prim.Native.Nat.{ℕ, _≤_}
 use mathlib.Core.List.{List, []}
-use lib.ListN.{length, drop}
+use lib.ListN.{length, take, drop}
 use Rattle.memory.specs.Part.{splice}
 use Rattle.wire.specs.Numbers.{numberOf}
+use Rattle.coefficients.specs.Coefficients.{packetDraws}
 use Rattle.sender.specs.declared.Answer.{Answer}
 use Rattle.sender.specs.declared.Answer.the-variants.{Done, Refused}
+use Rattle.sender.specs.declared.RepairAnswer.{RepairAnswer}
+use Rattle.sender.specs.declared.RepairAnswer.the-variants.{Made, NotMade}
 use Rattle.sender.specs.declared.Header.{Header}
 use Rattle.sender.specs.State.{Sender, memorySize, headerIn, Holds}
 use Rattle.sender.specs.Calls.{Outcome, refused, done, opening, adding, repairing}
@@ -73,3 +76,23 @@ Adds flow adu m out r m′ out′ = Promise (λ s. adding s flow adu (length out
 -- making repair, which leaves the memory
 abbrev pub Repairs : (key dt count : ℕ) (m out : List ℕ) (r : Answer) (out′ : List ℕ) → Type 0
 Repairs key dt count m out r out′ = Promise (λ s. repairing s key dt count (length out)) m out r m out′
+
+-- the answer to making repair, without the draws
+abbrev pub answerOf : RepairAnswer → Answer
+answerOf (Made n draws) = Done n
+answerOf (NotMade n) = Refused n
+
+-- d are the draws that the packet of n bytes at the front of the output takes; both numbers are small, whatever the memory
+pub record Drew (m out′ : List ℕ) (n d : ℕ) : Type 0 where
+  pub draws : (h : Header) → headerIn m ≡ some h → d ≡ packetDraws (h .setting .scheme) (h .setting .size) (take n out′)
+  pub small : (n ≤ 24008) × (d ≤ 69360)
+
+-- a refusal has no draws
+abbrev pub Draws : (m out′ : List ℕ) → RepairAnswer → Type 0
+Draws m out′ (Made n d) = Drew m out′ n d
+Draws m out′ (NotMade n) = Unit {0}
+
+-- making repair, with the draws beside the bytes written
+pub record RepairMade (key dt count : ℕ) (m out : List ℕ) (r : RepairAnswer) (out′ : List ℕ) : Type 0 where
+  pub repairs : Repairs key dt count m out (answerOf r) out′
+  pub draws : Draws m out′ r

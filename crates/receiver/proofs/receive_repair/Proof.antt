@@ -12,13 +12,16 @@ use Rattle.wire.specs.declared.RepairHeader.the-variants.{Repair}
 use Rattle.wire.specs.Numbers.{within}
 use Rattle.wire.specs.Headers.{repairHeaderOf}
 use Rattle.wire.proofs.Settings.{within-bounds}
+use Rattle.coefficients.specs.Coefficients.{keys}
+use Rattle.coefficients.proofs.Lists.{length-keys, packet-draws}
 use Rattle.coefficients.proofs.Fills.{lists-were-done, lists-were-refused}
 use Rattle.receiver.specs.declared.Header.{Header}
 use Rattle.receiver.specs.History.{workingSize}
 use Rattle.receiver.specs.Header.{headerIn}
 use Rattle.receiver.proofs.Headers.{header-is, header-none, headed}
 use Rattle.receiver.proofs.Receiving.{received-unopened, received-short, accept-asks}
-use Rattle.receiver.proofs.RepairCall.{sized, call-form, call-range, call-out, call-draws, gather-asks, call-contradicts, call-done}
+use Rattle.receiver.proofs.Drawing.{answered-refused, answered-done}
+use Rattle.receiver.proofs.RepairCall.{sized, draws-are, call-form, call-range, call-out, call-draws, gather-asks, call-contradicts, call-done}
 use borrow.Author.Needs.{needs}
 use Rattle.receiver.proofs.receive_repair.Statement.{statement}
 use Rattle.receiver.proofs.receive_repair.Tie as tie
@@ -44,25 +47,25 @@ fits : (p : tie.Else2) → within 1 (header (p .before .before .before .before .
 fits p = sym (p .before .between .ensures) ∙ not-false (p .before .between .result) (p .if2 .left)
 
 returns : tie.Need-returns
-returns c = received-unopened _ _ _ (header-none _ (c .before .before .read-header .ensures) (c .enum-told .given .1))
+returns c = answered-refused (received-unopened _ _ _ (header-none _ (c .before .before .read-header .ensures) (c .enum-told .given .1)))
 
 working-size-requires : tie.Need-working-size-requires
 working-size-requires c κs = let p = c .before .before in headed _ (header p) (has p) .valid
 
 returns-2 : tie.Need-returns-2
-returns-2 c = let p = c .before .before .before .before in received-short _ _ _ (header p) (has p) (rw (c .before .working-size .ensures) at (c .if1 .taken))
+returns-2 c = let p = c .before .before .before .before in answered-refused (received-short _ _ _ (header p) (has p) (rw (c .before .working-size .ensures) at (c .if1 .taken)))
 
 returns-3 : tie.Need-returns-3
 returns-3 c =
     let p = c .before .before .before .before .before .before .before in
-    call-form _ _ _ (header p) (has p) (lent (c .before .before .before)) _ (sym (c .enum-told2 .given .1) ∙ c .before .before .read-repair .ensures)
+    answered-refused (call-form _ _ _ (header p) (has p) (lent (c .before .before .before)) _ (sym (c .enum-told2 .given .1) ∙ c .before .before .read-repair .ensures))
 
 returns-4 : tie.Need-returns-4
 returns-4 c =
     let p = c .before .before .before .before .before .before .before .before .before .before in
     let q = c .before .before .before in
-    call-range _ _ _ (header p) (has p) (lent (c .before .before .before .before .before .before)) (fields q) (read q)
-    (sym (c .before .between .ensures) ∙ not-true (c .before .between .result) (c .if2 .taken))
+    answered-refused (call-range _ _ _ (header p) (has p) (lent (c .before .before .before .before .before .before)) (fields q) (read q)
+    (sym (c .before .between .ensures) ∙ not-true (c .before .between .result) (c .if2 .taken)))
 
 locate-requires : tie.Need-locate-requires
 locate-requires c κs =
@@ -74,7 +77,7 @@ returns-5 : tie.Need-returns-5
 returns-5 c =
     let p = c .before .before .before .before .before .before .before .before .before .before .before .before .before .before in
     let q = c .before .before .before .before .before .before .before in
-    call-out _ _ _ (header p) (has p) (lent (c .before .before .before .before .before .before .before .before .before .before)) (fields q) (read q) (fits (c .before .before .before .before)) _ (sym (c .before .refusal .given .1) ∙ c .before .before .before .locate .ensures)
+    answered-refused (call-out _ _ _ (header p) (has p) (lent (c .before .before .before .before .before .before .before .before .before .before)) (fields q) (read q) (fits (c .before .before .before .before)) _ (sym (c .before .refusal .given .1) ∙ c .before .before .before .locate .ensures))
 
 -- The lists fit the room for them.
 lists-fit : (p : tie.Else2) → fields (p .before .before .before) .count * fields (p .before .before .before) .nss ≤ 4080
@@ -102,48 +105,62 @@ returns-6 : tie.Need-returns-6
 returns-6 c =
     let p = c .before .before .before .before .before .before .before .before .before .before .before .before .before .before .before .before .before .before .before .before in
     let q = c .before .before .before .before .before .before .before .before .before .before .before .before .before in
-    call-draws _ _ _ (header p) (has p) (lent (c .before .before .before .before .before .before .before .before .before .before .before .before .before .before .before .before)) (fields q) (read q) (fits (c .before .before .before .before .before .before .before .before .before .before)) _ (sym (c .before .before .before .before .before .before .before .at .given .1) ∙ c .before .before .before .before .before .before .before .before .before .locate .ensures)
-    (lists-were-refused (c .before .before .before .fill-lists .ensures) (c .enum-told4 .given .1))
+    answered-refused (call-draws _ _ _ (header p) (has p) (lent (c .before .before .before .before .before .before .before .before .before .before .before .before .before .before .before .before)) (fields q) (read q) (fits (c .before .before .before .before .before .before .before .before .before .before)) _ (sym (c .before .before .before .before .before .before .before .at .given .1) ∙ c .before .before .before .before .before .before .before .before .before .locate .ensures)
+    (lists-were-refused (c .before .before .before .fill-lists .ensures) (c .enum-told3 .given .1)))
 
 gather-repair-requires : tie.Need-gather-repair-requires
 gather-repair-requires c κs =
-    let p = c .before .before .before .before .before .before .before .before .before .before .before .before .before .before .before .before .before .before .before .before .before .before .before in
-    let q = c .before .before .before .before .before .before .before .before .before .before .before .before .before .before .before .before in
-    gather-asks _ _ _ (header p) (has p) (lent (c .before .before .before .before .before .before .before .before .before .before .before .before .before .before .before .before .before .before .before)) (fields q) (read q) (fits (c .before .before .before .before .before .before .before .before .before .before .before .before .before)) _ (sym (c .before .before .before .before .before .before .before .before .before .before .at .given .1) ∙ c .before .before .before .before .before .before .before .before .before .before .before .before .locate .ensures) (c .before .before .before .before .before .before .fill-lists .last .0)
-    (omega (arith, lists-fit (c .before .before .before .before .before .before .before .before .before .before .before .before .before), c .before .before .before .before .before .before .fill-lists .kept .0, c .before .before .before .before .before .before .before .before .room-for-lists .ensures))
+    let p = c .before .before .before .before .before .before .before .before .before .before .before .before .before .before .before .before .before .before .before .before .before .before .before .before in
+    let q = c .before .before .before .before .before .before .before .before .before .before .before .before .before .before .before .before .before in
+    gather-asks _ _ _ (header p) (has p) (lent (c .before .before .before .before .before .before .before .before .before .before .before .before .before .before .before .before .before .before .before .before)) (fields q) (read q) (fits (c .before .before .before .before .before .before .before .before .before .before .before .before .before .before)) _ (sym (c .before .before .before .before .before .before .before .before .before .before .before .at .given .1) ∙ c .before .before .before .before .before .before .before .before .before .before .before .before .before .locate .ensures) (c .before .before .before .before .before .before .before .fill-lists .last .0)
+    (omega (arith, lists-fit (c .before .before .before .before .before .before .before .before .before .before .before .before .before .before), c .before .before .before .before .before .before .before .fill-lists .kept .0, c .before .before .before .before .before .before .before .before .before .room-for-lists .ensures))
 
 returns-7 : tie.Need-returns-7
 returns-7 c =
-    let p = c .before .before .before .before .before .before .before .before .before .before .before .before .before .before .before .before .before .before .before .before .before .before .before .before .before .before .before .before in
-    let q = c .before .before .before .before .before .before .before .before .before .before .before .before .before .before .before .before .before .before .before .before .before in
-    let drawn = c .before .before .before .before .before .before .before .before .before .before .before .fill-lists .ensures in
-    let done = c .before .before .before .before .before .before .before .before .enum-told3 .given .1 in
-    call-contradicts _ _ _ (header p) (has p) (lent (c .before .before .before .before .before .before .before .before .before .before .before .before .before .before .before .before .before .before .before .before .before .before .before .before)) (fields q) (read q) (fits (c .before .before .before .before .before .before .before .before .before .before .before .before .before .before .before .before .before .before)) _ (sym (c .before .before .before .before .before .before .before .before .before .before .before .before .before .before .before .at .given .1) ∙ c .before .before .before .before .before .before .before .before .before .before .before .before .before .before .before .before .before .locate .ensures)
-    (lists-were-done drawn done) _ _ (drawn .bytes done) _ _ (c .before .before .before .before .gather-repair .ensures) (c .enum-told5 .given .1)
+    let p = c .before .before .before .before .before .before .before .before .before .before .before .before .before .before .before .before .before .before .before .before .before .before .before .before .before .before .before .before .before in
+    let q = c .before .before .before .before .before .before .before .before .before .before .before .before .before .before .before .before .before .before .before .before .before .before in
+    let drawn = c .before .before .before .before .before .before .before .before .before .before .before .before .fill-lists .ensures in
+    let done = c .before .before .before .before .before .before .before .before .before .draws .given .1 in
+    answered-refused (call-contradicts _ _ _ (header p) (has p) (lent (c .before .before .before .before .before .before .before .before .before .before .before .before .before .before .before .before .before .before .before .before .before .before .before .before .before)) (fields q) (read q) (fits (c .before .before .before .before .before .before .before .before .before .before .before .before .before .before .before .before .before .before .before)) _ (sym (c .before .before .before .before .before .before .before .before .before .before .before .before .before .before .before .before .at .given .1) ∙ c .before .before .before .before .before .before .before .before .before .before .before .before .before .before .before .before .before .before .locate .ensures)
+    (lists-were-done drawn done .0) _ _ (drawn .bytes _ done) _ _ (c .before .before .before .before .gather-repair .ensures) (c .enum-told4 .given .1))
 
 accept-requires : tie.Need-accept-requires
 accept-requires c κs =
     let p3 = c .before .before .before in
     let p7 = p3 .before .before .before .before in
-    let p18 = p7 .before .before .before .before .before .before .before .before .before .before .before in
-    let p20 = p18 .before .before in
-    let p21 = p20 .before in
-    let p24 = p21 .before .before .before in
-    let p27 = p24 .before .before .before in
-    let p31 = p27 .before .before .before .before in
-    let p38 = p31 .before .before .before .before .before .before .before in
-    accept-asks (header p31) _ _ _ (sym (p18 .at .given .1) ∙ p20 .locate .ensures) _ (p38 .args .work .now) (has p31) (lent p27)
+    let p19 = p7 .before .before .before .before .before .before .before .before .before .before .before .before in
+    let p21 = p19 .before .before in
+    let p22 = p21 .before in
+    let p25 = p22 .before .before .before in
+    let p28 = p25 .before .before .before in
+    let p32 = p28 .before .before .before .before in
+    let p39 = p32 .before .before .before .before .before .before .before in
+    accept-asks (header p32) _ _ _ (sym (p19 .at .given .1) ∙ p21 .locate .ensures) _ (p39 .args .work .now) (has p32) (lent p28)
     _ (p7 .gather-repair .result) _ _ (p3 .kept .given .1) (p7 .gather-repair .ensures .works) (omega arith)
-    (within-bounds 1 (header p31 .setting .width) (fields p24 .nss) (fits p21) .1)
+    (within-bounds 1 (header p32 .setting .width) (fields p25 .nss) (fits p22) .1)
 
 returns-8 : tie.Need-returns-8
 returns-8 c =
-    let p = c .before .before .before .before .before .before .before .before .before .before .before .before .before .before .before .before .before .before .before .before .before .before .before .before .before .before .before .before .before .before .before .before .before .before in
-    let q = c .before .before .before .before .before .before .before .before .before .before .before .before .before .before .before .before .before .before .before .before .before .before .before .before .before .before .before in
-    let drawn = c .before .before .before .before .before .before .before .before .before .before .before .before .before .before .before .before .before .fill-lists .ensures in
-    let done = c .before .before .before .before .before .before .before .before .before .before .before .before .before .before .enum-told3 .given .1 in
-    call-done _ _ _ (header p) (has p) (lent (c .before .before .before .before .before .before .before .before .before .before .before .before .before .before .before .before .before .before .before .before .before .before .before .before .before .before .before .before .before .before)) (fields q) (read q) (fits (c .before .before .before .before .before .before .before .before .before .before .before .before .before .before .before .before .before .before .before .before .before .before .before .before)) _ (sym (c .before .before .before .before .before .before .before .before .before .before .before .before .before .before .before .before .before .before .before .before .before .at .given .1) ∙ c .before .before .before .before .before .before .before .before .before .before .before .before .before .before .before .before .before .before .before .before .before .before .before .locate .ensures)
-    (lists-were-done drawn done) _ _ (drawn .bytes done) _ _ (c .before .before .before .before .before .before .before .before .before .before .gather-repair .ensures) _ _ _ (c .before .before .before .before .before .before .kept .given .1) (c .before .before .accept .ensures)
+    let p6 = c .before .before .before .before .before .before in
+    let p10 = p6 .before .before .before .before in
+    let p15 = p10 .before .before .before .before .before in
+    let p18 = p15 .before .before .before in
+    let p22 = p18 .before .before .before .before in
+    let p25 = p22 .before .before .before in
+    let p28 = p25 .before .before .before in
+    let p31 = p28 .before .before .before in
+    let p35 = p31 .before .before .before .before in
+    let h = header p35 in
+    let f = fields p28 in
+    let drawn = p18 .fill-lists .ensures in
+    let done = p15 .draws .given .1 in
+    let few : f .nss ≤ 255 = omega (arith, within-bounds 1 (h .setting .width) (f .nss) (fits p25) .1, headed _ h (has p35) .valid .width-most) in
+    let lists : length (keys (f .key .0) (f .count)) ≤ 16 = rw (length-keys (f .key .0) (f .count)) (sized _ _ f (read p28) .0) in
+    let took = lists-were-done drawn done .1 in
+    answered-done h _ _ _ (p10 .gather-repair .result) _ _ _ _ (has p35) (p6 .kept .given .1) (p10 .gather-repair .ensures .works) (c .before .before .accept .ensures)
+    (took ∙ draws-are _ _ (p35 .before .before .before .before .before .before .before .args .work .now) h (has p35) (lent p31) f (read p28)) (rw took (packet-draws (h .setting .scheme) (f .dt) (f .nss) few (keys (f .key .0) (f .count)) lists))
+    (call-done _ _ _ h (has p35) (lent p31) f (read p28) (fits p25) _ (sym (p22 .at .given .1) ∙ p22 .before .before .locate .ensures)
+    (lists-were-done drawn done .0) _ _ (drawn .bytes _ done) _ _ (p10 .gather-repair .ensures) _ _ _ (p6 .kept .given .1) (c .before .before .accept .ensures))
 
 pub receive-repair-spec : {M : Type 1} → statement M
 receive-repair-spec =

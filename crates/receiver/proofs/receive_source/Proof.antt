@@ -1,5 +1,5 @@
 -- `receiver::receive_source` meets its contract.
-use mathlib.Core.Path.{_≡_, ap, sym, _∙_}
+use mathlib.Core.Path.{_≡_, refl, ap, sym, _∙_}
 use mathlib.Core.Option.{some}
 use Prim.Native.Nat.{ℕ, _≤_}
 use native.Mathlib.Omega.{arith}
@@ -14,6 +14,7 @@ use Rattle.receiver.specs.Header.{headerIn}
 use Rattle.receiver.specs.Steps.{placeFound}
 use Rattle.receiver.proofs.Headers.{header-is, header-none, Headed, headed}
 use Rattle.receiver.proofs.Receiving.{received-unopened, received-short, place-width, place-size, ready, accept-asks}
+use Rattle.receiver.proofs.Drawing.{answered-refused, answered-done}
 use Rattle.receiver.proofs.SourceCall.{Fields, source-fields, adu-length, source-none}
 use Rattle.receiver.proofs.SourceCall.{call-form, call-long, call-many, call-out, call-contradicts, call-done}
 use borrow.Author.Needs.{needs}
@@ -58,35 +59,35 @@ found : (p : tie.After-at) → PlaceIs (place p) ≡ placeFound (header (read-he
 found p = sym (p .at .given .1) ∙ p .before .before .locate .ensures
 
 returns : tie.Need-returns
-returns c = received-unopened _ _ _ (header-none _ (c .before .before .read-header .ensures) (c .enum-told .given .1))
+returns c = answered-refused (received-unopened _ _ _ (header-none _ (c .before .before .read-header .ensures) (c .enum-told .given .1)))
 
 working-size-requires : tie.Need-working-size-requires
 working-size-requires c κs = says (c .before .before) .valid
 
 returns-2 : tie.Need-returns-2
-returns-2 c = received-short _ _ _ (header (c .before .before .before .before)) (has (c .before .before .before .before)) (rw (c .before .working-size .ensures) at (c .if1 .taken))
+returns-2 c = answered-refused (received-short _ _ _ (header (c .before .before .before .before)) (has (c .before .before .before .before)) (rw (c .before .working-size .ensures) at (c .if1 .taken)))
 
 returns-3 : tie.Need-returns-3
 returns-3 c =
-    call-form _ _ _ _ (header (c .before .before .before .before .before .before .before)) (has (c .before .before .before .before .before .before .before)) (room (c .before .before .before)) (source-none _ _ (c .before .before .read-source .result) (c .before .before .read-source .ensures) (c .enum-told2 .given .1))
+    answered-refused (call-form _ _ _ _ (header (c .before .before .before .before .before .before .before)) (has (c .before .before .before .before .before .before .before)) (room (c .before .before .before)) (source-none _ _ (c .before .before .read-source .result) (c .before .before .read-source .ensures) (c .enum-told2 .given .1)))
 
 returns-4 : tie.Need-returns-4
-returns-4 c = call-long _ _ _ _ (header (c .before .before .before .before .before .before .before .before .before .before)) (has (c .before .before .before .before .before .before .before .before .before .before)) (room (c .before .before .before .before .before .before)) (fields (c .before .before .before)) (reads (c .before .before .before)) (c .if2 .taken)
+returns-4 c = answered-refused (call-long _ _ _ _ (header (c .before .before .before .before .before .before .before .before .before .before)) (has (c .before .before .before .before .before .before .before .before .before .before)) (room (c .before .before .before .before .before .before)) (fields (c .before .before .before)) (reads (c .before .before .before)) (c .if2 .taken))
 
 symbol-count-requires : tie.Need-symbol-count-requires
 symbol-count-requires c κs = let v = says (c .before .before .before .before .before .before .before .before .before .before) .valid in omega (arith, v .size-least, v .size-most, c .if2 .left)
 
 returns-5 : tie.Need-returns-5
 returns-5 c =
-    call-many _ _ _ _ (header (c .before .before .before .before .before .before .before .before .before .before .before .before .before)) (has (c .before .before .before .before .before .before .before .before .before .before .before .before .before)) (room (c .before .before .before .before .before .before .before .before .before)) (fields (c .before .before .before .before .before .before)) (reads (c .before .before .before .before .before .before)) (c .before .before .before .if2 .left) _ (c .before .before .symbol-count .ensures) (c .if3 .taken)
+    answered-refused (call-many _ _ _ _ (header (c .before .before .before .before .before .before .before .before .before .before .before .before .before)) (has (c .before .before .before .before .before .before .before .before .before .before .before .before .before)) (room (c .before .before .before .before .before .before .before .before .before)) (fields (c .before .before .before .before .before .before)) (reads (c .before .before .before .before .before .before)) (c .before .before .before .if2 .left) _ (c .before .before .symbol-count .ensures) (c .if3 .taken))
 
 locate-requires : tie.Need-locate-requires
 locate-requires c κs = let k = says (c .before .before .before .before .before .before .before .before .before .before .before .before .before) in (k .valid, k .row-lt, c .if3 .left)
 
 returns-6 : tie.Need-returns-6
 returns-6 c =
-    call-out _ _ _ _ (header (c .before .before .before .before .before .before .before .before .before .before .before .before .before .before .before .before .before)) (has (c .before .before .before .before .before .before .before .before .before .before .before .before .before .before .before .before .before)) (room (c .before .before .before .before .before .before .before .before .before .before .before .before .before)) (fields (c .before .before .before .before .before .before .before .before .before .before)) (reads (c .before .before .before .before .before .before .before .before .before .before)) (c .before .before .before .before .before .before .before .if2 .left) _ (c .before .before .before .before .before .before .symbol-count .ensures)
-    (c .before .before .before .before .if3 .left) _ (sym (c .before .refusal .given .1) ∙ c .before .before .before .locate .ensures)
+    answered-refused (call-out _ _ _ _ (header (c .before .before .before .before .before .before .before .before .before .before .before .before .before .before .before .before .before)) (has (c .before .before .before .before .before .before .before .before .before .before .before .before .before .before .before .before .before)) (room (c .before .before .before .before .before .before .before .before .before .before .before .before .before)) (fields (c .before .before .before .before .before .before .before .before .before .before)) (reads (c .before .before .before .before .before .before .before .before .before .before)) (c .before .before .before .before .before .before .before .if2 .left) _ (c .before .before .before .before .before .before .symbol-count .ensures)
+    (c .before .before .before .before .if3 .left) _ (sym (c .before .refusal .given .1) ∙ c .before .before .before .locate .ensures))
 
 part-requires : tie.Need-part-requires
 part-requires c κs = omega (arith, reads (c .before .before .before .before .before .before .before .before .before .before) .within)
@@ -111,9 +112,9 @@ returns-7 : tie.Need-returns-7
 returns-7 c =
     let p = c .before .before .before .before .before .before .before .before .before in
     let gathered = c .before .before .before .before .gather-source in
-    call-contradicts _ _ _ _ (header (read-header p)) (has (read-header p)) (long-enough p) (fields (read-fields p)) (reads (read-fields p))
+    answered-refused (call-contradicts _ _ _ _ (header (read-header p)) (has (read-header p)) (long-enough p) (fields (read-fields p)) (reads (read-fields p))
     (p .before .before .before .before .before .before .if2 .left) _ (p .before .before .before .before .before .symbol-count .ensures) (p .before .before .before .if3 .left) (place p) (found p) _ _ (c .before .before .before .before .before .before .before .part .ensures .bytes)
-    (gathered .result) (gathered .ensures) (c .enum-told3 .given .1)
+    (gathered .result) (gathered .ensures) (c .enum-told3 .given .1))
 
 accept-requires : tie.Need-accept-requires
 accept-requires c κs =
@@ -127,9 +128,11 @@ returns-8 : tie.Need-returns-8
 returns-8 c =
     let p = c .before .before .before .before .before .before .before .before .before .before .before .before .before .before .before in
     let gathered = c .before .before .before .before .before .before .before .before .before .before .gather-source in
-    call-done _ _ _ _ (header (read-header p)) (has (read-header p)) (long-enough p) (fields (read-fields p)) (reads (read-fields p))
+    let kept = c .before .before .before .before .before .before .kept .given .1 in
+    answered-done (header (read-header p)) _ _ _ (gathered .result) _ _ _ _ (has (read-header p)) kept (gathered .ensures .works) (c .before .before .accept .ensures) refl (omega arith)
+    (call-done _ _ _ _ (header (read-header p)) (has (read-header p)) (long-enough p) (fields (read-fields p)) (reads (read-fields p))
     (p .before .before .before .before .before .before .if2 .left) _ (p .before .before .before .before .before .symbol-count .ensures) (p .before .before .before .if3 .left) (place p) (found p) _ _ (c .before .before .before .before .before .before .before .before .before .before .before .before .before .part .ensures .bytes)
-    (gathered .result) (gathered .ensures) _ _ _ (c .before .before .before .before .before .before .kept .given .1) (c .before .before .accept .ensures)
+    (gathered .result) (gathered .ensures) _ _ _ kept (c .before .before .accept .ensures))
 
 pub receive-source-spec : {M : Type 1} → statement M
 receive-source-spec =

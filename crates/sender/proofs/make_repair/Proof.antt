@@ -14,7 +14,7 @@ use Rattle.sender.specs.State.{headerIn}
 use Rattle.sender.proofs.Heads.{header-is, header-none, Opened, opened}
 use Rattle.sender.proofs.Promising.{kept, promise-unopened, promise-refused}
 use Rattle.sender.proofs.Repairing.{repairing-range, repairing-empty, repairing-short}
-use Rattle.sender.proofs.Combining.{repairs}
+use Rattle.sender.proofs.Combining.{repair-made, refused-made}
 use borrow.Author.Needs.{needs}
 use Rattle.sender.proofs.make_repair.Statement.{statement}
 use Rattle.sender.proofs.make_repair.Tie as tie
@@ -40,24 +40,24 @@ area : (p : tie.Else2) → p .before .before .before .before .before .before .be
 area p = mul-le-mul (within-bounds 1 16 (p .before .before .before .before .before .before .before .before .before .args .count) (counted p) .1) (says (p .before .before .before .before) .valid .size-most)
 
 returns : tie.Need-returns
-returns c = promise-unopened _ _ _ (header-none _ (c .before .before .read-header .ensures) (c .enum-told .given .1)) _ (kept _ _ _)
+returns c = refused-made _ _ _ _ _ _ (promise-unopened _ _ _ (header-none _ (c .before .before .read-header .ensures) (c .enum-told .given .1)) _ (kept _ _ _))
 
 returns-2 : tie.Need-returns-2
 returns-2 c =
     let p = c .before .before in
-    promise-refused _ _ _ (header p) (has p) _ (λ e. omega arith) (λ s k q. repairing-range _ _ _ _ s (rw (lt-ltb 15 _ (c .if1 .taken))))
+    refused-made _ _ _ _ _ _ (promise-refused _ _ _ (header p) (has p) _ (λ e. omega arith) (λ s k q. repairing-range _ _ _ _ s (rw (lt-ltb 15 _ (c .if1 .taken)))))
 
 returns-3 : tie.Need-returns-3
 returns-3 c =
     let p = c .before .before .before .before in
     let a = c .before .before .before .before .before .before .before .before .before .args in
     let t : within 1 16 (a .count) ≡ false = sym (c .before .between .ensures) ∙ not-true (c .before .between .result) (c .if2 .taken) in
-    promise-refused _ _ _ (header p) (has p) _ (λ e. omega arith) (λ s k q. repairing-range _ _ _ _ s (rw (le-ltb 15 (a .dt) (c .before .before .if1 .left), t)))
+    refused-made _ _ _ _ _ _ (promise-refused _ _ _ (header p) (has p) _ (λ e. omega arith) (λ s k q. repairing-range _ _ _ _ s (rw (le-ltb 15 (a .dt) (c .before .before .if1 .left), t))))
 
 returns-4 : tie.Need-returns-4
 returns-4 c =
     let p = c .before .before .before .before .before .before in
-    promise-refused _ _ _ (header p) (has p) _ (λ e. omega arith) (λ s k q. repairing-empty _ _ _ _ s (ranged (c .before .before)) (header p) q (c .if3 .taken))
+    refused-made _ _ _ _ _ _ (promise-refused _ _ _ (header p) (has p) _ (λ e. omega arith) (λ s k q. repairing-empty _ _ _ _ s (ranged (c .before .before)) (header p) q (c .if3 .taken)))
 
 mul-if4 : tie.Need-mul-if4
 mul-if4 c = omega (arith, area (c .before .before .before .before))
@@ -68,8 +68,8 @@ add-if4 c = omega (arith, area (c .before .before .before .before))
 returns-5 : tie.Need-returns-5
 returns-5 c =
     let p = c .before .before .before .before .before .before .before .before .before in
-    promise-refused _ _ _ (header p) (has p) _ (λ e. omega arith)
-    (λ s k q. repairing-short _ _ _ _ s (ranged (c .before .before .before .before .before)) (header p) q (c .before .before .before .if3 .left) (c .if4 .taken))
+    refused-made _ _ _ _ _ _ (promise-refused _ _ _ (header p) (has p) _ (λ e. omega arith)
+    (λ s k q. repairing-short _ _ _ _ s (ranged (c .before .before .before .before .before)) (header p) q (c .before .before .before .if3 .left) (c .if4 .taken)))
 
 cast-write-packet : tie.Need-cast-write-packet
 cast-write-packet c = omega (arith, c .before .before .before .before .before .before .before .before .if1 .left)
@@ -82,7 +82,8 @@ returns-6 : tie.Need-returns-6
 returns-6 c =
     let a = c .before .before .before .before .before .before .before .before .before .before .before .before .before .before .before .before .before .before .args in
     let p = c .before .before .before .before .before .before .before .before .before .before .before .before .before in
-    repairs (header p) (a .key .0) (a .dt) (a .count) (a .mem .now) (a .out .now) (has p) (ranged (c .before .before .before .before .before .before .before .before .before)) (c .before .before .before .before .before .before .before .if3 .left) (c .before .before .before .before .if4 .left) _ _ (c .before .before .write-packet .ensures)
+    repair-made (header p) (a .key .0) (a .dt) (a .count) (a .mem .now) (a .out .now) (has p) (ranged (c .before .before .before .before .before .before .before .before .before))
+    (omega arith) (c .before .before .before .before .before .before .before .before .before .before .before .if1 .left) (within-bounds 1 16 (a .count) (counted (c .before .before .before .before .before .before .before .before .before)) .1) (c .before .before .before .before .before .before .before .if3 .left) (c .before .before .before .before .if4 .left) _ _ (c .before .before .write-packet .ensures)
 
 pub make-repair-spec : {M : Type 1} → statement M
 make-repair-spec =
