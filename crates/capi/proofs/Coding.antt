@@ -64,6 +64,9 @@ readable = record {
   values = λ n k a b e. let f : min n largest ≡ min k largest = ap natAbs e in omega (arith, f, a, b);
   adus = λ flow L flow′ L′ a b c d e.
       let f : min (flow * 65536 + L) largest ≡ min (flow′ * 65536 + L′) largest = ap natAbs e in (omega (arith, f, a, b, c, d), omega (arith, f, a, b, c, d));
+  draws = λ n d n′ d′ a b c k e.
+      let f : min (n + 4294967296 * d) largest ≡ min (n′ + 4294967296 * d′) largest = ap natAbs e in
+      (omega (arith, f, a, b, c, k), omega (arith, f, a, b, c, k));
 }
   where
     apart : (n k : ℕ) → 1 ≤ k → coded (value n) ≢ coded (refusal k)

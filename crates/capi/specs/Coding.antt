@@ -2,12 +2,17 @@
 use mathlib.Core.Path.{_≡_}
 use mathlib.Core.Logic.{_≢_}
 use mathlib.Core.Option.{Option, none, some}
-use Prim.Native.Nat.{ℕ, _≤_, _<_, min}
+use Prim.Native.Nat.{ℕ, _+_, _*_, _≤_, _<_, min}
 use lib.IntN.{ℤ, pos, negℤ}
 use Rattle.wire.specs.declared.Setting.{Setting}
+use Rattle.wire.specs.Numbers.{numberOf}
 use Rattle.sender.specs.declared.Answer.{Answer}
+use Rattle.sender.specs.declared.RepairAnswer.{RepairAnswer}
+use Rattle.sender.specs.declared.RepairAnswer.the-variants.{Made, NotMade}
 use Rattle.sender.specs.Promises as sender
 use Rattle.starts.specs.declared.Handed.the-variants.{Adu}
+use Rattle.receiver.specs.declared.PacketAnswer.{PacketAnswer}
+use Rattle.receiver.specs.declared.PacketAnswer.the-variants.{Accepted, NotAccepted}
 use Rattle.receiver.specs.History.{Said, value, refusal}
 use Rattle.receiver.specs.Promises.{handedSaid}
 
@@ -20,14 +25,30 @@ abbrev pub coded : Said → ℤ
 coded (value n) = pos (min n largest)
 coded (refusal n) = negℤ (pos n)
 
+-- A value and the draws beside it, as one value: 2^32 times the draws, and the value.
+abbrev pub withDraws : (n draws : ℕ) → Said
+withDraws n draws = value (n + 4294967296 * draws)
+
+-- What a packet call and making repair answer.
+abbrev pub packetSaid : PacketAnswer → Said
+packetSaid (Accepted n draws) = withDraws n draws
+packetSaid (NotAccepted r) = refusal (numberOf r)
+
+abbrev pub repairSaid : RepairAnswer → Said
+repairSaid (Made n draws) = withDraws n draws
+repairSaid (NotMade r) = refusal (numberOf r)
+
 -- A code is read back: no refusal has the code of a value, and neither two refusals nor two values up to the largest number share one.
--- From the code of an ADU its flow, a byte, and its length, a number of two bytes, are read.
+-- From the code of an ADU its flow, a byte, and its length, a number of two bytes, are read; from that of a value with draws both, where they are as
+-- small as the promises say.
 pub record Readable : Type 0 where
   pub apart : (n k : ℕ) → 1 ≤ k → coded (value n) ≢ coded (refusal k)
   pub refusals : (n k : ℕ) → coded (refusal n) ≡ coded (refusal k) → n ≡ k
   pub values : (n k : ℕ) → n ≤ largest → k ≤ largest → coded (value n) ≡ coded (value k) → n ≡ k
   pub adus : (flow L flow′ L′ : ℕ) → flow < 256 → flow′ < 256 → L ≤ 65535 → L′ ≤ 65535
       → coded (handedSaid (Adu flow L)) ≡ coded (handedSaid (Adu flow′ L′)) → (flow ≡ flow′) × (L ≡ L′)
+  pub draws : (n d n′ d′ : ℕ) → n ≤ 65535 → n′ ≤ 65535 → d ≤ 69360 → d′ ≤ 69360
+      → coded (withDraws n d) ≡ coded (withDraws n′ d′) → (n ≡ n′) × (d ≡ d′)
 
 -- What an answer of the sender says, in the receiver's words.
 abbrev pub ofSender : sender.Said → Said

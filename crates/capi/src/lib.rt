@@ -5,11 +5,11 @@ ghost use Prim.Native.Nat.{_+_, _*_, _≤_};
 ghost use Rattle.wire.specs.Numbers.{numberOf};
 ghost use Rattle.wire.specs.Settings.{settingOf};
 ghost use Rattle.sender.specs.State as sender;
-ghost use Rattle.sender.specs.Promises.{Opens, Adds, Repairs};
+ghost use Rattle.sender.specs.Promises.{Opens, Adds, RepairMade};
 ghost use Rattle.receiver.specs.History.{value, refusal, memorySize, workingSize, source-call, repair-call};
-ghost use Rattle.receiver.specs.Promises.{Opened, Received, SymbolAnswered, PlaceAnswered, AduAnswered, said, handedSaid};
+ghost use Rattle.receiver.specs.Promises.{Opened, PacketAnswered, SymbolAnswered, PlaceAnswered, AduAnswered, said, handedSaid};
 ghost use Rattle.receiver.specs.Layout.{receiverLayout};
-ghost use Rattle.capi.specs.Coding.{coded, senderSaid, Codes, asked};
+ghost use Rattle.capi.specs.Coding.{coded, senderSaid, withDraws, packetSaid, repairSaid, Codes, asked};
 use starts::Handed;
 use wire::Checked;
 use wire::Esi;
@@ -65,6 +65,39 @@ fn coded_receiver(answer: receiver::Answer) -> i64
     match answer {
         receiver::Answer::Done(n) => coded_value(n),
         receiver::Answer::Refused(why) => coded_refusal(why),
+    }
+}
+
+// A count and the draws beside it as they are coded.
+fn coded_count(n: usize, draws: u32) -> i64
+    ensures { λ r. ⌜ r ≡ coded (withDraws n draws) ⌝ }
+{
+    if n >= 9223372036854775807 {
+        return 9223372036854775807;
+    }
+    if draws >= 2147483648 {
+        return 9223372036854775807;
+    }
+    coded_value(n + 4294967296 * draws as usize)
+}
+
+// An answer to making repair.
+fn coded_repair(answer: sender::RepairAnswer) -> i64
+    ensures { λ r. ⌜ r ≡ coded (repairSaid answer) ⌝ }
+{
+    match answer {
+        sender::RepairAnswer::Made(n, draws) => coded_count(n, draws),
+        sender::RepairAnswer::NotMade(why) => coded_refusal(why),
+    }
+}
+
+// An answer of a packet call.
+fn coded_packet(answer: receiver::PacketAnswer) -> i64
+    ensures { λ r. ⌜ r ≡ coded (packetSaid answer) ⌝ }
+{
+    match answer {
+        receiver::PacketAnswer::Accepted(n, draws) => coded_count(n, draws),
+        receiver::PacketAnswer::NotAccepted(why) => coded_refusal(why),
     }
 }
 
@@ -149,9 +182,9 @@ pub extern "C" fn rlc_sender_make_repair(
     count: u32,
     out: &mut [u8],
 ) -> i64
-    ensures { λ r. ⌜ Codes senderSaid (λ a. Repairs key dt count (now (memory .entry)) (now (out .entry)) a (now (out .exit))) r ⌝ }
+    ensures { λ r. ⌜ Codes repairSaid (λ a. RepairMade key dt count (now (memory .entry)) (now (out .entry)) a (now (out .exit))) r ⌝ }
 {
-    coded_sender(sender::make_repair(memory, RepairKey(key), dt as usize, count as usize, out))
+    coded_repair(sender::make_repair(memory, RepairKey(key), dt as usize, count as usize, out))
 }
 
 #[no_mangle]
@@ -168,18 +201,18 @@ pub extern "C" fn rlc_receive_source(
     flow: u8,
     packet: &[u8],
 ) -> i64
-    ensures { λ r. ⌜ Codes said (Received receiverLayout (source-call flow (now (packet .entry)))
+    ensures { λ r. ⌜ Codes packetSaid (PacketAnswered receiverLayout (source-call flow (now (packet .entry)))
         (now (memory .entry)) (now (memory .exit)) (now (work .entry)) (now (work .exit))) r ⌝ }
 {
-    coded_receiver(receiver::receive_source(memory, work, flow, packet))
+    coded_packet(receiver::receive_source(memory, work, flow, packet))
 }
 
 #[no_mangle]
 pub extern "C" fn rlc_receive_repair(memory: &mut [u8], work: &mut [u8], packet: &[u8]) -> i64
-    ensures { λ r. ⌜ Codes said (Received receiverLayout (repair-call (now (packet .entry)))
+    ensures { λ r. ⌜ Codes packetSaid (PacketAnswered receiverLayout (repair-call (now (packet .entry)))
         (now (memory .entry)) (now (memory .exit)) (now (work .entry)) (now (work .exit))) r ⌝ }
 {
-    coded_receiver(receiver::receive_repair(memory, work, packet))
+    coded_packet(receiver::receive_repair(memory, work, packet))
 }
 
 #[no_mangle]

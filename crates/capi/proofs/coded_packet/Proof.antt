@@ -1,0 +1,23 @@
+-- `capi::coded_packet` meets its contract.
+use Rattle.capi.specs.Coding.{packetSaid}
+use Rattle.capi.proofs.Coding.{coded-case}
+use borrow.Author.Needs.{needs}
+use Rattle.capi.proofs.coded_packet.Statement.{statement}
+use Rattle.capi.proofs.coded_packet.Tie as tie
+
+returns : tie.Need-returns
+returns c = coded-case packetSaid (c .coded-count .ok) (c .before .before .answer .given .1) (c .coded-count .ensures)
+
+returns-2 : tie.Need-returns-2
+returns-2 c = coded-case packetSaid (c .coded-refusal .ok) (c .before .before .answer2 .given .1) (c .coded-refusal .ensures)
+
+pub coded-packet-spec : {M : Type 1} → statement M
+coded-packet-spec =
+    tie.close
+    (tie.spec
+    (λ c. search needs)
+    (λ c κs. search needs)
+    (λ c. search needs)
+    (λ c κs. search needs)
+    returns
+    returns-2)
