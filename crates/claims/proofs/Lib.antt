@@ -11,5 +11,6 @@ pub mod Sent
 pub mod SentAdus
 pub mod Heard
 pub mod NotEmpty
+pub mod Drawing
 pub mod ReceiverUnopened
 pub mod Receiver

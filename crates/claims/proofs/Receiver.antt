@@ -10,6 +10,7 @@ use Rattle.claims.proofs.Sending.{sender-sends}
 use Rattle.claims.proofs.SentAdus.{start-gives, junk-gives, sent-written, sent-starts, sent-handed}
 use Rattle.claims.proofs.Heard.{chain-goes-on, heard, heard-handed}
 use Rattle.claims.proofs.NotEmpty.{runs-exist}
+use Rattle.claims.proofs.Drawing.{accepted-draws, made-draws}
 use Rattle.claims.proofs.ReceiverUnopened.{receiver-unopened}
 
 pub receiver-claims : Receiver-claims
@@ -32,5 +33,7 @@ receiver-claims = record {
   sent-written = sent-written;
   sent-starts = sent-starts;
   sent-handed = sent-handed;
+  accepted-draws = accepted-draws;
+  made-draws = made-draws;
   unopened = receiver-unopened;
 }

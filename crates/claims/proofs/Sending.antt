@@ -27,7 +27,8 @@ use Rattle.sender.specs.Repair.{repairSymbol, writtenKey}
 use Rattle.sender.specs.Calls.{Outcome, refused, done, refuseIf, opening, adding, repairOf, repairing}
 use Rattle.sender.specs.Promises.{bytes, refusal, said, Follows}
 use Rattle.sender.proofs.Heads.{opened}
-use Rattle.claims.specs.SenderRun.{SenderCall, added, repaired, Calls, SenderRun, symbolsOf, Packet, repair, packetsOf}
+use Rattle.sender.proofs.Combining.{written-small}
+use Rattle.claims.specs.SenderRun.{SenderCall, added, repaired, Calls, memoryAfter, SenderRun, symbolsOf, Packet, repair, packetsOf}
 use Rattle.claims.specs.SenderRun.{Wrote, wrote-source, wrote-repair, AllWrote, Sender-symbols, Sender-packets}
 use Rattle.claims.specs.SentAdus.{Begins, Sent, sent-source, sent-repair, AllSent, Sender-sends}
 use Rattle.claims.proofs.Symbols.{are-symbols}
@@ -41,14 +42,6 @@ passed false n o p s e = (refl, e)
 neither : (a b : Bool) → (a || b) ≡ false → (a ≡ false) × (b ≡ false)
 neither true b e = (e, cc)
 neither false b e = (refl, e)
-
-written-small : (scheme : Scheme) (key dt : ℕ) → key < 2 ^ 16 → writtenKey scheme key dt < 2 ^ 16
-written-small Gf2 key dt h = go (eqb dt 15)
-  where
-    go : (b : Bool) → cond b 0 key < 2 ^ 16
-    go true = lit< tt
-    go false = h
-written-small Gf256 key dt h = h
 
 impossible : (n k : ℕ) → bytes n ≡ refusal k → ⊥
 impossible n k e = let z : _≡_ {A = ℕ} 0 1 = cc in omega arith
@@ -132,8 +125,8 @@ module _ (t : Setting) where
 
   -- the memory after some calls holds what they took, and the others go on from there
   ran : (xs : List (List ℕ)) (m : List ℕ) (before after : List SenderCall) → Holds m (holding xs) → Calls m (before ++ after)
-      → (m′ : List ℕ) × Holds m′ (holding (xs ++ symbolsOf (t .size) before)) × Calls m′ after
-  ran xs m [] after h c = (m, rw append-nil h, c)
+      → Holds (memoryAfter m before) (holding (xs ++ symbolsOf (t .size) before)) × Calls (memoryAfter m before) after
+  ran xs m [] after h c = (rw append-nil h, c)
   ran xs m (added flow adu out (Done n) m′ out′ ∷ l) after h (f, b, p, c) =
       let new = sourceSymbols flow adu (t .size) in
       let a = added-done xs flow adu n m out m′ out′ _ refl (p .follows (holding xs) h) in
@@ -208,6 +201,11 @@ opened-holds t m m′ r (done p s) e f a = go (settingOf (schemeNumber (t .schem
 run-holds : (t : Setting) (l : List SenderCall) (r : SenderRun t l) → Holds (r .after) (fresh t)
 run-holds t l r = opened-holds t (r .before) (r .after) (r .answer) _ refl (r .opened) (r .answered)
 
+-- and the memory after the calls holds what they took
+pub run-held : (t : Setting) (l : List SenderCall) (r : SenderRun t l)
+    → Holds (memoryAfter (r .after) l) (record { setting = t; symbols = symbolsOf (t .size) l })
+run-held t l r = ran t [] (r .after) l [] (run-holds t l r) (rw append-nil (r .calls)) .0
+
 pub run-size : (t : Setting) (l : List SenderCall) → SenderRun t l → 4 ≤ t .size
 run-size t l r = opened (r .after) (headerOf (fresh t)) (run-holds t l r .header) .valid .size-least
 
@@ -228,10 +226,10 @@ pub record Taken (flow : ℕ) (adu : List ℕ) : Type 0 where
 pub begun : (t : Setting) (l : List SenderCall) → SenderRun t l → (p flow : ℕ) (adu : List ℕ) → Begins (t .size) l p flow adu → Taken flow adu
 begun t l r p flow adu b =
     let x = added flow adu (b .out) (Done (b .answer)) (b .m′) (b .out′) in
-    let (m, h, c) = ran t [] (r .after) (b .before) (x ∷ b .after) (run-holds t l r) (rw (b .split) at (r .calls)) in
+    let (h, c) = ran t [] (r .after) (b .before) (x ∷ b .after) (run-holds t l r) (rw (b .split) at (r .calls)) in
     let xs = symbolsOf (t .size) (b .before) in
     let (f, g, q, d) = c in
-    let a = added-done t xs flow adu (b .answer) m (b .out) (b .m′) (b .out′) _ refl (q .follows (holding t xs) h) in
+    let a = added-done t xs flow adu (b .answer) (memoryAfter (r .after) (b .before)) (b .out) (b .m′) (b .out′) _ refl (q .follows (holding t xs) h) in
     record { flow-byte = f; adu-bytes = g; short = a .short }
 
 -- its symbols stand among the sender's

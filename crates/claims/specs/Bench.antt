@@ -14,7 +14,7 @@ use Rattle.wire.specs.Settings.{inRange, settingOf, field, settingIn}
 use Rattle.wire.specs.Packets.{zeros, symbolCount, adui, sourceSymbols, sourcePacket, sourceForm, sourceAdu, sourceEsi}
 use Rattle.wire.specs.Packets.{repairHeader, repairPacket, repairCount, repairForm, repairKey, densityThreshold, protectedCount, firstEsi}
 use Rattle.wire.specs.Packets.{repairSymbols}
-use Rattle.coefficients.specs.Coefficients.{nonzeroFrom, bitOf, byteOf, extend, coefficientsOf}
+use Rattle.coefficients.specs.Coefficients.{nonzeroFrom, bitOf, byteOf, extend, coefficientsOf, packetDraws}
 use Rattle.decoder.specs.Model as model
 use Rattle.decoder.specs.Receiver as decoder
 use Rattle.decoder.specs.Packets as packets
@@ -28,6 +28,7 @@ use Rattle.receiver.specs.Symbol.{bytesOf}
 use Rattle.receiver.specs.History.{Call, source-call, repair-call, placeOf, check, placed, readSource, readRepair, reading, workingSize}
 use Rattle.receiver.specs.History.{Said, value, refusal as refuses}
 use Rattle.receiver.specs.Model as receiver
+use Rattle.receiver.specs.Promises.{drawsFor}
 use Rattle.receiver.specs.Model.{State, saidOf, stateAfter, receiving, Finding, shows, hides, finding, startsAfter, marking, aduAt}
 
 -- what the symbol call and the part show for an ESI: an answer, and bytes
@@ -131,6 +132,10 @@ adu b e = source-call 1 (b ∷ 0 ∷ 0 ∷ 0 ∷ e ∷ [])
 abbrev repair-of : (n byte : ℕ) → Call
 repair-of n b = repair-call (0 ∷ 0 ∷ 0xF0 ∷ n ∷ 0 ∷ 0 ∷ 0 ∷ 0 ∷ 0 ∷ 0 ∷ 0 ∷ b ∷ [])
 
+-- a repair packet of a key and DT 4 over five symbols from ESI 0 on, whose `count` repair symbols are zero
+abbrev five-by : (key count : ℕ) → Call
+five-by key count = repair-call (0 ∷ key ∷ 0x40 ∷ 5 ∷ 0 ∷ 0 ∷ 0 ∷ 0 ∷ zeros (count * 4))
+
 -- a repair packet of key 1 and a DT over one symbol, its bytes zero
 abbrev zero-at : (dt : ℕ) → Call
 zero-at dt = repair-call (0 ∷ 1 ∷ dt * 16 ∷ 1 ∷ 0 ∷ 0 ∷ 0 ∷ 0 ∷ 0 ∷ 0 ∷ 0 ∷ 0 ∷ [])
@@ -165,6 +170,10 @@ pub bench :
     numbers (product 2 128 ∷ []) ∷ numbers (product 3 7 ∷ []) ∷ numbers (inverse 2 ∷ [])
     -- C4 to C6: coefficients
     ∷ numbers (coefficientsOf Gf256 1 15 5 .list) ∷ numbers (coefficientsOf Gf2 1 4 6 .list) ∷ numbers (coefficientsOf Gf256 1 4 5 .list)
+    -- the draws of C4 to C6; of packets: over five symbols with the keys 5, 6, and both in one packet; of scheme 9 with DT 15; of a source packet
+    ∷ numbers (coefficientsOf Gf256 1 15 5 .draws ∷ coefficientsOf Gf2 1 4 6 .draws ∷ coefficientsOf Gf256 1 4 5 .draws ∷ [])
+    ∷ numbers (drawsFor (gf256 5) (five-by 5 1) ∷ drawsFor (gf256 5) (five-by 6 1) ∷ drawsFor (gf256 5) (five-by 5 2) ∷ drawsFor (gf2 2) (repair-of 2 3)
+    ∷ drawsFor (gf256 5) five ∷ [])
     -- C7: two source packets, and the repair packet over both
     ∷ line first ∷ line second ∷ line (repairing (after second) 1 15 1 12)
     -- C8: the first and the repair packet of C7; symbols 0 and 1
@@ -224,6 +233,7 @@ pub bench :
     ∷ []
     ≡ numbers (29 ∷ []) ∷ numbers (9 ∷ []) ∷ numbers (142 ∷ [])
     ∷ numbers (37 ∷ 225 ∷ 177 ∷ 176 ∷ 21 ∷ []) ∷ numbers (0 ∷ 1 ∷ 1 ∷ 1 ∷ 0 ∷ 0 ∷ []) ∷ numbers (0 ∷ 177 ∷ 21 ∷ 0 ∷ 0 ∷ [])
+    ∷ numbers (5 ∷ 6 ∷ 7 ∷ []) ∷ numbers (6 ∷ 9 ∷ 15 ∷ 0 ∷ 0 ∷ [])
     ∷ packet (0x41 ∷ 0 ∷ 0 ∷ 0 ∷ 0 ∷ []) ∷ packet (0x42 ∷ 0 ∷ 0 ∷ 0 ∷ 1 ∷ []) ∷ packet (0 ∷ 0 ∷ 0xF0 ∷ 2 ∷ 0 ∷ 0 ∷ 0 ∷ 0 ∷ 0 ∷ 0 ∷ 0 ∷ 3 ∷ [])
     ∷ received (value 1 ∷ value 1 ∷ []) (known (1 ∷ 0 ∷ 1 ∷ 0x41 ∷ []) ∷ known (1 ∷ 0 ∷ 1 ∷ 0x42 ∷ []) ∷ [])
     ∷ packet (0 ∷ 0 ∷ 0 ∷ 0 ∷ 0 ∷ 0 ∷ 0 ∷ 0 ∷ 0 ∷ []) ∷ refusal 4
@@ -253,7 +263,7 @@ pub bench :
     ∷ handed (value 2 ∷ value 0 ∷ []) (hands 1 (0x11 ∷ 1 ∷ 0 ∷ 1 ∷ 0x55 ∷ []) ∷ hands 1 (0x55 ∷ []) ∷ [])
     ∷ []
 unfolding
-    computing product inverse inverse-below nonzeroFrom bitOf byteOf extend coefficientsOf combination
+    computing product inverse inverse-below nonzeroFrom bitOf byteOf extend coefficientsOf packetDraws combination
     symbolCount adui sourceSymbols sourcePacket sourceForm sourceAdu sourceEsi
     repairHeader repairPacket repairCount repairForm repairKey densityThreshold protectedCount firstEsi repairSymbols
     inRange settingOf field part settingIn headerIn repairSymbol opening adding repairing

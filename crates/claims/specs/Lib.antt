@@ -12,3 +12,4 @@ pub mod Receiver
 pub mod Bench
 pub mod Handing
 pub mod SentAdus
+pub mod Drawing

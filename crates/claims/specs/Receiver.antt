@@ -7,6 +7,7 @@ use Rattle.claims.specs.Reading.{Reads}
 use Rattle.claims.specs.Sent.{Sender-fills, Sent-accepted, Sent-shown}
 use Rattle.claims.specs.SentAdus.{Sender-sends, Start-gives, Junk-gives, Sent-written, Sent-starts, Sent-handed}
 use Rattle.claims.specs.NotEmpty.{Runs-exist}
+use Rattle.claims.specs.Drawing.{Accepted-draws, Made-draws}
 use Rattle.claims.specs.ReceiverUnopened.{Receiver-unopened}
 
 pub record Receiver-claims : Type 0 where
@@ -28,4 +29,6 @@ pub record Receiver-claims : Type 0 where
   pub sent-written : Sent-written
   pub sent-starts : Sent-starts
   pub sent-handed : Sent-handed
+  pub accepted-draws : Accepted-draws
+  pub made-draws : Made-draws
   pub unopened : Receiver-unopened

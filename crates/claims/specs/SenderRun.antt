@@ -31,6 +31,12 @@ Calls m (added flow adu out r m′ out′ ∷ l) =
 Calls m (repaired key dt count out r out′ ∷ l) =
     (key < 2 ^ 16) × Repairs key dt count m out r out′ × Calls m l
 
+-- the memory that they leave
+abbrev pub memoryAfter : List ℕ → List SenderCall → List ℕ
+memoryAfter m [] = m
+memoryAfter m (added flow adu out r m′ out′ ∷ l) = memoryAfter m′ l
+memoryAfter m (repaired key dt count out r out′ ∷ l) = memoryAfter m l
+
 -- the calls follow an opening that answered 0
 pub record SenderRun (t : Setting) (l : List SenderCall) : Type 0 where
   pub before : List ℕ

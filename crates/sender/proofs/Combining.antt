@@ -8,9 +8,9 @@ use native.Mathlib.Numerals.{add-one}
 use native.Mathlib.Omega.{arith}
 use mathlib.Core.List.{List, [], _∷_, _++_, map, append-nil, append-assoc}
 use lib.ListN.{length, take, getD, replicate, length-append, length-map, take-append-drop}
-use lib.Seq.{take-suc, take-all, take-at}
+use lib.Seq.{take-suc, take-all}
 use Rattle.memory.specs.Part.{part, splice}
-use Rattle.memory.proofs.Parts.{splice-next, cons-eq}
+use Rattle.memory.proofs.Parts.{splice-next, take-new, cons-eq}
 use lib.Dec.{eqb, ltb, lit<}
 use Rattle.wire.specs.declared.Scheme.{Scheme}
 use Rattle.wire.specs.declared.Scheme.the-variants.{Gf2, Gf256}
@@ -164,17 +164,14 @@ module _ (h : Header) (m : List ℕ) (key dt count : ℕ) (z : 0 < h .setting .s
       written-draws (h .setting .scheme) key dt (h .held) first (h .setting .size) symbols sized z k d n
       ∙ ap (λ (n : ℕ). drawsOf (h .setting .scheme) dt (h .held) (keys key n)) counted
 
-written-small : (scheme : Scheme) (key dt : ℕ) → key < 2 ^ 16 → writtenKey scheme key dt < 2 ^ 16
+-- the key that is written has 16 bits too
+pub written-small : (scheme : Scheme) (key dt : ℕ) → key < 2 ^ 16 → writtenKey scheme key dt < 2 ^ 16
 written-small Gf2 key dt h = go (eqb dt 15)
   where
     go : (b : Bool) → cond b 0 key < 2 ^ 16
     go true = lit< tt
     go false = h
 written-small Gf256 key dt h = h
-
-front : (n : ℕ) (x out : List ℕ) → length x ≡ n → take n (splice 0 x out) ≡ x
-unfolding splice
-front n x out e = take-at x _ n e
 
 -- the promise of a call that passed the checks before the draws
 module _ (h : Header) (key dt count : ℕ) (m out : List ℕ) (o : headerIn m ≡ some h) (g : (ltb 15 dt || not (within 1 16 count)) ≡ false) where
@@ -222,7 +219,7 @@ module _ (h : Header) (key dt count : ℕ) (m out : List ℕ) (o : headerIn m �
       go true q =
           let z : 0 < h .setting .size = omega (arith, says .valid .size-least) in
           let l = length-packet h m written dt count z in
-          let t = front (8 + count * h .setting .size) (packetFrom h m written dt count) out l in
+          let t = take-new (8 + count * h .setting .size) (packetFrom h m written dt count) out l in
           rw (q .0) (record {
             draws = λ h′ e.
                 let i : h ≡ h′ = Option·some-injective h h′ (sym o ∙ e) in

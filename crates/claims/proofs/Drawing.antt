@@ -1,0 +1,27 @@
+-- The draws that the calls give are those that the packets take: the headers of both ends keep the setting of the opening.
+use mathlib.Core.Path.{_≡_, sym, ap₂, _∙_}
+use Prim.Native.Nat.{ℕ}
+use lib.ListN.{length, take}
+use Rattle.wire.specs.declared.Scheme.{Scheme}
+use Rattle.wire.specs.Settings.{settingOf}
+use Rattle.wire.proofs.Settings.{setting-names}
+use Rattle.coefficients.specs.Coefficients.{packetDraws}
+use Rattle.sender.specs.State as sender
+use Rattle.receiver.specs.History.{fresh}
+use Rattle.receiver.specs.Layout.{headerOf, receiverLayout}
+use Rattle.claims.specs.SenderRun.{symbolsOf}
+use Rattle.claims.specs.Drawing.{Accepted-draws, Made-draws}
+use Rattle.claims.proofs.Demand.{opened-stands, stands, had-setting}
+use Rattle.claims.proofs.Sending.{run-held}
+
+pub accepted-draws : Accepted-draws
+accepted-draws scheme E w m₀ m a p e ts r =
+    let (s, h) = had-setting (settingOf scheme E w) (length m₀) (sym (p .answer) ∙ e) in
+    let v = setting-names scheme E w s h .valid in
+    let g = stands receiverLayout s v ts m fresh (opened-stands receiverLayout s v scheme E w m₀ m a p e h) r in
+    (s, h, λ c m′ v v′ n d q. q .draws .draws (headerOf s (g .state)) (g .held .header))
+
+pub made-draws : Made-draws
+made-draws t s l peers key dt count n d out out′ q =
+    q .draws .draws (sender.headerOf (record { setting = t; symbols = symbolsOf (t .size) l })) (run-held t l (peers .run) .header)
+    ∙ ap₂ (λ (x : Scheme) (E : ℕ). packetDraws x E (take n out′)) (peers .scheme) (peers .size)
