@@ -7,7 +7,9 @@ ghost use Rattle.elimination.specs.Window.{Fits};
 use elimination::Shape;
 use field::Gf256;
 use field::tables;
+use receiver::PacketAnswer;
 use sender::Answer;
+use sender::RepairAnswer;
 use starts::Handed;
 use wire::Esi;
 use wire::RepairKey;
@@ -125,7 +127,10 @@ pub extern "C" fn bench_make_repair(
     count: usize,
     out: &mut [u8],
 ) -> usize {
-    answered(sender::make_repair(mem, RepairKey(key), dt, count, out))
+    match sender::make_repair(mem, RepairKey(key), dt, count, out) {
+        RepairAnswer::Made(n, _) => n,
+        RepairAnswer::NotMade(_r) => 1000000,
+    }
 }
 
 // The same of the receiver.
@@ -133,6 +138,13 @@ fn received(answer: receiver::Answer) -> usize {
     match answer {
         receiver::Answer::Done(n) => n,
         receiver::Answer::Refused(_r) => 1000000,
+    }
+}
+
+fn packet_received(answer: PacketAnswer) -> usize {
+    match answer {
+        PacketAnswer::Accepted(n, _) => n,
+        PacketAnswer::NotAccepted(_r) => 1000000,
     }
 }
 
@@ -153,12 +165,12 @@ pub extern "C" fn bench_receive_source(
     flow: u8,
     packet: &[u8],
 ) -> usize {
-    received(receiver::receive_source(mem, work, flow, packet))
+    packet_received(receiver::receive_source(mem, work, flow, packet))
 }
 
 #[no_mangle]
 pub extern "C" fn bench_receive_repair(mem: &mut [u8], work: &mut [u8], packet: &[u8]) -> usize {
-    received(receiver::receive_repair(mem, work, packet))
+    packet_received(receiver::receive_repair(mem, work, packet))
 }
 
 #[no_mangle]

@@ -11,6 +11,7 @@ use report::print_bytes;
 use report::print_number;
 use report::print_refusal;
 use sender::Answer;
+use sender::RepairAnswer;
 use wire::Refusal;
 use wire::RepairKey;
 use wire::Scheme;
@@ -42,9 +43,9 @@ fn print_source(answer: Answer, out: &[u8]) {
 }
 
 // The fields of a repair packet: key, DT and NSS, FSS_ESI, and the repair symbols.
-fn print_repair(answer: Answer, out: &[u8]) {
+fn print_repair(answer: RepairAnswer, out: &[u8]) {
     match answer {
-        Answer::Done(n) => {
+        RepairAnswer::Made(n, _) => {
             if 8 <= n {
                 if n <= out.len() {
                     print_bytes(&out[0..2]);
@@ -54,7 +55,7 @@ fn print_repair(answer: Answer, out: &[u8]) {
                 }
             }
         }
-        Answer::Refused(refusal) => print_refusal(refusal),
+        RepairAnswer::NotMade(refusal) => print_refusal(refusal),
     }
 }
 
@@ -77,11 +78,19 @@ fn field_case(name: &[u8], value: Gf256) {
     print(b"\n");
 }
 
+// The coefficients for the key 1, one for each byte of `row`, and the draws that they took.
 fn coefficients_case(name: &[u8], row: &mut [u8], scheme: Scheme, dt: u8) {
     print(name);
-    match coefficients::fill(row, scheme, RepairKey(1), dt) {
-        Filled::Done => print_numbers(row),
-        Filled::Refused => print_refusal(Refusal::Draws),
+    let n = row.len();
+    if n <= 255 {
+        match coefficients::fill_lists(row, n, scheme, RepairKey(1), dt, 1) {
+            Filled::Done(draws) => {
+                print_numbers(row);
+                print(b"; draws");
+                print_number(draws as usize);
+            }
+            Filled::Refused => print_refusal(Refusal::Draws),
+        }
     }
     print(b"\n");
 }

@@ -1,5 +1,6 @@
 // The sender's refusals.
 use report::print;
+use report::print_made;
 use report::print_sent;
 use wire::RepairKey;
 
@@ -8,7 +9,7 @@ fn open(mem: &mut [u8]) {
 }
 
 fn repair(mem: &[u8], dt: usize, count: usize, out: &mut [u8]) {
-    print_sent(sender::make_repair(mem, RepairKey(1), dt, count, out));
+    print_made(sender::make_repair(mem, RepairKey(1), dt, count, out));
 }
 
 fn values(mem: &mut [u8]) {

@@ -4,6 +4,8 @@ ghost use Prim.Native.Nat.{_<_};
 ghost use Rattle.wire.specs.Numbers.{numberOf};
 use libc::STDOUT_FILENO;
 use receiver::Answer;
+use receiver::PacketAnswer;
+use sender::RepairAnswer;
 use starts::Handed;
 use wire::Esi;
 use wire::Refusal;
@@ -65,7 +67,7 @@ pub fn print_refusal(refusal: Refusal) {
     print_number(number(refusal));
 }
 
-// What a sender's call answered.
+// What opening a sender or adding an ADU answered.
 pub fn print_sent(answer: sender::Answer) {
     match answer {
         sender::Answer::Done(n) => print_number(n),
@@ -73,7 +75,15 @@ pub fn print_sent(answer: sender::Answer) {
     }
 }
 
-// What a receiver's call answered.
+// What making repair answered, without the draws.
+pub fn print_made(answer: RepairAnswer) {
+    match answer {
+        RepairAnswer::Made(n, _) => print_number(n),
+        RepairAnswer::NotMade(refusal) => print_refusal(refusal),
+    }
+}
+
+// What opening a receiver or a symbol call answered.
 pub fn print_answer(answer: Answer) {
     match answer {
         Answer::Done(n) => print_number(n),
@@ -81,14 +91,22 @@ pub fn print_answer(answer: Answer) {
     }
 }
 
+// What a packet call answered, without the draws.
+fn print_packet(answer: PacketAnswer) {
+    match answer {
+        PacketAnswer::Accepted(n, _) => print_number(n),
+        PacketAnswer::NotAccepted(refusal) => print_refusal(refusal),
+    }
+}
+
 // A source packet with flow 1.
 pub fn source(mem: &mut [u8], work: &mut [u8], packet: &[u8]) {
-    print_answer(receiver::receive_source(mem, work, 1, packet));
+    print_packet(receiver::receive_source(mem, work, 1, packet));
 }
 
 // A repair packet.
 pub fn repair(mem: &mut [u8], work: &mut [u8], packet: &[u8]) {
-    print_answer(receiver::receive_repair(mem, work, packet));
+    print_packet(receiver::receive_repair(mem, work, packet));
 }
 
 // The symbol with an ESI, or the refusal of the symbol call.
