@@ -1,0 +1,3 @@
+-- The modules of the proofs that belong to no one function.
+pub mod Laws
+pub mod Promises
