@@ -1,5 +1,5 @@
-//! The second sender and receiver against RFC 8681's figures, document 01's bench sheet and plain elimination. The library has no part in
-//! this file.
+//! The second sender and receiver against RFC 8681's figures, document 01's bench sheet and plain elimination, and its generator against
+//! what program `survey` prints. The library has no part in this file.
 
 mod reference;
 
@@ -9,6 +9,9 @@ use reference::figures::{FIGURE_10, FIGURE_9};
 use reference::generator::Generator;
 use reference::random::Random;
 use reference::{dense, field, repair_packet, Field, Receiver, Sender, Setting};
+use std::ops::RangeInclusive;
+use std::path::Path;
+use std::{fs, thread};
 
 #[test]
 fn figures_9_and_10() {
@@ -55,6 +58,44 @@ fn draws_of_lists() {
     assert_eq!(draws(Field::Gf256, 4, 0), Ok(0));
 }
 
+/// What the lists of 255 coefficients of scheme 10 draw for these keys at every DT: the rows of two and more zero bytes drawn for one
+/// coefficient (how many, DT, key, place in the list), and the most draws for one list (with its DT and key).
+type Surveyed = (Vec<(usize, u8, u16, usize)>, (u64, u8, u16));
+
+fn surveyed(keys: RangeInclusive<u16>) -> Surveyed {
+    let (mut rows, mut most) = (Vec::new(), (0, 0, 0));
+    for key in keys {
+        for dt in 0..16 {
+            let mut generator = Generator::new(u32::from(key));
+            for place in 0..255 {
+                if dt < 15 && generator.rand16() > dt {
+                    continue;
+                }
+                let zeros = (0..16).take_while(|_| generator.rand256() == 0).count();
+                if zeros > 1 {
+                    rows.push((zeros, dt, key, place));
+                }
+            }
+            most = most.max((generator.draws, dt, key));
+        }
+    }
+    (rows, most)
+}
+
+/// The longest row of zero bytes is what program `survey` prints, far from refusal 10's sixteen.
+#[test]
+fn survey_of_every_key_and_density() {
+    let halves = [0..=32_767, 32_768..=65_535].map(|keys| thread::spawn(|| surveyed(keys)));
+    let [(low, low_most), (high, high_most)] = halves.map(|half| half.join().expect("a half of the keys"));
+    let rows = [low, high].concat();
+    let longest = rows.iter().map(|row| row.0).max().unwrap();
+    let printed = Path::new(env!("CARGO_MANIFEST_DIR")).join("../crates/survey/stdout");
+    assert_eq!(fs::read_to_string(&printed).unwrap_or_else(|why| panic!("{}: {why}", printed.display())), format!("{longest}\n"));
+    let found: Vec<_> = rows.iter().filter(|row| row.0 == longest).collect();
+    assert_eq!(found, [&(3, 12, 57_783, 253), &(3, 13, 57_783, 244)]);
+    assert_eq!(low_most.max(high_most), (512, 14, 48_229));
+}
+
 fn open(scheme: u32, symbol_size: u32, width: u32) -> (Sender, Receiver) {
     let setting = Setting::checked(scheme, symbol_size, width).unwrap();
     (Sender::open(setting), Receiver::open(setting))
@@ -62,7 +103,7 @@ fn open(scheme: u32, symbol_size: u32, width: u32) -> (Sender, Receiver) {
 
 const ROOM: usize = usize::MAX;
 
-fn sends(sender: &mut Sender, adus: std::ops::RangeInclusive<u8>) -> Vec<Vec<u8>> {
+fn sends(sender: &mut Sender, adus: RangeInclusive<u8>) -> Vec<Vec<u8>> {
     adus.map(|byte| sender.add_adu(1, &[byte], ROOM).unwrap()).collect()
 }
 
