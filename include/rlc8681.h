@@ -5,10 +5,10 @@
  *
  * Answers. Each function answers a value, 0 or more, or minus the number of a refusal (enum rlc_refusal). Where several refusals apply, the answer is
  * the first in the order in which the function's comment lists them. A refusal changes nothing but working memory.
- * An accepted packet and a repair packet made are answered with two numbers in one, value + 4,294,967,296 x draws, which rlc_value and rlc_draws take
- * apart; every other value is below 4,294,967,296. The draws are the rand16 and rand256 draws that the packet's coefficients took, added up over its
- * repair symbols, without the eight steps of the generator's start: 0 for a source packet, 0 in scheme 9 at DT 15, at most 69,360 (16 lists of 255
- * coefficients, each at most 17 draws). Both ends answer the same draws for the same packet. A refusal tells no draws.
+ * rlc_sender_make_repair, rlc_receive_source and rlc_receive_repair answer two numbers in one, value + 4,294,967,296 x draws, which rlc_value and
+ * rlc_draws take apart; the values of all functions are below 4,294,967,296. The draws are the rand16 and rand256 draws that the packet's coefficients
+ * took, added up over its repair symbols, without the eight steps of the generator's start: 0 for a source packet, 0 in scheme 9 at DT 15, at most
+ * 69,360 (16 lists of 255 coefficients, each at most 17 draws). Both ends answer the same draws for the same packet. A refusal tells no draws.
  *
  * Memory. An end, a sender or a receiver, lives in one piece of memory that the caller owns: bytes with no alignment, which can be copied or moved
  * between calls and are freed by the caller, with nothing to close. Ask for its size, open it once, then lend the same bytes to each call, as the last
