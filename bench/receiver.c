@@ -28,9 +28,10 @@ static size_t mend(struct receiver *r, size_t k) {
   return r->library->receive_repair(r->memory, r->memory_size, r->work, r->work_size, r->repair + k * n, n);
 }
 
+// What the receiver answered, of several packets added up; the draws are compared with the other ways' too.
 static void answer(struct receiver *r, size_t n, size_t expected) {
   *r->answer = n;
-  expect("the receiver", n == expected);
+  expect("the receiver", value(n) == expected);
 }
 
 // The next source packet is the one before with the next ESI.
@@ -104,7 +105,7 @@ static struct receiver *receiver_of(const struct library *library, struct settin
   for (size_t k = 0; k < sent; k++) {
     for (size_t i = 0; i < adu_size(s); i++) adu[i] = i * i + 13 * k;
     expect("add_adu", proved.add_adu(sender, sender_size, 1, adu, adu_size(s), r->source, s.size + 1) == s.size + 1);
-    if (k + lost < sent) expect("receive_source", take(r) == 1);
+    if (k + lost < sent) expect("receive_source", value(take(r)) == 1);
   }
   memcpy(r->before, r->memory, memory_size);
   for (size_t k = 0; k < PACKETS; k++) proved.make_repair(sender, sender_size, k + 1, dt, 1, r->repair + k * n, n);
@@ -134,7 +135,7 @@ static size_t needed(struct receiver *r) {
   ready_burst(r);
   while (solved < r->lost) {
     expect("receive_repair", k < PACKETS);
-    solved += mend(r, k++);
+    solved += value(mend(r, k++));
   }
   return k;
 }
@@ -174,7 +175,7 @@ static struct receiver *unheard(const struct library *library, struct setting s)
   for (size_t key = 0; known < s.width; key += 16) {
     memcpy(r->before, r->memory, r->memory_size);
     proved.make_repair(sender, sender_size, key, s.scheme == 9 ? 7 : 15, 16, r->repair, longest_size(s));
-    r->lost = take_longest(r), known += r->lost;
+    r->lost = value(take_longest(r)), known += r->lost;
     expect("receive_repair", r->lost <= s.width && key < 4096);
   }
   return r;

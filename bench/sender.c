@@ -20,7 +20,8 @@ static void run_add(void *of) {
 }
 static void run_repair(void *of) {
   struct sender *s = of;
-  expect("make_repair", s->library->make_repair(s->memory, s->memory_size, KEY, DT, 1, s->packet, s->packet_size) == s->packet_size);
+  size_t answer = s->library->make_repair(s->memory, s->memory_size, KEY, DT, 1, s->packet, s->packet_size);
+  expect("make_repair", value(answer) == s->packet_size);
 }
 // What adding must copy: the ADU into the window's next slot and into the packet.
 static void run_add_copies(void *of) {

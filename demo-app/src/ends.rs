@@ -187,11 +187,11 @@ impl<'a> Sending<'a> {
     fn repair(&mut self) -> Result<(), Failure> {
         let Options { density, repairs, width, .. } = *self.options;
         let (sender, key, out) = (&self.sender, self.key, &mut self.datagram[HEAD..]);
-        let written = self.log.make.of(|| sender.make_repair(key, density, repairs, out)).map_err(refused("making repair"))?;
+        let repair = self.log.make.of(|| sender.make_repair(key, density, repairs, out)).map_err(refused("making repair"))?;
         self.key = key.wrapping_add(repairs as u16);
         let symbols = self.log.symbols.min(u64::from(width));
         let packet = Packet { kind: Kind::Repair, lost: false, first: self.log.symbols - symbols, symbols: symbols as u32 };
-        self.send(packet, 0, written)
+        self.send(packet, 0, repair.bytes)
     }
 
     /// Gives the packet at hand to the link, which may lose it.
@@ -304,7 +304,7 @@ impl<'a> Receiving<'a> {
             _ => log.repair.of(|| receiver.receive_repair(packet)),
         };
         let count = match answer {
-            Ok(count) => count as u64,
+            Ok(received) => received.known as u64,
             Err(why) => {
                 self.log.refused[usize::from(why.number()).min(15)] += 1;
                 return;

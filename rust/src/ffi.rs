@@ -1,4 +1,5 @@
-//! The C interface of the proved library. Each call answers its value, 0 or more, or minus a refusal's number.
+//! The C interface of the proved library. Each call answers its value, 0 or more, or minus a refusal's number; beside the value of
+//! `rlc_sender_make_repair`, `rlc_receive_source` and `rlc_receive_repair` stand the draws, times 2^32.
 
 extern "C" {
     pub fn rlc_sender_memory(symbol_size: u32, width: u32) -> i64;

@@ -17,8 +17,8 @@
 //! let n = sender.add_adu(1, b"first", &mut packet)?;
 //! receiver.receive_source(1, &packet[..n])?;
 //! sender.add_adu(1, b"second", &mut packet)?; // its packet is lost
-//! let n = sender.make_repair(0, 15, 1, &mut packet)?;
-//! assert_eq!(receiver.receive_repair(&packet[..n])?, 1); // one symbol more is known
+//! let n = sender.make_repair(0, 15, 1, &mut packet)?.bytes;
+//! assert_eq!(receiver.receive_repair(&packet[..n])?.known, 1); // one symbol more is known
 //!
 //! let mut out = [0; 100];
 //! let adu = receiver.adu(1, &mut out)?;
@@ -33,9 +33,9 @@ mod receiver;
 mod refusal;
 mod sender;
 
-pub use receiver::{Adu, Receiver};
+pub use receiver::{Adu, Received, Receiver};
 pub use refusal::Refusal;
-pub use sender::Sender;
+pub use sender::{Repair, Sender};
 
 /// The field that a scheme of RFC 8681 computes in.
 #[derive(Clone, Copy, Debug, PartialEq, Eq, Hash)]
@@ -85,6 +85,12 @@ fn answer(raw: i64) -> Result<usize, Refusal> {
         Ok(value) => Ok(value),
         Err(_) => Err(u8::try_from(raw.unsigned_abs()).ok().and_then(Refusal::from_number).unwrap_or(Refusal::Unopened)),
     }
+}
+
+/// The answer of a call that tells draws: its value, in the low 32 bits, and the draws, in those above; or a refusal.
+fn answer_with_draws(raw: i64) -> Result<(usize, u32), Refusal> {
+    let (value, draws) = if raw < 0 { (raw, 0) } else { (raw & 0xffff_ffff, (raw >> 32) as u32) };
+    Ok((answer(value)?, draws))
 }
 
 /// Zeroed memory of the size that a call answered.

@@ -1,4 +1,4 @@
-use crate::{answer, ffi, memory_of, Refusal, Scheme};
+use crate::{answer, answer_with_draws, ffi, memory_of, Refusal, Scheme};
 use std::fmt;
 
 /// The receiving end. It owns 64 + width × (width + symbol size + 4) bytes of memory, and working memory of one row more;
@@ -9,9 +9,9 @@ use std::fmt;
 ///
 /// # fn main() -> Result<(), Refusal> {
 /// let mut receiver = Receiver::open(Scheme::Gf2, 4, 2)?;
-/// assert_eq!(receiver.receive_source(1, &[0x41, 0, 0, 0, 0])?, 1);
+/// assert_eq!(receiver.receive_source(1, &[0x41, 0, 0, 0, 0])?.known, 1);
 /// assert_eq!(receiver.symbol(1), Err(Refusal::Unknown));
-/// assert_eq!(receiver.receive_repair(&[0, 0, 0xf0, 2, 0, 0, 0, 0, 0, 0, 0, 3])?, 1);
+/// assert_eq!(receiver.receive_repair(&[0, 0, 0xf0, 2, 0, 0, 0, 0, 0, 0, 0, 3])?.known, 1);
 /// assert_eq!(receiver.symbol(1), Ok(&[1, 0, 1, 0x42][..]));
 /// # Ok(())
 /// # }
@@ -23,6 +23,17 @@ pub struct Receiver {
     scheme: Scheme,
     symbol_size: u32,
     width: u32,
+}
+
+/// What an accepted packet brought, as [`Receiver::receive_source`] and [`Receiver::receive_repair`] tell it.
+#[derive(Clone, Copy, Debug, PartialEq, Eq, Hash)]
+pub struct Received {
+    /// How many symbols of the window became known, at most 255.
+    pub known: usize,
+    /// The draws that the packet's coefficients took, added up over its repair symbols: rand16 and rand256 draws count, the eight steps of
+    /// the generator's start do not. A source packet takes none, nor does a repair packet of [`Scheme::Gf2`] at density threshold 15; no
+    /// packet takes more than 69,360. The sender that made the packet told the same number.
+    pub draws: u32,
 }
 
 /// An ADU as [`Receiver::adu`] hands it out.
@@ -56,14 +67,14 @@ impl Receiver {
         Ok(Receiver { memory, work, scheme, symbol_size, width })
     }
 
-    /// Takes a source packet and the flow that came beside it. Gives how many symbols of the window became known.
+    /// Takes a source packet and the flow that came beside it. Gives how many symbols of the window became known; the draws are 0.
     ///
     /// # Errors
     ///
     /// In this order: [`Refusal::Form`], [`Refusal::Long`], [`Refusal::Behind`], [`Refusal::Ahead`], [`Refusal::Contradiction`].
-    pub fn receive_source(&mut self, flow: u8, packet: &[u8]) -> Result<usize, Refusal> {
+    pub fn receive_source(&mut self, flow: u8, packet: &[u8]) -> Result<Received, Refusal> {
         // SAFETY: pointers and lengths are those of slices that are borrowed for the call alone; the two mutable ones are apart.
-        answer(unsafe {
+        answer_with_draws(unsafe {
             ffi::rlc_receive_source(
                 self.memory.as_mut_ptr(),
                 self.memory.len(),
@@ -74,9 +85,10 @@ impl Receiver {
                 packet.len(),
             )
         })
+        .map(|(known, draws)| Received { known, draws })
     }
 
-    /// Takes a repair packet. Gives how many symbols of the window became known.
+    /// Takes a repair packet. Gives how many symbols of the window became known, and the draws.
     ///
     /// # Errors
     ///
@@ -84,8 +96,12 @@ impl Receiver {
     /// [`Refusal::Contradiction`].
     ///
     /// ```
-    /// use rlc8681::{Receiver, Refusal, Scheme};
+    /// use rlc8681::{Received, Receiver, Refusal, Scheme};
     /// # fn main() -> Result<(), Refusal> {
+    /// // One coefficient at density threshold 4: its rand16 draw makes it zero, so that no symbol becomes known.
+    /// let mut receiver = Receiver::open(Scheme::Gf256, 4, 2)?;
+    /// assert_eq!(receiver.receive_repair(&[0, 1, 0x40, 1, 0, 0, 0, 0, 0, 0, 0, 0]), Ok(Received { known: 0, draws: 1 }));
+    ///
     /// let mut receiver = Receiver::open(Scheme::Gf2, 4, 2)?;
     /// // Both repair symbols are the sum of the same two symbols, and they differ.
     /// let unlike = [0, 0, 0xf0, 2, 0, 0, 0, 0, 0, 0, 0, 3, 0, 0, 0, 4];
@@ -93,9 +109,9 @@ impl Receiver {
     /// # Ok(())
     /// # }
     /// ```
-    pub fn receive_repair(&mut self, packet: &[u8]) -> Result<usize, Refusal> {
+    pub fn receive_repair(&mut self, packet: &[u8]) -> Result<Received, Refusal> {
         // SAFETY: pointers and lengths are those of slices that are borrowed for the call alone; the two mutable ones are apart.
-        answer(unsafe {
+        answer_with_draws(unsafe {
             ffi::rlc_receive_repair(
                 self.memory.as_mut_ptr(),
                 self.memory.len(),
@@ -105,6 +121,7 @@ impl Receiver {
                 packet.len(),
             )
         })
+        .map(|(known, draws)| Received { known, draws })
     }
 
     /// The bytes of a known symbol of the window, where they lie in the receiver.

@@ -1,4 +1,4 @@
-use crate::{answer, ffi, memory_of, Refusal, Scheme};
+use crate::{answer, answer_with_draws, ffi, memory_of, Refusal, Scheme};
 use std::fmt;
 
 /// The sending end. It owns 32 + width × symbol size bytes of memory; a clone goes on by itself from the same history.
@@ -13,7 +13,7 @@ use std::fmt;
 /// assert_eq!(packet[..n], [0x41, 0, 0, 0, 0]);
 /// let n = sender.add_adu(1, b"B", &mut packet)?;
 /// assert_eq!(packet[..n], [0x42, 0, 0, 0, 1]);
-/// let n = sender.make_repair(0, 15, 1, &mut packet)?;
+/// let n = sender.make_repair(0, 15, 1, &mut packet)?.bytes;
 /// assert_eq!(packet[..n], [0, 0, 0xf0, 2, 0, 0, 0, 0, 0, 0, 0, 3]);
 /// # Ok(())
 /// # }
@@ -24,6 +24,16 @@ pub struct Sender {
     scheme: Scheme,
     symbol_size: u32,
     width: u32,
+}
+
+/// A repair packet as [`Sender::make_repair`] writes it.
+#[derive(Clone, Copy, Debug, PartialEq, Eq, Hash)]
+pub struct Repair {
+    /// Its bytes, at the front of the output that was lent.
+    pub bytes: usize,
+    /// The draws that its coefficients took. A receiver that takes the packet tells the same number:
+    /// [`Received::draws`](crate::Received::draws).
+    pub draws: u32,
 }
 
 impl Sender {
@@ -58,8 +68,8 @@ impl Sender {
         })
     }
 
-    /// Writes a repair packet over the whole window, 8 + count × symbol size bytes, to the front of `out` and gives the bytes written;
-    /// those after them stay. The packet has `count` (1 to 16) repair symbols, whose keys count up from `key`; of the coefficients,
+    /// Writes a repair packet over the whole window, 8 + count × symbol size bytes, to the front of `out`, whose other bytes stay. Gives the
+    /// bytes written and the draws. The packet has `count` (1 to 16) repair symbols, whose keys count up from `key`; of the coefficients,
     /// on average (`dt` + 1) / 16 are not zero, all at `dt` 15.
     ///
     /// # Errors
@@ -68,17 +78,26 @@ impl Sender {
     /// [`Refusal::Short`] for a shorter output, [`Refusal::Draws`].
     ///
     /// ```
-    /// use rlc8681::{Refusal, Scheme, Sender};
+    /// use rlc8681::{Refusal, Repair, Scheme, Sender};
     /// # fn main() -> Result<(), Refusal> {
-    /// let sender = Sender::open(Scheme::Gf256, 4, 2)?;
+    /// let mut sender = Sender::open(Scheme::Gf256, 4, 5)?;
     /// assert_eq!(sender.make_repair(0, 16, 1, &mut []), Err(Refusal::Range));
     /// assert_eq!(sender.make_repair(0, 15, 1, &mut []), Err(Refusal::Empty));
+    /// let mut packet = [0; 12];
+    /// for adu in b"ABCDE" {
+    ///     sender.add_adu(1, &[*adu], &mut packet)?;
+    /// }
+    /// // Of the five coefficients two are not zero: five rand16 draws and two rand256 draws.
+    /// assert_eq!(sender.make_repair(1, 4, 1, &mut packet), Ok(Repair { bytes: 12, draws: 7 }));
     /// # Ok(())
     /// # }
     /// ```
-    pub fn make_repair(&self, key: u16, dt: u32, count: u32, out: &mut [u8]) -> Result<usize, Refusal> {
+    pub fn make_repair(&self, key: u16, dt: u32, count: u32, out: &mut [u8]) -> Result<Repair, Refusal> {
         // SAFETY: pointers and lengths are those of slices that are borrowed for the call alone; only `out` is written.
-        answer(unsafe { ffi::rlc_sender_make_repair(self.memory.as_ptr(), self.memory.len(), key, dt, count, out.as_mut_ptr(), out.len()) })
+        answer_with_draws(unsafe {
+            ffi::rlc_sender_make_repair(self.memory.as_ptr(), self.memory.len(), key, dt, count, out.as_mut_ptr(), out.len())
+        })
+        .map(|(bytes, draws)| Repair { bytes, draws })
     }
 
     /// The scheme that this sender was opened with.

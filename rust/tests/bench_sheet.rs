@@ -2,44 +2,56 @@
 
 mod reference;
 
-use reference::coefficients::coefficients;
+use reference::coefficients::{coefficients, drawn_list};
 use reference::figures::{FIGURE_10, FIGURE_9};
 use reference::{repair_packet, source_packet, Field};
-use rlc8681::{Adu, Receiver, Refusal, Scheme, Sender};
+use rlc8681::{Adu, Received, Receiver, Refusal, Repair, Scheme, Sender};
 use std::ops::RangeInclusive;
 
-/// The coefficients that a sender draws: symbol i holds a single one at place i, so the repair symbol lists them after F and L.
-fn drawn(scheme: Scheme, key: u16, dt: u32, count: usize) -> Vec<u8> {
-    let mut sender = Sender::open(scheme, count as u32 + 3, count as u32).unwrap();
+/// The coefficients that a sender draws: symbol i holds a single one at place i, so the repair symbol lists them after F and L. And the
+/// draws that they take, which a receiver tells too.
+fn drawn(scheme: Scheme, key: u16, dt: u32, count: usize) -> (Vec<u8>, u32) {
+    let (symbol_size, width) = (count as u32 + 3, count as u32);
+    let mut sender = Sender::open(scheme, symbol_size, width).unwrap();
     let mut packet = vec![0; 8 + count + 3];
     for i in 0..count {
         let mut adu = vec![0; count];
         adu[i] = 1;
         sender.add_adu(0, &adu, &mut packet).unwrap();
     }
-    assert_eq!(sender.make_repair(key, dt, 1, &mut packet), Ok(8 + count + 3));
-    packet[8 + 3..].to_vec()
+    let repair = sender.make_repair(key, dt, 1, &mut packet).unwrap();
+    assert_eq!(repair.bytes, packet.len());
+    let received = Receiver::open(scheme, symbol_size, width).unwrap().receive_repair(&packet).unwrap();
+    assert_eq!(received.draws, repair.draws);
+    (packet[8 + 3..].to_vec(), repair.draws)
+}
+
+/// The answer to a packet that took no draws.
+fn known(known: usize) -> Result<Received, Refusal> {
+    Ok(Received { known, draws: 0 })
 }
 
 #[test]
 fn figure_9() {
-    assert_eq!(drawn(Scheme::Gf256, 1, 15, 50), FIGURE_9);
+    assert_eq!(drawn(Scheme::Gf256, 1, 15, 50), (FIGURE_9.to_vec(), 50));
 }
 
 /// In scheme 9 a coefficient is 1 where rand16 is at most DT, so the least such DT is rand16.
 #[test]
 fn figure_10() {
-    let lists: Vec<Vec<u8>> = (0..15).map(|dt| drawn(Scheme::Gf2, 1, dt, 50)).collect();
+    let lists: Vec<Vec<u8>> = (0..15).map(|dt| drawn(Scheme::Gf2, 1, dt, 50).0).collect();
     let rand16: Vec<u8> = (0..50).map(|i| lists.iter().take_while(|list| list[i] == 0).count() as u8).collect();
     assert_eq!(rand16, FIGURE_10);
 }
 
+/// Among the keys are the one with the longest row of zero bytes and one with the most draws.
 #[test]
-fn coefficients_of_every_density() {
+fn coefficients_and_draws_of_every_density() {
     for (scheme, field) in [(Scheme::Gf2, Field::Gf2), (Scheme::Gf256, Field::Gf256)] {
         for dt in 0..16 {
-            for key in [0, 1, 2, 255, 256, 40_503, 65_535] {
-                assert_eq!(drawn(scheme, key, dt, 255), coefficients(field, key, dt as u8, 255).unwrap(), "{scheme:?} {key} {dt}");
+            for key in [0, 1, 2, 255, 256, 40_503, 48_229, 57_783, 65_535] {
+                let (list, draws) = drawn(scheme, key, dt, 255);
+                assert_eq!(Ok((list, u64::from(draws))), drawn_list(field, key, dt as u8, 255), "{scheme:?} {key} {dt}");
             }
         }
     }
@@ -67,15 +79,15 @@ fn c1_and_c2_products() {
 fn c3_inverse() {
     let mut receiver = Receiver::open(Scheme::Gf256, 4, 1).unwrap();
     let packet = repair_packet(key_of(2), 15, 1, 0, &[vec![1; 4]]);
-    assert_eq!(receiver.receive_repair(&packet), Ok(1));
+    assert_eq!(receiver.receive_repair(&packet), Ok(Received { known: 1, draws: 1 }));
     assert_eq!(receiver.symbol(0), Ok(&[142; 4][..]));
 }
 
 #[test]
 fn c4_to_c6_coefficients() {
-    assert_eq!(drawn(Scheme::Gf256, 1, 15, 5), [37, 225, 177, 176, 21]);
-    assert_eq!(drawn(Scheme::Gf2, 1, 4, 6), [0, 1, 1, 1, 0, 0]);
-    assert_eq!(drawn(Scheme::Gf256, 1, 4, 5), [0, 177, 21, 0, 0]);
+    assert_eq!(drawn(Scheme::Gf256, 1, 15, 5), (vec![37, 225, 177, 176, 21], 5));
+    assert_eq!(drawn(Scheme::Gf2, 1, 4, 6), (vec![0, 1, 1, 1, 0, 0], 6));
+    assert_eq!(drawn(Scheme::Gf256, 1, 4, 5), (vec![0, 177, 21, 0, 0], 7));
 }
 
 /// The source packets of ADUs of one byte each, F 1.
@@ -91,7 +103,7 @@ fn sent(sender: &mut Sender, adus: RangeInclusive<u8>) -> Vec<[u8; 5]> {
 /// A repair packet of one symbol, DT 15.
 fn repair(sender: &Sender, key: u16) -> [u8; 12] {
     let mut packet = [0; 12];
-    assert_eq!(sender.make_repair(key, 15, 1, &mut packet), Ok(12));
+    assert_eq!(sender.make_repair(key, 15, 1, &mut packet), Ok(Repair { bytes: 12, draws: 0 }));
     packet
 }
 
@@ -106,8 +118,8 @@ fn c7_and_c8_one_lost_symbol() {
     assert_eq!(sources, [[0x41, 0, 0, 0, 0], [0x42, 0, 0, 0, 1]]);
     let packet = repair(&sender, 4711);
     assert_eq!(packet, [0, 0, 0xf0, 2, 0, 0, 0, 0, 0, 0, 0, 3]);
-    assert_eq!(receiver.receive_source(1, &sources[0]), Ok(1));
-    assert_eq!(receiver.receive_repair(&packet), Ok(1));
+    assert_eq!(receiver.receive_source(1, &sources[0]), known(1));
+    assert_eq!(receiver.receive_repair(&packet), known(1));
     assert_eq!(receiver.symbol(1), Ok(&[1, 0, 1, 0x42][..]));
     let mut out = [9; 2];
     assert_eq!(receiver.adu(1, &mut out), Ok(Adu { flow: 1, bytes: &[0x42] }));
@@ -123,7 +135,8 @@ fn c9_longest_adu() {
 
 #[test]
 fn c10_places() {
-    let far = [(65_535, Ok(1)), (65_536, Err(Refusal::Ahead)), (2_147_483_647, Err(Refusal::Ahead)), (2_147_483_648, Err(Refusal::Behind))];
+    let far =
+        [(65_535, known(1)), (65_536, Err(Refusal::Ahead)), (2_147_483_647, Err(Refusal::Ahead)), (2_147_483_648, Err(Refusal::Behind))];
     for scheme in [Scheme::Gf2, Scheme::Gf256] {
         for (esi, answer) in far {
             let mut receiver = Receiver::open(scheme, 4, 3).unwrap();
@@ -136,7 +149,7 @@ fn c10_places() {
 fn c11_contradiction_of_two_unknowns() {
     let (mut sender, mut receiver) = opened(2);
     sent(&mut sender, 0x41..=0x42);
-    assert_eq!(receiver.receive_repair(&repair(&sender, 0)), Ok(0));
+    assert_eq!(receiver.receive_repair(&repair(&sender, 0)), known(0));
     assert_eq!((receiver.symbol(0), receiver.symbol(1)), (Err(Refusal::Unknown), Err(Refusal::Unknown)));
     assert_eq!(receiver.receive_source(1, &source_packet(&[0; 5], 0)), Err(Refusal::Contradiction));
 }
@@ -149,10 +162,10 @@ fn c12_equations_outlive_departed_symbols() {
     let sources = sent(&mut sender, 0x43..=0x44);
     let over_4 = repair(&sender, 0);
     let last = sent(&mut sender, 0x45..=0x46);
-    assert_eq!(receiver.receive_repair(&over_2), Ok(0));
-    assert_eq!(receiver.receive_repair(&over_4), Ok(0));
-    assert_eq!(receiver.receive_source(1, &last[0]), Ok(1));
-    assert_eq!(receiver.receive_source(1, &last[1]), Ok(1));
-    assert_eq!(receiver.receive_source(1, &sources[1]), Ok(2));
+    assert_eq!(receiver.receive_repair(&over_2), known(0));
+    assert_eq!(receiver.receive_repair(&over_4), known(0));
+    assert_eq!(receiver.receive_source(1, &last[0]), known(1));
+    assert_eq!(receiver.receive_source(1, &last[1]), known(1));
+    assert_eq!(receiver.receive_source(1, &sources[1]), known(2));
     assert_eq!(receiver.symbol(2), Ok(&[1, 0, 1, 0x43][..]));
 }

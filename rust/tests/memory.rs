@@ -61,7 +61,7 @@ fn call_all(random: &mut Random, setting: Setting, content: &[u8], refusal: Opti
             assert_eq!(answer, refusal, "call {call}");
             assert!(work.get() == work_before, "working memory after refusal 3, call {call}");
         }
-        assert!((-14..=255 * 65_536 + 65_535).contains(&answer), "call {call} answered {answer}");
+        assert!(answer >= -14, "call {call} answered {answer}");
         memory.check();
         work.check();
         out.check();
@@ -72,6 +72,14 @@ fn call_all(random: &mut Random, setting: Setting, content: &[u8], refusal: Opti
             assert!(out.get() == out_before, "call {call} refused and wrote output");
             continue;
         }
+        let (value, draws) = library::parts(answer);
+        let (most, most_draws) = match call {
+            0 => (255, 0),
+            1 => (255, 69_360),
+            6 => (8 + 16 * 1500, 69_360),
+            _ => (255 * 65_536 + 65_535, 0),
+        };
+        assert!(value <= most && draws <= most_draws, "call {call} answered {value} and {draws} draws");
         let (header, size) = header_of(content);
         assert!(size <= content.len(), "call {call} worked on memory that is too short");
         assert!(memory.get()[size..] == content[size..], "call {call} wrote past the size");
@@ -81,11 +89,11 @@ fn call_all(random: &mut Random, setting: Setting, content: &[u8], refusal: Opti
         }
         let written = match call {
             3 => {
-                assert!(answer as usize + header.symbol_size <= size, "a symbol outside the memory");
+                assert!(value + header.symbol_size <= size, "a symbol outside the memory");
                 0
             }
-            4 => answer as usize % 65_536,
-            5 | 6 => answer as usize,
+            4 => value % 65_536,
+            5 | 6 => value,
             _ => 0,
         };
         assert!(out.get()[written..] == out_before[written..], "call {call} wrote past its output");
@@ -119,9 +127,11 @@ fn used(random: &mut Random, setting: Setting) -> (Vec<u8>, Vec<u8>) {
         if written >= 0 && random.chance(60) {
             library::receive_source(&mut receiver, &mut work, 1, &out[..written as usize]);
         }
-        let written = library::make_repair(&sender, random.next() as u16, random.below(16) as u32, 1, &mut out);
-        if written >= 0 && random.chance(60) {
-            library::receive_repair(&mut receiver, &mut work, &out[..written as usize]);
+        let made = library::make_repair(&sender, random.next() as u16, random.below(16) as u32, 1, &mut out);
+        if made >= 0 && random.chance(60) {
+            let (written, draws) = library::parts(made);
+            let received = library::receive_repair(&mut receiver, &mut work, &out[..written]);
+            assert!(received < 0 || library::parts(received).1 == draws, "the draws at both ends");
         }
     }
     (sender, receiver)

@@ -5,7 +5,7 @@ mod reference;
 
 use library::pair::{Receivers, Senders, Tally};
 use library::runs;
-use reference::coefficients::{combination, keys};
+use reference::coefficients::{combination, drawn_list, keys};
 use reference::random::Random;
 use reference::{repair_packet, source_packet, Setting};
 use std::collections::{BTreeMap, HashMap};
@@ -282,7 +282,7 @@ fn driven(setting: Setting, position: u64, random: &mut Random) -> Receivers {
     while receivers.base() < position {
         let ahead = (position - receivers.base()).min(65_535);
         let packet = source_packet(&[random.byte()], receivers.base() + ahead);
-        assert_eq!(receivers.receive(random, Some(1), &packet), Ok(1));
+        assert_eq!(receivers.receive(random, Some(1), &packet), Ok((1, 0)));
         if ahead < 65_535 {
             break;
         }
@@ -354,11 +354,12 @@ struct Sending {
     looks: u64,
 }
 
-/// One run of a sender, a link and a receiver. What the receiver shows and hands out is what was sent. Gives how many symbols repair
-/// packets made known.
+/// One run of a sender, a link and a receiver. What the receiver shows and hands out is what was sent, and a packet takes as many draws at
+/// the receiver as it took at the sender. Gives how many symbols repair packets made known.
 fn link_run(random: &mut Random, mut senders: Senders, receivers: &mut Receivers, mut link: Link, sending: &Sending) -> u64 {
     let setting = senders.reference.setting;
     let mut found = 0;
+    let mut draws_of = HashMap::new();
     for i in 0..sending.adus {
         let symbols = if random.chance(70) { 1 } else { random.between(1, setting.width.min(6)) };
         let length = random.between(0, symbols * setting.symbol_size - 3);
@@ -370,13 +371,21 @@ fn link_run(random: &mut Random, mut senders: Senders, receivers: &mut Receivers
             let count = if random.chance(70) { 1 } else { random.between(1, 16) as u32 };
             let dt = if random.chance(80) { sending.dt } else { random.below(16) as u32 };
             let key = random.next() as u16;
-            packets.extend(senders.make_repair(random, key, dt, count).map(|packet| (None, packet)));
+            if let Ok((packet, draws)) = senders.make_repair(random, key, dt, count) {
+                draws_of.insert(packet.clone(), draws);
+                packets.push((None, packet));
+            }
         }
         for packet in packets {
             for (flow, packet) in link.send(random, packet) {
-                let answer = receivers.receive(random, flow, &packet);
-                assert!(answer.is_ok() || [Err(4), Err(6), Err(8)].contains(&answer), "{answer:?}");
-                found += if flow.is_none() { answer.unwrap_or(0) } else { 0 };
+                match (receivers.receive(random, flow, &packet), flow) {
+                    (Ok((_, draws)), Some(_)) => assert_eq!(draws, 0),
+                    (Ok((known, draws)), None) => {
+                        assert_eq!(draws, draws_of[&packet]);
+                        found += known;
+                    }
+                    (Err(number), _) => assert!([4, 6, 8].contains(&number), "refused: {number}"),
+                }
             }
         }
         if random.chance(sending.looks) {
@@ -503,7 +512,7 @@ fn longest_adus() {
         let adu = random.bytes(length);
         let _ = senders.add_adu(random, 9, &adu);
         let answer = receivers.receive(random, Some(9), &source_packet(&adu, 0));
-        assert_eq!(answer, if length == 65_535 { Ok(44) } else { Err(4) });
+        assert_eq!(answer, if length == 65_535 { Ok((44, 0)) } else { Err(4) });
         receivers.look_around(random);
     }
 }
@@ -523,7 +532,8 @@ fn sender_past_the_wrap() {
     assert_eq!(library::add_adu(&mut memory, 1, &[8], &mut out), 5);
     assert_eq!(out[1..5], ((calls * 255) as u32).to_be_bytes());
     let mut repair = [0; 12];
-    assert_eq!(library::make_repair(&memory, 5, 15, 1, &mut repair), 12);
+    let (_, draws) = drawn_list(reference::Field::Gf256, 5, 15, 255).unwrap();
+    assert_eq!(library::parts(library::make_repair(&memory, 5, 15, 1, &mut repair)), (12, draws));
     assert_eq!(repair[4..8], ((calls * 255 - 254) as u32).to_be_bytes());
     let symbols: Vec<Vec<u8>> = {
         let setting = Setting { scheme: 10, symbol_size: 4, width: 255 };

@@ -4,7 +4,7 @@ mod library;
 mod reference;
 
 use reference::{repair_packet, source_packet};
-use rlc8681::{Adu, Receiver, Refusal, Scheme, Sender};
+use rlc8681::{Adu, Received, Receiver, Refusal, Repair, Scheme, Sender};
 
 fn sender(symbol_size: u32, width: u32) -> Sender {
     Sender::open(Scheme::Gf2, symbol_size, width).unwrap()
@@ -18,6 +18,11 @@ fn receiver(symbol_size: u32, width: u32) -> Receiver {
 fn all_ones(position: u64, n: u16, symbols: &[[u8; 4]]) -> Vec<u8> {
     let symbols: Vec<Vec<u8>> = symbols.iter().map(|symbol| symbol.to_vec()).collect();
     repair_packet(0, 15, n, position, &symbols)
+}
+
+/// The answer to a packet that took no draws.
+fn known(known: usize) -> Result<Received, Refusal> {
+    Ok(Received { known, draws: 0 })
 }
 
 #[test]
@@ -34,10 +39,10 @@ fn table_of_examples() {
     assert_eq!(receiver(4, 2).receive_repair(&all_ones(0, 2, &[[1; 4], [2; 4]])), Err(Refusal::Contradiction));
     assert_eq!(receiver(4, 2).symbol(0), Err(Refusal::Unknown));
     let mut fresh = receiver(4, 2);
-    assert_eq!(fresh.receive_repair(&all_ones(1, 1, &[[1, 0, 0, 0]])), Ok(1));
+    assert_eq!(fresh.receive_repair(&all_ones(1, 1, &[[1, 0, 0, 0]])), known(1));
     assert_eq!(fresh.adu(1, &mut []), Err(Refusal::NoStart));
     let mut narrow = receiver(4, 1);
-    assert_eq!(narrow.receive_repair(&all_ones(0, 1, &[[1, 0, 2, 0]])), Ok(1));
+    assert_eq!(narrow.receive_repair(&all_ones(0, 1, &[[1, 0, 2, 0]])), known(1));
     assert_eq!(narrow.adu(0, &mut [0; 9]), Err(Refusal::Padding));
 }
 
@@ -143,7 +148,7 @@ fn order_of_the_sender() {
     assert_eq!(sender.make_repair(0, 15, 1, &mut []), Err(Refusal::Empty));
     assert_eq!(sender.add_adu(1, &[], &mut [0; 4]), Ok(4));
     assert_eq!(sender.make_repair(0, 15, 2, &mut [0; 15]), Err(Refusal::Short));
-    assert_eq!(sender.make_repair(0, 15, 2, &mut [0; 16]), Ok(16));
+    assert_eq!(sender.make_repair(0, 15, 2, &mut [0; 16]), Ok(Repair { bytes: 16, draws: 0 }));
 }
 
 /// Receiving: 3, 2, 5, 4 or 6, 8, 9, 11. Each packet breaks the rule named and all after it that it can.
@@ -179,7 +184,7 @@ fn repair_of_nothing() {
     let key = (0..=65_535).find(|&key| reference::coefficients::coefficients(reference::Field::Gf2, key, 0, 2) == Ok(vec![0, 0])).unwrap();
     let mut receiver = receiver(4, 2);
     assert_eq!(receiver.receive_repair(&repair_packet(key, 0, 2, 0, &[vec![0, 0, 0, 1]])), Err(Refusal::Contradiction));
-    assert_eq!(receiver.receive_repair(&repair_packet(key, 0, 2, 5, &[vec![0; 4]])), Ok(0));
+    assert_eq!(receiver.receive_repair(&repair_packet(key, 0, 2, 5, &[vec![0; 4]])), Ok(Received { known: 0, draws: 2 }));
     assert_eq!((receiver.symbol(4), receiver.symbol(5)), (Err(Refusal::Behind), Err(Refusal::Unknown)));
 }
 
@@ -187,7 +192,7 @@ fn repair_of_nothing() {
 #[test]
 fn order_of_symbol() {
     let mut receiver = receiver(4, 2);
-    assert_eq!(receiver.receive_source(1, &source_packet(&[7], 5)), Ok(1));
+    assert_eq!(receiver.receive_source(1, &source_packet(&[7], 5)), known(1));
     let esis = [(3, Err(Refusal::Behind)), (4, Err(Refusal::Unknown)), (5, Ok(&[1, 0, 1, 7][..])), (6, Err(Refusal::Unknown))];
     for (esi, answer) in esis {
         assert_eq!(receiver.symbol(esi), answer);
@@ -209,15 +214,15 @@ fn order_of_adu() {
     assert_eq!(receiver.adu(0, none), Err(Refusal::Unknown));
     // L 6 needs three symbols
     let mut long = receiver.clone();
-    assert_eq!(long.receive_repair(&all_ones(0, 1, &[[1, 0, 6, 0]])), Ok(1));
+    assert_eq!(long.receive_repair(&all_ones(0, 1, &[[1, 0, 6, 0]])), known(1));
     assert_eq!(long.adu(0, none), Err(Refusal::Padding));
     // L 2 needs two: the second unknown, then with padding that is not zero, then whole
-    assert_eq!(receiver.receive_repair(&all_ones(0, 1, &[[1, 0, 2, 7]])), Ok(1));
+    assert_eq!(receiver.receive_repair(&all_ones(0, 1, &[[1, 0, 2, 7]])), known(1));
     assert_eq!(receiver.adu(0, none), Err(Refusal::Unknown));
     let mut padded = receiver.clone();
-    assert_eq!(padded.receive_repair(&all_ones(1, 1, &[[8, 0, 1, 0]])), Ok(1));
+    assert_eq!(padded.receive_repair(&all_ones(1, 1, &[[8, 0, 1, 0]])), known(1));
     assert_eq!(padded.adu(0, none), Err(Refusal::Padding));
-    assert_eq!(receiver.receive_repair(&all_ones(1, 1, &[[8, 0, 0, 0]])), Ok(1));
+    assert_eq!(receiver.receive_repair(&all_ones(1, 1, &[[8, 0, 0, 0]])), known(1));
     assert_eq!(receiver.adu(0, none), Err(Refusal::Short));
     let mut out = [9; 3];
     assert_eq!(receiver.adu(0, &mut out[..1]), Err(Refusal::Short));
@@ -232,14 +237,14 @@ fn marks_of_starts() {
     let mut receiver = receiver(4, 2);
     let mut out = [0; 9];
     // The one after a source packet's last symbol, at base + width
-    assert_eq!(receiver.receive_source(1, &source_packet(&[7; 5], 0)), Ok(2));
+    assert_eq!(receiver.receive_source(1, &source_packet(&[7; 5], 0)), known(2));
     assert_eq!(receiver.adu(2, &mut out), Err(Refusal::Unknown));
-    assert_eq!(receiver.receive_repair(&all_ones(2, 1, &[[3, 0, 1, 9]])), Ok(1));
+    assert_eq!(receiver.receive_repair(&all_ones(2, 1, &[[3, 0, 1, 9]])), known(1));
     assert_eq!(receiver.adu(2, &mut out), Ok(Adu { flow: 3, bytes: &[9] }));
     // A chain through repaired symbols, from position 0
     let mut chain = Receiver::open(Scheme::Gf2, 4, 6).unwrap();
     for (position, symbol) in [(4, [5, 0, 0, 0]), (2, [0, 0, 0, 0]), (1, [6, 0, 3, 1]), (0, [4, 0, 0, 0]), (3, [4, 0, 1, 7])] {
-        assert_eq!(chain.receive_repair(&all_ones(position, 1, &[symbol])), Ok(1));
+        assert_eq!(chain.receive_repair(&all_ones(position, 1, &[symbol])), known(1));
     }
     assert_eq!(chain.adu(0, &mut out), Ok(Adu { flow: 4, bytes: &[] }));
     assert_eq!(chain.adu(1, &mut out), Ok(Adu { flow: 6, bytes: &[1, 0, 0] }));
@@ -252,12 +257,12 @@ fn marks_of_starts() {
     let found = Ok(Adu { flow: 8, bytes: &[] });
     for (at_once, answer) in [(false, found), (true, Err(Refusal::NoStart))] {
         let mut receiver = Receiver::open(Scheme::Gf2, 4, 2).unwrap();
-        assert_eq!(receiver.receive_source(1, &source_packet(&[], 0)), Ok(1));
-        assert_eq!(receiver.receive_repair(&all_ones(1, 1, &[[1, 0, 5, 0]])), Ok(1));
+        assert_eq!(receiver.receive_source(1, &source_packet(&[], 0)), known(1));
+        assert_eq!(receiver.receive_repair(&all_ones(1, 1, &[[1, 0, 5, 0]])), known(1));
         if !at_once {
-            assert_eq!(receiver.receive_repair(&all_ones(2, 1, &[[1; 4]])), Ok(1));
+            assert_eq!(receiver.receive_repair(&all_ones(2, 1, &[[1; 4]])), known(1));
         }
-        assert_eq!(receiver.receive_repair(&all_ones(3, 1, &[[8, 0, 0, 0]])), Ok(1));
+        assert_eq!(receiver.receive_repair(&all_ones(3, 1, &[[8, 0, 0, 0]])), known(1));
         assert_eq!(receiver.adu(3, &mut out), answer);
     }
 }

@@ -1,14 +1,17 @@
-//! The second sender and receiver against RFC 8681's figures, document 01's bench sheet and plain elimination. The library has no part in
-//! this file.
+//! The second sender and receiver against RFC 8681's figures, document 01's bench sheet and plain elimination, and its generator against
+//! what program `survey` prints. The library has no part in this file.
 
 mod reference;
 
-use reference::coefficients::{coefficients, combination, keys};
+use reference::coefficients::{coefficients, combination, drawn_list, keys};
 use reference::equations::Equation;
 use reference::figures::{FIGURE_10, FIGURE_9};
 use reference::generator::Generator;
 use reference::random::Random;
 use reference::{dense, field, repair_packet, Field, Receiver, Sender, Setting};
+use std::ops::RangeInclusive;
+use std::path::Path;
+use std::{fs, thread};
 
 #[test]
 fn figures_9_and_10() {
@@ -44,6 +47,55 @@ fn c4_to_c6_coefficients() {
     assert_eq!(coefficients(Field::Gf256, 1, 4, 5), Ok(vec![0, 177, 21, 0, 0]));
 }
 
+/// rand16 and rand256 draws count, the start does not; scheme 9 at DT 15 draws nothing.
+#[test]
+fn draws_of_lists() {
+    let draws = |field, dt, count| drawn_list(field, 1, dt, count).map(|(_, draws)| draws);
+    assert_eq!(draws(Field::Gf256, 4, 5), Ok(7));
+    assert_eq!(draws(Field::Gf256, 15, 5), Ok(5));
+    assert_eq!(draws(Field::Gf2, 4, 6), Ok(6));
+    assert_eq!(draws(Field::Gf2, 15, 255), Ok(0));
+    assert_eq!(draws(Field::Gf256, 4, 0), Ok(0));
+}
+
+/// What the lists of 255 coefficients of scheme 10 draw for these keys at every DT: the rows of two and more zero bytes drawn for one
+/// coefficient (how many, DT, key, place in the list), and the most draws for one list (with its DT and key).
+type Surveyed = (Vec<(usize, u8, u16, usize)>, (u64, u8, u16));
+
+fn surveyed(keys: RangeInclusive<u16>) -> Surveyed {
+    let (mut rows, mut most) = (Vec::new(), (0, 0, 0));
+    for key in keys {
+        for dt in 0..16 {
+            let mut generator = Generator::new(u32::from(key));
+            for place in 0..255 {
+                if dt < 15 && generator.rand16() > dt {
+                    continue;
+                }
+                let zeros = (0..16).take_while(|_| generator.rand256() == 0).count();
+                if zeros > 1 {
+                    rows.push((zeros, dt, key, place));
+                }
+            }
+            most = most.max((generator.draws, dt, key));
+        }
+    }
+    (rows, most)
+}
+
+/// The longest row of zero bytes is what program `survey` prints, far from refusal 10's sixteen.
+#[test]
+fn survey_of_every_key_and_density() {
+    let halves = [0..=32_767, 32_768..=65_535].map(|keys| thread::spawn(|| surveyed(keys)));
+    let [(low, low_most), (high, high_most)] = halves.map(|half| half.join().expect("a half of the keys"));
+    let rows = [low, high].concat();
+    let longest = rows.iter().map(|row| row.0).max().unwrap();
+    let printed = Path::new(env!("CARGO_MANIFEST_DIR")).join("../crates/survey/stdout");
+    assert_eq!(fs::read_to_string(&printed).unwrap_or_else(|why| panic!("{}: {why}", printed.display())), format!("{longest}\n"));
+    let found: Vec<_> = rows.iter().filter(|row| row.0 == longest).collect();
+    assert_eq!(found, [&(3, 12, 57_783, 253), &(3, 13, 57_783, 244)]);
+    assert_eq!(low_most.max(high_most), (512, 14, 48_229));
+}
+
 fn open(scheme: u32, symbol_size: u32, width: u32) -> (Sender, Receiver) {
     let setting = Setting::checked(scheme, symbol_size, width).unwrap();
     (Sender::open(setting), Receiver::open(setting))
@@ -51,7 +103,7 @@ fn open(scheme: u32, symbol_size: u32, width: u32) -> (Sender, Receiver) {
 
 const ROOM: usize = usize::MAX;
 
-fn sends(sender: &mut Sender, adus: std::ops::RangeInclusive<u8>) -> Vec<Vec<u8>> {
+fn sends(sender: &mut Sender, adus: RangeInclusive<u8>) -> Vec<Vec<u8>> {
     adus.map(|byte| sender.add_adu(1, &[byte], ROOM).unwrap()).collect()
 }
 
@@ -60,10 +112,10 @@ fn c7_and_c8_one_lost_symbol() {
     let (mut sender, mut receiver) = open(9, 4, 2);
     let sources = sends(&mut sender, 0x41..=0x42);
     assert_eq!(sources, [[0x41, 0, 0, 0, 0], [0x42, 0, 0, 0, 1]]);
-    let repair = sender.make_repair(77, 15, 1, ROOM).unwrap();
+    let repair = sender.make_repair(77, 15, 1, ROOM).unwrap().0;
     assert_eq!(repair, [0, 0, 0xf0, 2, 0, 0, 0, 0, 0, 0, 0, 3]);
-    assert_eq!(receiver.receive_source(ROOM, ROOM, 1, &sources[0]), Ok(1));
-    assert_eq!(receiver.receive_repair(ROOM, ROOM, &repair), Ok(1));
+    assert_eq!(receiver.receive_source(ROOM, ROOM, 1, &sources[0]), Ok((1, 0)));
+    assert_eq!(receiver.receive_repair(ROOM, ROOM, &repair), Ok((1, 0)));
     assert_eq!(receiver.symbol(ROOM, 1), Ok(&[1, 0, 1, 0x42][..]));
 }
 
@@ -76,7 +128,7 @@ fn c9_longest_adu() {
 
 #[test]
 fn c10_places() {
-    for (esi, answer) in [(65_535, Ok(1)), (65_536, Err(9)), (2_147_483_647, Err(9)), (2_147_483_648, Err(8))] {
+    for (esi, answer) in [(65_535, Ok((1, 0))), (65_536, Err(9)), (2_147_483_647, Err(9)), (2_147_483_648, Err(8))] {
         let (_, mut receiver) = open(10, 4, 3);
         assert_eq!(receiver.receive_source(ROOM, ROOM, 1, &reference::source_packet(&[1], esi)), answer);
     }
@@ -86,7 +138,7 @@ fn c10_places() {
 fn c11_contradiction_of_two_unknowns() {
     let (mut sender, mut receiver) = open(9, 4, 2);
     sends(&mut sender, 0x41..=0x42);
-    assert_eq!(receiver.receive_repair(ROOM, ROOM, &sender.make_repair(0, 15, 1, ROOM).unwrap()), Ok(0));
+    assert_eq!(receiver.receive_repair(ROOM, ROOM, &sender.make_repair(0, 15, 1, ROOM).unwrap().0), Ok((0, 0)));
     assert_eq!((receiver.symbol(ROOM, 0), receiver.symbol(ROOM, 1)), (Err(12), Err(12)));
     assert_eq!(receiver.receive_source(ROOM, ROOM, 1, &reference::source_packet(&[0; 5], 0)), Err(11));
 }
@@ -95,16 +147,16 @@ fn c11_contradiction_of_two_unknowns() {
 fn c12_equations_outlive_departed_symbols() {
     let (mut sender, mut receiver) = open(9, 4, 4);
     let first = sends(&mut sender, 0x41..=0x42);
-    let over_2 = sender.make_repair(0, 15, 1, ROOM).unwrap();
+    let over_2 = sender.make_repair(0, 15, 1, ROOM).unwrap().0;
     sends(&mut sender, 0x43..=0x44);
-    let over_4 = sender.make_repair(0, 15, 1, ROOM).unwrap();
+    let over_4 = sender.make_repair(0, 15, 1, ROOM).unwrap().0;
     let last = sends(&mut sender, 0x45..=0x46);
     assert_eq!(first.len(), 2);
-    assert_eq!(receiver.receive_repair(ROOM, ROOM, &over_2), Ok(0));
-    assert_eq!(receiver.receive_repair(ROOM, ROOM, &over_4), Ok(0));
-    assert_eq!(receiver.receive_source(ROOM, ROOM, 1, &last[0]), Ok(1));
-    assert_eq!(receiver.receive_source(ROOM, ROOM, 1, &last[1]), Ok(1));
-    assert_eq!(receiver.receive_source(ROOM, ROOM, 1, &reference::source_packet(&[0x44], 3)), Ok(2));
+    assert_eq!(receiver.receive_repair(ROOM, ROOM, &over_2), Ok((0, 0)));
+    assert_eq!(receiver.receive_repair(ROOM, ROOM, &over_4), Ok((0, 0)));
+    assert_eq!(receiver.receive_source(ROOM, ROOM, 1, &last[0]), Ok((1, 0)));
+    assert_eq!(receiver.receive_source(ROOM, ROOM, 1, &last[1]), Ok((1, 0)));
+    assert_eq!(receiver.receive_source(ROOM, ROOM, 1, &reference::source_packet(&[0x44], 3)), Ok((2, 0)));
     assert_eq!(receiver.symbol(ROOM, 2), Ok(&[1, 0, 1, 0x43][..]));
 }
 

@@ -1,5 +1,5 @@
-// The library as a C program links it: the bench sheet's cases C7 to C9 and C12, and the ADU call's refusals, through the header alone; each answer
-// and each byte is compared.
+// The library as a C program links it: the bench sheet's cases C7 to C9 and C12, the draws, and the ADU call's refusals, through the header alone; each
+// answer and each byte is compared.
 #include "rlc8681.h"
 #include <stdio.h>
 #include <stdlib.h>
@@ -17,6 +17,14 @@ static void check(int good, const char *what) {
     int64_t says = (call);                                                                        \
     check(says == (number), #call " says " #number);                                              \
     if (says != (number)) printf("        but %lld\n", (long long)says);                          \
+  } while (0)
+// The call answers this value, and these draws beside it.
+#define TELLS(call, value, draws)                                                                 \
+  do {                                                                                            \
+    int64_t told = (call);                                                                        \
+    int good = told >= 0 && rlc_value(told) == (value) && rlc_draws(told) == (draws);             \
+    check(good, #call " tells " #value ", draws " #draws);                                        \
+    if (!good) printf("        but %lld\n", (long long)told);                                     \
   } while (0)
 #define BYTES(at, ...)                                                                            \
   do {                                                                                            \
@@ -197,6 +205,44 @@ static void twelve(void) {
   check(untouched(sender, sender.length) && untouched(receiver, receiver.length) && untouched(work, work.length), "all stay in their memory");
 }
 
+// Key 1, scheme 10, DT 4: the five coefficients 0, 177, 21, 0, 0 take 7 draws at both ends. Two repair symbols take those of both keys, a source packet
+// takes none, and neither does scheme 9 at DT 15; a refusal tells none.
+static void draws(void) {
+  struct room sender = sender_of(4, 5), receiver = receiver_of(4, 5), work = work_of(4, 5), source = room(5), repair = room(12), both = room(16);
+  SAYS(rlc_sender_open(LENT(sender), 10, 4, 5), 0);
+  SAYS(rlc_receiver_open(LENT(receiver), 10, 4, 5), 0);
+  for (uint8_t i = 0; i < 5; i++) {
+    const uint8_t adu = 0x41 + i;
+    SAYS(rlc_sender_add_adu(LENT(sender), 1, &adu, 1, LENT(source)), 5);
+    if (i == 1) TELLS(rlc_receive_source(LENT(receiver), LENT(work), 1, LENT(source)), 1, 0);
+  }
+  SAYS(rlc_sender_make_repair(LENT(sender), 1, 4, 1, LENT(repair)), INT64_C(30064771084));
+  TELLS(rlc_sender_make_repair(LENT(sender), 1, 4, 1, LENT(repair)), 12, 7);
+  BYTES(repair.bytes, 0, 1, 0x40, 5, 0, 0, 0, 0, 0xa4, 0, 0xa4, 0x32);
+  SAYS(rlc_receive_repair(LENT(receiver), LENT(work), LENT(repair)), INT64_C(30064771073));
+  SHOWS(receiver, 2, 1, 0, 1, 0x43);
+  TELLS(rlc_receive_repair(LENT(receiver), LENT(work), LENT(repair)), 0, 7);
+  TELLS(rlc_sender_make_repair(LENT(sender), 1, 4, 2, LENT(both)), 16, 14);
+  TELLS(rlc_receive_repair(LENT(receiver), LENT(work), LENT(both)), 1, 14);
+  SHOWS(receiver, 4, 1, 0, 1, 0x45);
+  repair.bytes[11] ^= 1;
+  SAYS(rlc_receive_repair(LENT(receiver), LENT(work), LENT(repair)), -RLC_CONTRADICTION);
+  TELLS(INT64_C(297898931650815), 255, 69360);
+}
+
+// The largest repair packet, 16 symbols over a window of 255, in both schemes.
+static void many_draws(void) {
+  struct room sender = sender_of(4, 255), receiver = receiver_of(4, 255), work = work_of(4, 255), source = room(4), repair = room(8 + 16 * 4);
+  for (uint32_t scheme = 9; scheme <= 10; scheme++) {
+    SAYS(rlc_sender_open(LENT(sender), scheme, 4, 255), 0);
+    SAYS(rlc_receiver_open(LENT(receiver), scheme, 4, 255), 0);
+    for (int i = 0; i < 255; i++) SAYS(rlc_sender_add_adu(LENT(sender), 1, source.bytes, 0, LENT(source)), 4);
+    TELLS(rlc_sender_make_repair(LENT(sender), 48229, 14, 16, LENT(repair)), 8 + 16 * 4, scheme == 9 ? 16 * 255 : 7934);
+    TELLS(rlc_receive_repair(LENT(receiver), LENT(work), LENT(repair)), 0, scheme == 9 ? 16 * 255 : 7934);
+    TELLS(rlc_sender_make_repair(LENT(sender), 48229, 15, 16, LENT(repair)), 8 + 16 * 4, scheme == 9 ? 0 : 4095);
+  }
+}
+
 // The ADU call's own small examples: a start that only repair knows, an ADUI of more symbols than the width, and padding that is not zero.
 static void thirteen_and_fourteen(void) {
   struct room receiver = receiver_of(4, 2), narrow = receiver_of(4, 1), work = work_of(4, 2);
@@ -219,6 +265,8 @@ int main(void) {
   seven_and_eight();
   nine();
   twelve();
+  draws();
+  many_draws();
   thirteen_and_fourteen();
   printf("%d passed, %d failed\n", passed, failed);
   return failed != 0;

@@ -3,7 +3,7 @@
 
 use super::Lent;
 use crate::reference::random::Random;
-use crate::reference::{self, as_c, Setting};
+use crate::reference::{self, as_c, Answer, Setting};
 use rlc8681::{Refusal, Scheme};
 
 fn scheme(setting: Setting) -> Scheme {
@@ -14,12 +14,9 @@ fn scheme(setting: Setting) -> Scheme {
     }
 }
 
-/// An answer of the Rust types as the C interface gives it.
-fn from_safe(answer: Result<usize, Refusal>) -> i64 {
-    match answer {
-        Ok(value) => value as i64,
-        Err(refusal) => -i64::from(refusal.number()),
-    }
+/// An answer of the Rust types, its value and its draws, as the C interface gives it.
+fn from_safe(answer: Result<(usize, u32), Refusal>) -> i64 {
+    as_c(answer.map(|(value, draws)| (value as u64, u64::from(draws))).map_err(|refusal| u32::from(refusal.number())))
 }
 
 /// Junk that is lent beyond the size that a call needs.
@@ -61,11 +58,11 @@ impl Senders {
     }
 
     /// What one call left, given what was there before it: the packet at the front of the output and all else as it was, or no change.
-    fn compare(&self, expected: &Result<Vec<u8>, u32>, answer: i64, out: &Lent, out_before: &[u8], memory_before: &[u8]) {
-        let number = as_c(expected.as_ref().map(|p| p.len() as u64).map_err(|&r| r));
+    fn compare(&self, expected: &Result<(Vec<u8>, u64), u32>, answer: i64, out: &Lent, out_before: &[u8], memory_before: &[u8]) {
+        let number = as_c(expected.as_ref().map(|(packet, draws)| (packet.len() as u64, *draws)).map_err(|&r| r));
         assert_eq!(answer, number, "a sender's answer");
         let mut wanted = out_before.to_vec();
-        if let Ok(packet) = expected {
+        if let Ok((packet, _)) = expected {
             wanted[..packet.len()].copy_from_slice(packet);
         } else {
             assert!(self.memory.get() == memory_before, "a refusal changed the sender's memory");
@@ -82,14 +79,15 @@ impl Senders {
         let (before, memory_before) = (out.get().to_vec(), self.memory.get().to_vec());
         let expected = self.reference.add_adu(flow, adu, before.len());
         let answer = super::add_adu(self.memory.lend(), flow, adu, out.lend());
-        self.compare(&expected, answer, &out, &before, &memory_before);
+        self.compare(&expected.clone().map(|packet| (packet, 0)), answer, &out, &before, &memory_before);
         let mut again = before;
-        assert_eq!(from_safe(self.safe.add_adu(flow, adu, &mut again)), answer);
+        assert_eq!(from_safe(self.safe.add_adu(flow, adu, &mut again).map(|bytes| (bytes, 0))), answer);
         assert!(again == out.get(), "the Rust type's output");
         expected
     }
 
-    pub fn make_repair(&self, random: &mut Random, key: u16, dt: u32, count: u32) -> Result<Vec<u8>, u32> {
+    /// The packet and the draws that it took.
+    pub fn make_repair(&self, random: &mut Random, key: u16, dt: u32, count: u32) -> Result<(Vec<u8>, u64), u32> {
         let mut out = Senders::output(random, 8 + count.min(20) as usize * self.reference.setting.symbol_size);
         let before = out.get().to_vec();
         let memory_before = self.memory.get().to_vec();
@@ -98,7 +96,7 @@ impl Senders {
         self.compare(&expected, answer, &out, &before, &memory_before);
         assert!(self.memory.get() == memory_before, "making repair changed the sender's memory");
         let mut again = before;
-        assert_eq!(from_safe(self.safe.make_repair(key, dt, count, &mut again)), answer);
+        assert_eq!(from_safe(self.safe.make_repair(key, dt, count, &mut again).map(|repair| (repair.bytes, repair.draws))), answer);
         assert!(again == out.get(), "the Rust type's output");
         expected
     }
@@ -110,6 +108,8 @@ pub struct Tally {
     /// Packets by answer: accepted with nothing new, with one and with more symbols new; refused, by number.
     pub accepted: [u64; 3],
     pub refused: [u64; 15],
+    /// The draws of the packets accepted.
+    pub draws: u64,
     /// Symbol calls that showed one; ADU calls by refusal, place 0 for those handed out.
     pub shown: u64,
     pub adus: [u64; 15],
@@ -122,13 +122,15 @@ impl Tally {
 
     /// Prints what happened, for `--nocapture`.
     pub fn told(&self, name: &str) {
-        let Tally { accepted, refused, shown, adus } = self;
-        println!("{name}: {} packets, accepted {accepted:?}, refused {refused:?}, shown {shown}, ADU calls {adus:?}", self.packets());
+        let Tally { accepted, refused, draws, shown, adus } = self;
+        let packets = self.packets();
+        println!("{name}: {packets} packets, accepted {accepted:?}, refused {refused:?}, {draws} draws, shown {shown}, ADU calls {adus:?}");
     }
 
-    /// Panics where one of these refusals of packets, or of these answers of the ADU call, was never met (in whole runs).
+    /// Panics where one of these refusals of packets, or of these answers of the ADU call, was never met, or nothing drawn (in whole runs).
     pub fn met(&self, refused: &[usize], adus: &[usize]) {
         if std::env::var_os("RLC8681_SEED").is_none() {
+            assert!(self.draws > 0);
             assert!(refused.iter().all(|&number| self.refused[number] > 0), "packets refused {:?}", self.refused);
             assert!(adus.iter().all(|&number| self.adus[number] > 0), "ADU calls {:?}", self.adus);
         }
@@ -138,6 +140,7 @@ impl Tally {
         self.accepted.iter_mut().zip(other.accepted).for_each(|(a, b)| *a += b);
         self.refused.iter_mut().zip(other.refused).for_each(|(a, b)| *a += b);
         self.adus.iter_mut().zip(other.adus).for_each(|(a, b)| *a += b);
+        self.draws += other.draws;
         self.shown += other.shown;
     }
 }
@@ -178,7 +181,7 @@ impl Receivers {
     }
 
     /// Gives a packet to all three; a source packet where a flow stands beside it.
-    pub fn receive(&mut self, random: &mut Random, flow: Option<u8>, packet: &[u8]) -> Result<u64, u32> {
+    pub fn receive(&mut self, random: &mut Random, flow: Option<u8>, packet: &[u8]) -> Answer {
         let (size, work_size) = (self.setting().receiver_memory(), self.setting().working_memory());
         if random.chance(3) {
             self.work = Lent::new(&longer(random, work_size));
@@ -201,15 +204,16 @@ impl Receivers {
             ),
         };
         assert_eq!(answer, as_c(expected), "a receiver's answer; flow {flow:?}, packet {packet:02x?}, base {}", self.base());
-        assert_eq!(from_safe(safe), answer, "the Rust type's answer");
+        assert_eq!(from_safe(safe.map(|received| (received.known, received.draws))), answer, "the Rust type's answer");
         self.memory.check();
         self.work.check();
         assert!(self.work.get()[work_size..] == work_past, "past the working memory's size");
         match expected {
-            Ok(count) => {
+            Ok((count, draws)) => {
                 assert!(self.memory.get()[size..] == self.before[size..], "past the receiver's size");
                 self.before.copy_from_slice(self.memory.get());
                 self.tally.accepted[count.min(2) as usize] += 1;
+                self.tally.draws += draws;
             }
             Err(number) => {
                 assert!(self.memory.get() == self.before, "a refusal changed the receiver's memory");

@@ -3,10 +3,10 @@
 use super::generator::Generator;
 use super::Field;
 
-/// The `count` coefficients of a key, or refusal 10.
-pub fn coefficients(field: Field, key: u16, dt: u8, count: usize) -> Result<Vec<u8>, u32> {
+/// The `count` coefficients of a key and the draws that they took, or refusal 10.
+pub fn drawn_list(field: Field, key: u16, dt: u8, count: usize) -> Result<(Vec<u8>, u64), u32> {
     if field == Field::Gf2 && dt == 15 {
-        return Ok(vec![1; count]);
+        return Ok((vec![1; count], 0));
     }
     let mut generator = Generator::new(u32::from(key));
     let mut list = Vec::new();
@@ -17,7 +17,12 @@ pub fn coefficients(field: Field, key: u16, dt: u8, count: usize) -> Result<Vec<
             Field::Gf256 => (0..16).map(|_| generator.rand256()).find(|&byte| byte != 0).ok_or(10u32)?,
         });
     }
-    Ok(list)
+    Ok((list, generator.draws))
+}
+
+/// The `count` coefficients of a key, or refusal 10.
+pub fn coefficients(field: Field, key: u16, dt: u8, count: usize) -> Result<Vec<u8>, u32> {
+    drawn_list(field, key, dt, count).map(|(list, _)| list)
 }
 
 /// The keys of `count` repair symbols: they count up modulo 65,536.

@@ -6,6 +6,8 @@ const C: u32 = 0x3793_fdff;
 
 pub struct Generator {
     s: [u32; 4],
+    /// The draws so far. The eight steps of the start are none.
+    pub draws: u64,
 }
 
 impl Generator {
@@ -15,7 +17,7 @@ impl Generator {
             let p = s[(i as usize - 1) % 4];
             s[i as usize % 4] ^= i.wrapping_add(1_812_433_253u32.wrapping_mul(p ^ (p >> 30)));
         }
-        let mut generator = Generator { s };
+        let mut generator = Generator { s, draws: 0 };
         for _ in 0..8 {
             generator.step();
         }
@@ -35,6 +37,7 @@ impl Generator {
     }
 
     pub fn draw(&mut self) -> u32 {
+        self.draws += 1;
         self.step();
         let u = self.s[0].wrapping_add(self.s[2] >> 8);
         let mixed = self.s[3] ^ u;

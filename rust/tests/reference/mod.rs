@@ -18,13 +18,13 @@ pub use field::Field;
 pub use receiver::Receiver;
 pub use sender::Sender;
 
-/// What a call answers: its value, or a refusal's number (document 01, "Why a call says no").
-pub type Answer = Result<u64, u32>;
+/// What a call answers: its value and the draws that it took, or a refusal's number (document 01, "Why a call says no").
+pub type Answer = Result<(u64, u64), u32>;
 
 /// An answer as the C interface gives it.
 pub fn as_c(answer: Answer) -> i64 {
     match answer {
-        Ok(value) => value as i64,
+        Ok((value, draws)) => (value + draws * 4_294_967_296) as i64,
         Err(number) => -i64::from(number),
     }
 }

@@ -1,6 +1,6 @@
 //! The receiver of document 01's "plain history", with its marks of starts.
 
-use super::coefficients::{coefficients, keys};
+use super::coefficients::{drawn_list, keys};
 use super::equations::{Equation, System};
 use super::{Answer, Setting};
 use std::collections::BTreeSet;
@@ -44,8 +44,8 @@ impl Receiver {
         Ok(self.base + d)
     }
 
-    /// Takes a packet that names n symbols from `first` on, or refuses it (11).
-    fn accept(&mut self, first: u64, n: usize, equations: Vec<Equation>, source: bool) -> Answer {
+    /// Takes a packet that names n symbols from `first` on, or refuses it (11). Gives how many positions of the window became known.
+    fn accept(&mut self, first: u64, n: usize, equations: Vec<Equation>, source: bool) -> Result<u64, u32> {
         let solved = self.system.admit_all(equations).map_err(|_| 11u32)?;
         let width = self.setting.width as u64;
         let end = first + n as u64;
@@ -90,7 +90,7 @@ impl Receiver {
         let first = self.place(u32::from_be_bytes(esi.try_into().unwrap()), n)?;
         let symbols = self.setting.cut(flow, adu);
         let equations = (first..).zip(&symbols).map(|(position, symbol)| Equation::new(position, &[1], symbol));
-        self.accept(first, n, equations.collect(), true)
+        Ok((self.accept(first, n, equations.collect(), true)?, 0))
     }
 
     pub fn receive_repair(&mut self, memory: usize, work: usize, packet: &[u8]) -> Answer {
@@ -108,11 +108,13 @@ impl Receiver {
             return Err(6);
         }
         let first = self.place(esi, nss)?;
-        let mut equations = Vec::new();
+        let (mut equations, mut draws) = (Vec::new(), 0);
         for (key, symbol) in keys(key, count).zip(packet[8..].chunks(size)) {
-            equations.push(Equation::new(first, &coefficients(self.setting.field(), key, dt, nss)?, symbol));
+            let (list, taken) = drawn_list(self.setting.field(), key, dt, nss)?;
+            equations.push(Equation::new(first, &list, symbol));
+            draws += taken;
         }
-        self.accept(first, nss, equations, false)
+        Ok((self.accept(first, nss, equations, false)?, draws))
     }
 
     /// The position of an ESI in the window, or refusal 8 or 12.

@@ -1,6 +1,6 @@
 //! A sender that keeps every symbol it ever took.
 
-use super::coefficients::{combination, keys};
+use super::coefficients::{combination, drawn_list, keys};
 use super::{repair_packet, source_packet, Setting};
 
 #[derive(Clone)]
@@ -31,8 +31,8 @@ impl Sender {
         Ok(source_packet(adu, position))
     }
 
-    /// The repair packet over the window, or refusal 6, 7, 2 or 10 in this order.
-    pub fn make_repair(&self, key: u16, dt: u32, count: u32, room: usize) -> Result<Vec<u8>, u32> {
+    /// The repair packet over the window and the draws that it took, or refusal 6, 7, 2 or 10 in this order.
+    pub fn make_repair(&self, key: u16, dt: u32, count: u32, room: usize) -> Result<(Vec<u8>, u64), u32> {
         let Setting { scheme, symbol_size, width } = self.setting;
         if dt > 15 || !(1..=16).contains(&count) {
             return Err(6);
@@ -46,10 +46,11 @@ impl Sender {
         }
         let first = self.symbols.len() - nss;
         let key = if scheme == 9 && dt == 15 { 0 } else { key };
-        let mut repair = Vec::new();
+        let (mut repair, mut draws) = (Vec::new(), 0);
         for key in keys(key, count as usize) {
             repair.push(combination(self.setting.field(), key, dt as u8, &self.symbols[first..], symbol_size)?);
+            draws += drawn_list(self.setting.field(), key, dt as u8, nss)?.1;
         }
-        Ok(repair_packet(key, dt as u8, nss as u16, first as u64, &repair))
+        Ok((repair_packet(key, dt as u8, nss as u16, first as u64, &repair), draws))
     }
 }
