@@ -104,6 +104,14 @@ fn answered(answer: Answer) -> usize {
     }
 }
 
+// A number and the draws beside it, as the C interface has them.
+fn with_draws(n: usize, draws: u32) -> usize {
+    if n >= 4294967296 {
+        return 1000000;
+    }
+    n + 4294967296 * draws as usize
+}
+
 #[no_mangle]
 pub extern "C" fn bench_sender_open(
     mem: &mut [u8],
@@ -128,7 +136,7 @@ pub extern "C" fn bench_make_repair(
     out: &mut [u8],
 ) -> usize {
     match sender::make_repair(mem, RepairKey(key), dt, count, out) {
-        RepairAnswer::Made(n, _) => n,
+        RepairAnswer::Made(n, draws) => with_draws(n, draws),
         RepairAnswer::NotMade(_r) => 1000000,
     }
 }
@@ -143,7 +151,7 @@ fn received(answer: receiver::Answer) -> usize {
 
 fn packet_received(answer: PacketAnswer) -> usize {
     match answer {
-        PacketAnswer::Accepted(n, _) => n,
+        PacketAnswer::Accepted(n, draws) => with_draws(n, draws),
         PacketAnswer::NotAccepted(_r) => 1000000,
     }
 }

@@ -20,9 +20,12 @@ fn print_value(n: u8) {
     print_number(n as usize);
 }
 
-fn print_numbers(row: &[u8]) {
-    for i in 0..row.len() {
-        print_value(row[i]);
+// The first n numbers of a row.
+fn print_numbers(row: &[u8], n: usize) {
+    for i in 0..n {
+        if i < row.len() {
+            print_value(row[i]);
+        }
     }
 }
 
@@ -78,19 +81,20 @@ fn field_case(name: &[u8], value: Gf256) {
     print(b"\n");
 }
 
-// The coefficients for the key 1, one for each byte of `row`, and the draws that they took.
-fn coefficients_case(name: &[u8], row: &mut [u8], scheme: Scheme, dt: u8) {
+// The first n coefficients for the key 1, and the draws that they took.
+fn coefficients_case(name: &[u8], n: usize, scheme: Scheme, dt: u8) {
+    if 255 < n {
+        return;
+    }
     print(name);
-    let n = row.len();
-    if n <= 255 {
-        match coefficients::fill_lists(row, n, scheme, RepairKey(1), dt, 1) {
-            Filled::Done(draws) => {
-                print_numbers(row);
-                print(b"; draws");
-                print_number(draws as usize);
-            }
-            Filled::Refused => print_refusal(Refusal::Draws),
+    let mut row = coefficients::room_for_lists();
+    match coefficients::fill_lists(&mut row, n, scheme, RepairKey(1), dt, 1) {
+        Filled::Done(draws) => {
+            print_numbers(&row, n);
+            print(b"; draws");
+            print_number(draws as usize);
         }
+        Filled::Refused => print_refusal(Refusal::Draws),
     }
     print(b"\n");
 }
@@ -127,14 +131,12 @@ fn width_case() {
 }
 
 fn main() {
-    let mut five = [0u8; 5];
-    let mut six = [0u8; 6];
     field_case(b"C1", Gf256(2).product(Gf256(128)));
     field_case(b"C2", Gf256(3).product(Gf256(7)));
     field_case(b"C3", Gf256(2).inverse());
-    coefficients_case(b"C4", &mut five, Scheme::Gf256, 15);
-    coefficients_case(b"C5", &mut six, Scheme::Gf2, 4);
-    coefficients_case(b"C6", &mut five, Scheme::Gf256, 4);
+    coefficients_case(b"C4", 5, Scheme::Gf256, 15);
+    coefficients_case(b"C5", 6, Scheme::Gf2, 4);
+    coefficients_case(b"C6", 5, Scheme::Gf256, 4);
     packets_case();
     receiving::solved_case();
     width_case();

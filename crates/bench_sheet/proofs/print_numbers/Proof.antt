@@ -1,16 +1,14 @@
 -- `bench_sheet::print_numbers` is safe and ends.
-use mathlib.Core.Path.{_≡_}
 use Prim.Native.Nat.{_≤_, _-_}
-use lib.ListN.{length}
 use borrow.Author.Needs.{needs}
 use Rattle.bench_sheet.proofs.print_numbers.Statement.{statement}
 use Rattle.bench_sheet.proofs.print_numbers.Tie as tie
 
 abbrev Inv-loop : tie.InvT-loop
-Inv-loop row i₀ i-end i = (i-end ≡ length row) × (i ≤ i-end)
+Inv-loop row n i₀ i = i ≤ n
 
 abbrev μ-loop : tie.MeasureT-loop
-μ-loop row i₀ i-end i = i-end - i
+μ-loop row n i₀ i = n - i
 
 pub print-numbers-spec : {M : Type 1} → statement M
 print-numbers-spec =
