@@ -6,7 +6,7 @@
  * Answers. Each function answers a value, 0 or more, or minus the number of a refusal (enum rlc_refusal). Where several refusals apply, the answer is
  * the first in the order in which the function's comment lists them. A refusal changes nothing but working memory.
  * rlc_sender_make_repair, rlc_receive_source and rlc_receive_repair answer two numbers in one, value + 4,294,967,296 x draws, which rlc_value and
- * rlc_draws take apart; the values of all functions are below 4,294,967,296. The draws are the rand16 and rand256 draws that the packet's coefficients
+ * rlc_draws take apart; the value is at most 65,535, whatever the memory holds. The draws are the rand16 and rand256 draws that the packet's coefficients
  * took, added up over its repair symbols, without the eight steps of the generator's start: 0 for a source packet, 0 in scheme 9 at DT 15, at most
  * 69,360 (16 lists of 255 coefficients, each at most 17 draws). Both ends answer the same draws for the same packet. A refusal tells no draws.
  *
@@ -52,10 +52,10 @@ enum rlc_refusal {
     RLC_PADDING = 14        /* ADUI needs more than the width, or padding not zero */
 };
 
-/* The value in an answer of 0 or more, without the draws beside it. */
+/* The value in an answer of 0 or more of these three, without the draws beside it. */
 static inline uint32_t rlc_value(int64_t answer) { return (uint32_t)answer; }
 
-/* The draws in an answer of 0 or more. */
+/* The draws in an answer of 0 or more of these three. */
 static inline uint32_t rlc_draws(int64_t answer) { return (uint32_t)((uint64_t)answer >> 32); }
 
 /*

@@ -74,8 +74,8 @@ fn call_all(random: &mut Random, setting: Setting, content: &[u8], refusal: Opti
         }
         let (value, draws) = library::parts(answer);
         let (most, most_draws) = match call {
-            0 => (255, 0),
-            1 => (255, 69_360),
+            0 => (65_535, 0),
+            1 => (65_535, 69_360),
             6 => (8 + 16 * 1500, 69_360),
             _ => (255 * 65_536 + 65_535, 0),
         };
