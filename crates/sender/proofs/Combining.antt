@@ -132,7 +132,8 @@ module _ (h : Header) (key dt count : ℕ) (m out : List ℕ) (written : ℕ) (e
       let ls = listsOf scheme dt (h .held) (keys written count) in
       let c : chunks count (h .held) lists ≡ ls = rw el (lists-cut scheme dt (h .held) written count rest ok) in
       let s = symbols-of scheme dt (h .setting .size) (windowIn h m) (h .held) (length-stored _ _ m _ (h .held)) (keys written count) in
-      rw (← ew, ok) (ap (Made (8 + count * h .setting .size)) ed, rw (e₂, e₁, c, s, ef) (front-next 8 (repairHeader written dt (h .held) (esiBefore (h .esi .0) (h .held))) _ out refl))
+      let header = repairHeader written dt (h .held) (esiBefore (h .esi .0) (h .held)) in
+      rw (← ew, ok) (ap (Made (8 + count * h .setting .size)) ed, rw (e₂, e₁, c, s, ef) (front-next 8 header _ out refl))
 
 sized-map : (f : ℕ → List ℕ) (size : ℕ) → ((key : ℕ) → length (f key) ≡ size) → (ks : List ℕ) → Sized size (map f ks)
 sized-map f size e [] = tt
@@ -208,8 +209,11 @@ module _ (h : Header) (key dt count : ℕ) (m out : List ℕ) (o : headerIn m �
       says : Opened m h
       says = opened m h o
 
+      held : h .held ≤ 255
+      held = omega (arith, says .held, says .valid .width-most)
+
       few : drawsOf (h .setting .scheme) dt (h .held) (keys written count) ≤ 69360
-      few = packet-draws (h .setting .scheme) dt (h .held) (omega (arith, says .held, says .valid .width-most)) (keys written count) (rw (length-keys written count) c)
+      few = packet-draws (h .setting .scheme) dt (h .held) held (keys written count) (rw (length-keys written count) c)
 
       short : 8 + count * h .setting .size ≤ 24008
       short = omega (arith, mul-le-mul c (says .valid .size-most))
@@ -223,7 +227,8 @@ module _ (h : Header) (key dt count : ℕ) (m out : List ℕ) (o : headerIn m �
           rw (q .0) (record {
             draws = λ h′ e.
                 let i : h ≡ h′ = Option·some-injective h h′ (sym o ∙ e) in
-                rw (← i, q .1, t) (sym (draws-packet h m written dt count z (written-small (h .setting .scheme) key dt k) (omega arith) (omega (arith, says .held, says .valid .width-most))));
+                rw (← i, q .1, t)
+                (sym (draws-packet h m written dt count z (written-small (h .setting .scheme) key dt k) (omega arith) (omega (arith, held))));
             small = (short, few);
           })
 

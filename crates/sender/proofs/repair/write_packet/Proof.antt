@@ -41,34 +41,49 @@ refuses c =
     let a = c .before .before .before .before .before .before .before .before .before .before .before .args in
     packed-refused (a .header) (a .key .0) (a .dt) (a .count) (a .mem .now) (a .out .now) _ (c .before .before .before .before .before .before .written-key .ensures) (lists-were-refused (c .before .before .before .fill-lists .ensures) (c .enum-told .given .1))
 
+-- where the lists were drawn, and the start before that
+abbrev drawn : tie.After-draws → tie.After-fill-lists
+drawn p = p .before .before .before
+
+abbrev start : tie.After-draws → tie.Start
+start p = p .before .before .before .before .before .before .before .before .before .before .before
+
 cast-minus : tie.Need-cast-minus
-cast-minus c = let o = says (c .before .before .before .before .before .before .before .before .before .before .before .before .before) in omega arith
+cast-minus c = let o = says (start (c .before .before)) in omega arith
 
 write-repair-requires : tie.Need-write-repair-requires
-write-repair-requires c κs = let o = says (c .before .before .before .before .before .before .before .before .before .before .before .before .before .before) in omega arith
+write-repair-requires c κs = let o = says (start (c .before .before .before)) in omega arith
 
 repair-symbols-requires : tie.Need-repair-symbols-requires
 repair-symbols-requires c κs =
-    let s = c .before .before .before .before .before .before .before .before .before .before .before .before .before .before .before .before .before .before .before in
-    let l = c .before .before .before .before .before .before .before .before .before .before .before .fill-lists .kept .0 in
-    (s .pre .0, record { symbols = omega (arith, c .before .before .before .before .write-repair .kept .0); lists = omega (arith, l, fits s, c .before .before .before .before .before .before .before .before .before .before .before .before .before .room-for-lists .ensures) }, omega arith)
+    let d = c .before .before .before .before .before .before .before .before in
+    let s = start d in
+    let l = drawn d .fill-lists .kept .0 in (
+      s .pre .0,
+      record {
+        symbols = omega (arith, c .before .before .before .before .write-repair .kept .0);
+        lists = omega (arith, l, fits s, drawn d .before .before .room-for-lists .ensures);
+      },
+      omega arith,
+    )
 
 mul-written-bytes : tie.Need-mul-written-bytes
-mul-written-bytes c = omega (arith, area (c .before .before .before .before .before .before .before .before .before .before .before .before .before .before .before .before .before .before .before .before .before .before .before))
+mul-written-bytes c = omega (arith, area (start (c .before .before .before .before .before .before .before .before .before .before .before .before)))
 
 add-written-bytes : tie.Need-add-written-bytes
-add-written-bytes c = omega (arith, area (c .before .before .before .before .before .before .before .before .before .before .before .before .before .before .before .before .before .before .before .before .before .before .before))
+add-written-bytes c = omega (arith, area (start (c .before .before .before .before .before .before .before .before .before .before .before .before)))
 
 same-length : tie.Need-same-length
 same-length c = c .before .before .before .repair-symbols .kept .0 ∙ c .before .before .before .before .before .before .before .before .write-repair .kept .0
 
 writes : tie.Need-returns-2
 writes c =
-    let a = c .before .before .before .before .before .before .before .before .before .before .before .before .before .before .before .before .before .before .before .before .before .before .before .args in
-    let f = c .before .before .before .before .before .before .before .before .before .before .before .before .before .before .before .fill-lists .ensures in
-    let d = c .before .before .before .before .before .before .before .before .before .before .before .before .draws .given .1 in
-    packed-done (a .header) (a .key .0) (a .dt) (a .count) (a .mem .now) (a .out .now) _ (c .before .before .before .before .before .before .before .before .before .before .before .before .before .before .before .before .before .before .written-key .ensures) (lists-were-done f d .0) _ _ _ _ _
-    (c .before .before .before .before .before .before .before .before .before .minus .ensures) (f .bytes _ d) (c .before .before .before .before .before .before .before .before .write-repair .ensures) (c .before .before .before .repair-symbols .ensures) _ (lists-were-done f d .1)
+    let d = c .before .before .before .before .before .before .before .before .before .before .before .before in
+    let a = start d .args in
+    let f = drawn d .fill-lists .ensures in
+    let done = lists-were-done f (d .draws .given .1) in
+    packed-done (a .header) (a .key .0) (a .dt) (a .count) (a .mem .now) (a .out .now) _ (drawn d .before .before .before .written-key .ensures) (done .0) _ _ _ _ _
+    (c .before .before .before .before .before .before .before .before .before .minus .ensures) (f .bytes _ (d .draws .given .1)) (c .before .before .before .before .before .before .before .before .write-repair .ensures) (c .before .before .before .repair-symbols .ensures) _ (done .1)
 
 pub write-packet-spec : {M : Type 1} → statement M
 write-packet-spec =
