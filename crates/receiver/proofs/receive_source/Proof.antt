@@ -65,28 +65,43 @@ working-size-requires : tie.Need-working-size-requires
 working-size-requires c κs = says (c .before .before) .valid
 
 returns-2 : tie.Need-returns-2
-returns-2 c = answered-refused (received-short _ _ _ (header (c .before .before .before .before)) (has (c .before .before .before .before)) (rw (c .before .working-size .ensures) at (c .if1 .taken)))
+returns-2 c =
+    let p = c .before .before .before .before in
+    answered-refused (received-short _ _ _ (header p) (has p) (rw (c .before .working-size .ensures) at (c .if1 .taken)))
 
 returns-3 : tie.Need-returns-3
 returns-3 c =
-    answered-refused (call-form _ _ _ _ (header (c .before .before .before .before .before .before .before)) (has (c .before .before .before .before .before .before .before)) (room (c .before .before .before)) (source-none _ _ (c .before .before .read-source .result) (c .before .before .read-source .ensures) (c .enum-told2 .given .1)))
+    let p = c .before .before .before .before .before .before .before in
+    answered-refused
+    (call-form _ _ _ _ (header p) (has p) (room (c .before .before .before))
+    (source-none _ _ (c .before .before .read-source .result) (c .before .before .read-source .ensures) (c .enum-told2 .given .1)))
 
 returns-4 : tie.Need-returns-4
-returns-4 c = answered-refused (call-long _ _ _ _ (header (c .before .before .before .before .before .before .before .before .before .before)) (has (c .before .before .before .before .before .before .before .before .before .before)) (room (c .before .before .before .before .before .before)) (fields (c .before .before .before)) (reads (c .before .before .before)) (c .if2 .taken))
+returns-4 c =
+    let q = c .before .before .before in
+    let p = q .before .before .before .before .before .before .before in
+    answered-refused (call-long _ _ _ _ (header p) (has p) (room (q .before .before .before)) (fields q) (reads q) (c .if2 .taken))
 
 symbol-count-requires : tie.Need-symbol-count-requires
 symbol-count-requires c κs = let v = says (c .before .before .before .before .before .before .before .before .before .before) .valid in omega (arith, v .size-least, v .size-most, c .if2 .left)
 
 returns-5 : tie.Need-returns-5
 returns-5 c =
-    answered-refused (call-many _ _ _ _ (header (c .before .before .before .before .before .before .before .before .before .before .before .before .before)) (has (c .before .before .before .before .before .before .before .before .before .before .before .before .before)) (room (c .before .before .before .before .before .before .before .before .before)) (fields (c .before .before .before .before .before .before)) (reads (c .before .before .before .before .before .before)) (c .before .before .before .if2 .left) _ (c .before .before .symbol-count .ensures) (c .if3 .taken))
+    let q = c .before .before .before .before .before .before in
+    let p = q .before .before .before .before .before .before .before in
+    answered-refused
+    (call-many _ _ _ _ (header p) (has p) (room (q .before .before .before)) (fields q) (reads q) (c .before .before .before .if2 .left) _ (c .before .before .symbol-count .ensures)
+    (c .if3 .taken))
 
 locate-requires : tie.Need-locate-requires
 locate-requires c κs = let k = says (c .before .before .before .before .before .before .before .before .before .before .before .before .before) in (k .valid, k .row-lt, c .if3 .left)
 
 returns-6 : tie.Need-returns-6
 returns-6 c =
-    answered-refused (call-out _ _ _ _ (header (c .before .before .before .before .before .before .before .before .before .before .before .before .before .before .before .before .before)) (has (c .before .before .before .before .before .before .before .before .before .before .before .before .before .before .before .before .before)) (room (c .before .before .before .before .before .before .before .before .before .before .before .before .before)) (fields (c .before .before .before .before .before .before .before .before .before .before)) (reads (c .before .before .before .before .before .before .before .before .before .before)) (c .before .before .before .before .before .before .before .if2 .left) _ (c .before .before .before .before .before .before .symbol-count .ensures)
+    let q = c .before .before .before .before .before .before .before .before .before .before in
+    let p = q .before .before .before .before .before .before .before in
+    answered-refused
+    (call-out _ _ _ _ (header p) (has p) (room (q .before .before .before)) (fields q) (reads q) (c .before .before .before .before .before .before .before .if2 .left) _ (c .before .before .before .before .before .before .symbol-count .ensures)
     (c .before .before .before .before .if3 .left) _ (sym (c .before .refusal .given .1) ∙ c .before .before .before .locate .ensures))
 
 part-requires : tie.Need-part-requires
