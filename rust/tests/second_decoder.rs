@@ -59,11 +59,11 @@ fn draws_of_lists() {
 }
 
 /// What the lists of 255 coefficients of scheme 10 draw for these keys at every DT: the rows of two and more zero bytes drawn for one
-/// coefficient (how many, DT, key, place in the list), and the most draws for one list (with its DT and key).
-type Surveyed = (Vec<(usize, u8, u16, usize)>, (u64, u8, u16));
+/// coefficient (how many, DT, key, place in the list), the most draws for one list (with its DT and key), and all draws.
+type Surveyed = (Vec<(usize, u8, u16, usize)>, (u64, u8, u16), u64);
 
 fn surveyed(keys: RangeInclusive<u16>) -> Surveyed {
-    let (mut rows, mut most) = (Vec::new(), (0, 0, 0));
+    let (mut rows, mut most, mut all) = (Vec::new(), (0, 0, 0), 0);
     for key in keys {
         for dt in 0..16 {
             let mut generator = Generator::new(u32::from(key));
@@ -77,16 +77,17 @@ fn surveyed(keys: RangeInclusive<u16>) -> Surveyed {
                 }
             }
             most = most.max((generator.draws, dt, key));
+            all += generator.draws;
         }
     }
-    (rows, most)
+    (rows, most, all)
 }
 
 /// The longest row of zero bytes is what program `survey` prints, far from refusal 10's sixteen.
 #[test]
 fn survey_of_every_key_and_density() {
     let halves = [0..=32_767, 32_768..=65_535].map(|keys| thread::spawn(|| surveyed(keys)));
-    let [(low, low_most), (high, high_most)] = halves.map(|half| half.join().expect("a half of the keys"));
+    let [(low, low_most, low_draws), (high, high_most, high_draws)] = halves.map(|half| half.join().expect("a half of the keys"));
     let rows = [low, high].concat();
     let longest = rows.iter().map(|row| row.0).max().unwrap();
     let printed = Path::new(env!("CARGO_MANIFEST_DIR")).join("../crates/survey/stdout");
@@ -94,6 +95,7 @@ fn survey_of_every_key_and_density() {
     let found: Vec<_> = rows.iter().filter(|row| row.0 == longest).collect();
     assert_eq!(found, [&(3, 12, 57_783, 253), &(3, 13, 57_783, 244)]);
     assert_eq!(low_most.max(high_most), (512, 14, 48_229));
+    assert_eq!(low_draws + high_draws, 393_261_306);
 }
 
 fn open(scheme: u32, symbol_size: u32, width: u32) -> (Sender, Receiver) {
