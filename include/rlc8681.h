@@ -8,7 +8,8 @@
  * rlc_sender_make_repair, rlc_receive_source and rlc_receive_repair answer two numbers in one, value + 4,294,967,296 x draws, which rlc_value and
  * rlc_draws take apart; the value is at most 65,535, whatever the memory holds. The draws are the rand16 and rand256 draws that the packet's coefficients
  * took, added up over its repair symbols, without the eight steps of the generator's start: 0 for a source packet, 0 in scheme 9 at DT 15, at most
- * 69,360 (16 lists of 255 coefficients, each at most 17 draws). Both ends answer the same draws for the same packet. A refusal tells no draws.
+ * 69,360 (16 lists of 255 coefficients, each at most 17 draws). Ends of the same scheme and E answer the same
+ * draws for the same packet. A refusal tells no draws.
  *
  * Memory. An end, a sender or a receiver, lives in one piece of memory that the caller owns: bytes with no alignment, which can be copied or moved
  * between calls and are freed by the caller, with nothing to close. Ask for its size, open it once, then lend the same bytes to each call, as the last
@@ -52,11 +53,9 @@ enum rlc_refusal {
     RLC_PADDING = 14        /* ADUI needs more than the width, or padding not zero */
 };
 
-/* The value in an answer of 0 or more of these three, without the draws beside it. */
-static inline uint32_t rlc_value(int64_t answer) { return (uint32_t)answer; }
-
-/* The draws in an answer of 0 or more of these three. */
-static inline uint32_t rlc_draws(int64_t answer) { return (uint32_t)((uint64_t)answer >> 32); }
+/* The value in an answer of these three, and the draws beside it: 0 where the answer is a refusal. */
+static inline uint32_t rlc_value(int64_t answer) { return answer < 0 ? 0 : (uint32_t)(answer & 0xFFFFFFFF); }
+static inline uint32_t rlc_draws(int64_t answer) { return answer < 0 ? 0 : (uint32_t)(answer >> 32); }
 
 /*
  * The bytes of memory that a sender, a receiver, and a receiver's packet calls need, in either scheme: 32 + width x E,
@@ -83,7 +82,8 @@ int64_t rlc_sender_add_adu(uint8_t *memory, size_t memory_length, uint8_t flow, 
 
 /*
  * Writes a repair packet over the whole window at the front of out: count repair symbols (1 to 16) whose keys count up from key, modulo 65,536, with the
- * density threshold dt (0 to 15). Answers the number of bytes written, 8 + count x E, plus 4,294,967,296 times the draws.
+ * density threshold dt (0 to 15). Answers the number of bytes written, 8 + count x E, plus 4,294,967,296 times the draws: send
+ * rlc_value(answer) bytes.
  * Refusals: RLC_UNOPENED, RLC_RANGE, RLC_EMPTY, RLC_SHORT (out), RLC_DRAWS.
  */
 int64_t rlc_sender_make_repair(const uint8_t *memory, size_t memory_length, uint16_t key, uint32_t dt, uint32_t count,
@@ -96,14 +96,15 @@ int64_t rlc_sender_make_repair(const uint8_t *memory, size_t memory_length, uint
 int64_t rlc_receiver_open(uint8_t *memory, size_t memory_length, uint32_t scheme, uint32_t symbol_size, uint32_t width);
 
 /*
- * Receives a source packet that came with a flow. Answers how many positions of the window became known, at most 255; its draws are 0.
+ * Receives a source packet that came with a flow. Answers how many positions of the window became known, at most the width; its draws
+ * are 0.
  * Refusals: RLC_UNOPENED, RLC_SHORT (work), RLC_FORM, RLC_LONG, RLC_BEHIND, RLC_AHEAD, RLC_CONTRADICTION.
  */
 int64_t rlc_receive_source(uint8_t *memory, size_t memory_length, uint8_t *work, size_t work_length, uint8_t flow,
                            const uint8_t *packet, size_t packet_length);
 
 /*
- * Receives a repair packet. Answers how many positions of the window became known, at most 255, plus 4,294,967,296 times the draws.
+ * Receives a repair packet. Answers how many positions of the window became known, at most the width, plus 4,294,967,296 times the draws.
  * Refusals: RLC_UNOPENED, RLC_SHORT (work), RLC_FORM, RLC_RANGE, RLC_BEHIND, RLC_AHEAD, RLC_DRAWS, RLC_CONTRADICTION.
  */
 int64_t rlc_receive_repair(uint8_t *memory, size_t memory_length, uint8_t *work, size_t work_length,

@@ -32,7 +32,7 @@ pub struct Received {
     pub known: usize,
     /// The draws that the packet's coefficients took, added up over its repair symbols: rand16 and rand256 draws count, the eight steps of
     /// the generator's start do not. A source packet takes none, nor does a repair packet of [`Scheme::Gf2`] at density threshold 15; no
-    /// packet takes more than 69,360. The sender that made the packet told the same number.
+    /// packet takes more than 69,360. A sender of the same scheme and symbol size that made the packet told the same number.
     pub draws: u32,
 }
 

@@ -29,7 +29,7 @@ pub struct Sender {
 /// A repair packet as [`Sender::make_repair`] writes it.
 #[derive(Clone, Copy, Debug, PartialEq, Eq, Hash)]
 pub struct Repair {
-    /// Its bytes, at the front of the output that was lent.
+    /// How many bytes it has, at the front of the output that was lent.
     pub bytes: usize,
     /// The draws that its coefficients took. A receiver that takes the packet tells the same number:
     /// [`Received::draws`](crate::Received::draws).

@@ -228,6 +228,7 @@ static void draws(void) {
   repair.bytes[11] ^= 1;
   SAYS(rlc_receive_repair(LENT(receiver), LENT(work), LENT(repair)), -RLC_CONTRADICTION);
   TELLS(INT64_C(297898931650815), 255, 69360);
+  check(rlc_value(-RLC_CONTRADICTION) == 0 && rlc_draws(-RLC_CONTRADICTION) == 0, "a refusal has neither value nor draws");
 }
 
 // The largest repair packet, 16 symbols over a window of 255, in both schemes.

@@ -104,7 +104,7 @@ fn answered(answer: Answer) -> usize {
     }
 }
 
-// A number and the draws beside it, as the C interface has them.
+// A number below 2^32 and the draws beside it, as the C interface has them.
 fn with_draws(n: usize, draws: u32) -> usize {
     if n >= 4294967296 {
         return 1000000;

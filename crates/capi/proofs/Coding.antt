@@ -62,11 +62,8 @@ readable = record {
   apart = apart;
   refusals = λ n k e. sym (refusal-size n) ∙ ap natAbs e ∙ refusal-size k;
   values = λ n k a b e. let f : min n largest ≡ min k largest = ap natAbs e in omega (arith, f, a, b);
-  adus = λ flow L flow′ L′ a b c d e.
-      let f : min (flow * 65536 + L) largest ≡ min (flow′ * 65536 + L′) largest = ap natAbs e in (omega (arith, f, a, b, c, d), omega (arith, f, a, b, c, d));
-  draws = λ n d n′ d′ a b c k e.
-      let f : min (n + 4294967296 * d) largest ≡ min (n′ + 4294967296 * d′) largest = ap natAbs e in
-      (omega (arith, f, a, b, c, k), omega (arith, f, a, b, c, k));
+  adus = λ flow L k a b e. let f : min (flow * 65536 + L) largest ≡ k = ap natAbs e in (omega (arith, f, a, b), omega (arith, f, a, b));
+  draws = λ n d k a b e. let f : min (n + 4294967296 * d) largest ≡ k = ap natAbs e in (omega (arith, f, a, b), omega (arith, f, a, b));
 }
   where
     apart : (n k : ℕ) → 1 ≤ k → coded (value n) ≢ coded (refusal k)

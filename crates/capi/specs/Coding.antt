@@ -2,7 +2,7 @@
 use mathlib.Core.Path.{_≡_}
 use mathlib.Core.Logic.{_≢_}
 use mathlib.Core.Option.{Option, none, some}
-use Prim.Native.Nat.{ℕ, _+_, _*_, _≤_, _<_, min}
+use Prim.Native.Nat.{ℕ, _+_, _*_, _%_, _/_, _≤_, _<_, min}
 use lib.IntN.{ℤ, pos, negℤ}
 use Rattle.wire.specs.declared.Setting.{Setting}
 use Rattle.wire.specs.Numbers.{numberOf}
@@ -39,16 +39,14 @@ repairSaid (Made n draws) = withDraws n draws
 repairSaid (NotMade r) = refusal (numberOf r)
 
 -- A code is read back: no refusal has the code of a value, and neither two refusals nor two values up to the largest number share one.
--- From the code of an ADU its flow, a byte, and its length, a number of two bytes, are read; from that of a value with draws both, where they are as
--- small as the promises say.
+-- The code of an ADU, divided by 65,536, is its flow, and the remainder its length; that of a value with draws, divided by 2^32, is the draws, and the
+-- remainder the value, where both are as small as the promises say.
 pub record Readable : Type 0 where
   pub apart : (n k : ℕ) → 1 ≤ k → coded (value n) ≢ coded (refusal k)
   pub refusals : (n k : ℕ) → coded (refusal n) ≡ coded (refusal k) → n ≡ k
   pub values : (n k : ℕ) → n ≤ largest → k ≤ largest → coded (value n) ≡ coded (value k) → n ≡ k
-  pub adus : (flow L flow′ L′ : ℕ) → flow < 256 → flow′ < 256 → L ≤ 65535 → L′ ≤ 65535
-      → coded (handedSaid (Adu flow L)) ≡ coded (handedSaid (Adu flow′ L′)) → (flow ≡ flow′) × (L ≡ L′)
-  pub draws : (n d n′ d′ : ℕ) → n ≤ 65535 → n′ ≤ 65535 → d ≤ 69360 → d′ ≤ 69360
-      → coded (withDraws n d) ≡ coded (withDraws n′ d′) → (n ≡ n′) × (d ≡ d′)
+  pub adus : (flow L k : ℕ) → flow < 256 → L ≤ 65535 → coded (handedSaid (Adu flow L)) ≡ pos k → (flow ≡ k / 65536) × (L ≡ k % 65536)
+  pub draws : (n d k : ℕ) → n ≤ 65535 → d ≤ 69360 → coded (withDraws n d) ≡ pos k → (n ≡ k % 4294967296) × (d ≡ k / 4294967296)
 
 -- What an answer of the sender says, in the receiver's words.
 abbrev pub ofSender : sender.Said → Said

@@ -23,5 +23,5 @@ accepted-draws scheme E w m₀ m a p e ts r =
 
 pub made-draws : Made-draws
 made-draws t s l peers key dt count n d out out′ q =
-    q .draws .draws (sender.headerOf (record { setting = t; symbols = symbolsOf (t .size) l })) (run-held t l (peers .run) .header)
+    q .draws .packet (sender.headerOf (record { setting = t; symbols = symbolsOf (t .size) l })) (run-held t l (peers .run) .header)
     ∙ ap₂ (λ (x : Scheme) (E : ℕ). packetDraws x E (take n out′)) (peers .scheme) (peers .size)

@@ -1,19 +1,17 @@
 -- Every packet that a sender writes is of the symbols that it took: by the calls of its list, one after the other.
 use mathlib.Core.Path.{_≡_, refl, sym, ap, _∙_}
-use mathlib.Core.Bool.{Bool, true, false, cond, _||_, not}
+use mathlib.Core.Bool.{Bool, true, false, _||_, not}
 use mathlib.Core.Option.{Option, none, some}
 use Prim.Native.Nat.{ℕ, _+_, _*_, _%_, _^_, _≤_, _<_}
 use native.Mathlib.Omega.{arith}
 use mathlib.Core.List.{List, [], _∷_, _++_, map, append-assoc, append-nil}
 use lib.Seq.{append-snoc}
 use lib.ListN.{length, take, length-drop, length-take, take-append-drop}
-use lib.Dec.{ltb, eqb, lit<}
+use lib.Dec.{ltb, eqb}
 use borrow.Author.Tests.{ltb-false, eqb-false, not-false}
 use Rattle.memory.specs.Part.{splice}
 use Rattle.memory.specs.Number.{Bytes}
 use Rattle.memory.proofs.Parts.{take-new}
-use Rattle.wire.specs.declared.Scheme.{Scheme}
-use Rattle.wire.specs.declared.Scheme.the-variants.{Gf2, Gf256}
 use Rattle.wire.specs.declared.Setting.{Setting}
 use Rattle.wire.specs.Numbers.{within}
 use Rattle.wire.specs.Settings.{schemeNumber, Valid, settingOf}
@@ -27,7 +25,7 @@ use Rattle.sender.specs.Repair.{repairSymbol, writtenKey}
 use Rattle.sender.specs.Calls.{Outcome, refused, done, refuseIf, opening, adding, repairOf, repairing}
 use Rattle.sender.specs.Promises.{bytes, refusal, said, Follows}
 use Rattle.sender.proofs.Heads.{opened}
-use Rattle.sender.proofs.Combining.{written-small}
+use Rattle.sender.proofs.Repairing.{written-small}
 use Rattle.claims.specs.SenderRun.{SenderCall, added, repaired, Calls, memoryAfter, SenderRun, symbolsOf, Packet, repair, packetsOf}
 use Rattle.claims.specs.SenderRun.{Wrote, wrote-source, wrote-repair, AllWrote, Sender-symbols, Sender-packets}
 use Rattle.claims.specs.SentAdus.{Begins, Sent, sent-source, sent-repair, AllSent, Sender-sends}

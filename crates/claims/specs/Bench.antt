@@ -132,9 +132,9 @@ adu b e = source-call 1 (b ∷ 0 ∷ 0 ∷ 0 ∷ e ∷ [])
 abbrev repair-of : (n byte : ℕ) → Call
 repair-of n b = repair-call (0 ∷ 0 ∷ 0xF0 ∷ n ∷ 0 ∷ 0 ∷ 0 ∷ 0 ∷ 0 ∷ 0 ∷ 0 ∷ b ∷ [])
 
--- a repair packet of a key and DT 4 over five symbols from ESI 0 on, whose `count` repair symbols are zero
-abbrev five-by : (key count : ℕ) → Call
-five-by key count = repair-call (0 ∷ key ∷ 0x40 ∷ 5 ∷ 0 ∷ 0 ∷ 0 ∷ 0 ∷ zeros (count * 4))
+-- a repair packet of the key of these bytes and DT 4 over five symbols from ESI 0 on, whose `count` repair symbols are zero
+abbrev five-by : (a b count : ℕ) → Call
+five-by a b count = repair-call (a ∷ b ∷ 0x40 ∷ 5 ∷ 0 ∷ 0 ∷ 0 ∷ 0 ∷ zeros (count * 4))
 
 -- a repair packet of key 1 and a DT over one symbol, its bytes zero
 abbrev zero-at : (dt : ℕ) → Call
@@ -170,10 +170,11 @@ pub bench :
     numbers (product 2 128 ∷ []) ∷ numbers (product 3 7 ∷ []) ∷ numbers (inverse 2 ∷ [])
     -- C4 to C6: coefficients
     ∷ numbers (coefficientsOf Gf256 1 15 5 .list) ∷ numbers (coefficientsOf Gf2 1 4 6 .list) ∷ numbers (coefficientsOf Gf256 1 4 5 .list)
-    -- the draws of C4 to C6; of packets: over five symbols with the keys 5, 6, and both in one packet; of scheme 9 with DT 15; of a source packet
+    -- the draws of C4 to C6; of packets over five symbols of scheme 10 with the keys 1, 5, 6, both of these, 65535 and 0; of scheme 9 with DT 4 and 15;
+    -- of a source packet
     ∷ numbers (coefficientsOf Gf256 1 15 5 .draws ∷ coefficientsOf Gf2 1 4 6 .draws ∷ coefficientsOf Gf256 1 4 5 .draws ∷ [])
-    ∷ numbers (drawsFor (gf256 5) (five-by 5 1) ∷ drawsFor (gf256 5) (five-by 6 1) ∷ drawsFor (gf256 5) (five-by 5 2) ∷ drawsFor (gf2 2) (repair-of 2 3)
-    ∷ drawsFor (gf256 5) five ∷ [])
+    ∷ numbers (map (drawsFor (gf256 5)) (five-by 0 1 1 ∷ five-by 0 5 1 ∷ five-by 0 6 1 ∷ five-by 0 5 2 ∷ five-by 0xFF 0xFF 2 ∷ []))
+    ∷ numbers (drawsFor (gf2 5) (five-by 0 1 2) ∷ drawsFor (gf2 2) (repair-of 2 3) ∷ drawsFor (gf256 5) five ∷ [])
     -- C7: two source packets, and the repair packet over both
     ∷ line first ∷ line second ∷ line (repairing (after second) 1 15 1 12)
     -- C8: the first and the repair packet of C7; symbols 0 and 1
@@ -233,7 +234,7 @@ pub bench :
     ∷ []
     ≡ numbers (29 ∷ []) ∷ numbers (9 ∷ []) ∷ numbers (142 ∷ [])
     ∷ numbers (37 ∷ 225 ∷ 177 ∷ 176 ∷ 21 ∷ []) ∷ numbers (0 ∷ 1 ∷ 1 ∷ 1 ∷ 0 ∷ 0 ∷ []) ∷ numbers (0 ∷ 177 ∷ 21 ∷ 0 ∷ 0 ∷ [])
-    ∷ numbers (5 ∷ 6 ∷ 7 ∷ []) ∷ numbers (6 ∷ 9 ∷ 15 ∷ 0 ∷ 0 ∷ [])
+    ∷ numbers (5 ∷ 6 ∷ 7 ∷ []) ∷ numbers (7 ∷ 6 ∷ 9 ∷ 15 ∷ 14 ∷ []) ∷ numbers (10 ∷ 0 ∷ 0 ∷ [])
     ∷ packet (0x41 ∷ 0 ∷ 0 ∷ 0 ∷ 0 ∷ []) ∷ packet (0x42 ∷ 0 ∷ 0 ∷ 0 ∷ 1 ∷ []) ∷ packet (0 ∷ 0 ∷ 0xF0 ∷ 2 ∷ 0 ∷ 0 ∷ 0 ∷ 0 ∷ 0 ∷ 0 ∷ 0 ∷ 3 ∷ [])
     ∷ received (value 1 ∷ value 1 ∷ []) (known (1 ∷ 0 ∷ 1 ∷ 0x41 ∷ []) ∷ known (1 ∷ 0 ∷ 1 ∷ 0x42 ∷ []) ∷ [])
     ∷ packet (0 ∷ 0 ∷ 0 ∷ 0 ∷ 0 ∷ 0 ∷ 0 ∷ 0 ∷ 0 ∷ []) ∷ refusal 4

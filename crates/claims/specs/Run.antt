@@ -1,4 +1,4 @@
--- A list of packet calls from a fresh receiver, each as its promise allows, and the history that the list makes.
+-- A list of packet calls from a fresh receiver, each as its promise allows (without the draws: `answerOf`), and the history that the list makes.
 use mathlib.Core.List.{List, [], _∷_}
 use Prim.Native.Nat.{ℕ}
 use lib.ListN.{length}

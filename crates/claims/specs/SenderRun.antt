@@ -1,4 +1,4 @@
--- A list of calls of one sender, each as it promises, from an opening that answered 0; the symbols of the ADUs that it took, in order from
+-- A list of calls of one sender, each as it promises (without the draws: `answerOf`), from an opening that answered 0; the symbols of the ADUs that it took, in order from
 -- position 0 (document 01, "Receiver, as a plain history"), and the packets that it wrote.
 use mathlib.Core.Path.{_≡_}
 use mathlib.Core.Bool.{true}
@@ -23,7 +23,7 @@ pub data SenderCall : Type 0 where
   added : (flow : ℕ) (adu out : List ℕ) (answer : Answer) (m′ out′ : List ℕ) → SenderCall
   repaired : (key dt count : ℕ) (out : List ℕ) (answer : Answer) (out′ : List ℕ) → SenderCall
 
--- each call keeps its promise on the memory that the call before it left; flow and ADU are bytes, and a key has 16 bits
+-- each call keeps its promise, but for the draws, on the memory that the call before it left; flow and ADU are bytes, and a key has 16 bits
 abbrev pub Calls : List ℕ → List SenderCall → Type 0
 Calls m [] = Unit {0}
 Calls m (added flow adu out r m′ out′ ∷ l) =

@@ -21,7 +21,7 @@ use Rattle.coefficients.specs.declared.Filled.{Filled}
 use Rattle.coefficients.specs.declared.Filled.the-variants.{Done, Refused}
 use Rattle.coefficients.specs.Coefficients.{coefficientOf, Coefficients, coefficientsOf, keys, listsOf, allOk, drawsOf}
 use Rattle.coefficients.specs.Promises.{filledOf, Fills, FillsLists}
-use Rattle.coefficients.proofs.Lists.{extend-ok, list-more, list-length, refused-stays, ones, length-keys, coefficient-draws, list-draws, packet-draws}
+use Rattle.coefficients.proofs.Lists.{extend-ok, list-more, list-length, refused-stays, ones, length-keys, coefficient-draws-most, list-draws-most, packet-draws-most}
 
 -- the first i bytes of out are the first i coefficients, none was refused, they took so many draws, and state are the words after them
 pub record Partly (scheme : Scheme) (key dt : ℕ) (out state : List ℕ) (drawn i : ℕ) : Type 0 where
@@ -49,13 +49,13 @@ module _ {scheme : Scheme} {key dt : ℕ} {out state : List ℕ} {drawn i : ℕ}
 
     -- no more than 17 draws for each
     pub next-draws : c .draws ≤ 17
-    next-draws = rw ec (coefficient-draws scheme dt state)
+    next-draws = rw ec (coefficient-draws-most scheme dt state)
 
     pub partly-refused : (n : ℕ) → i < n → c .ok ≡ false → coefficientsOf scheme key dt n .ok ≡ false
     partly-refused n h e = refused-stays scheme key dt (i + 1) n (rw add-one h) (rw next e)
 
   pub partly-draws : drawn ≤ 17 * i
-  partly-draws = rw (f .draws) (list-draws scheme key dt i)
+  partly-draws = rw (f .draws) (list-draws-most scheme key dt i)
 
   pub partly-all : i ≡ length out → out ≡ coefficientsOf scheme key dt i .list
   partly-all e = sym (take-all i out (le-of-eq (sym e))) ∙ f .list
@@ -170,7 +170,7 @@ module _ {scheme : Scheme} {dt n first count : ℕ} {out₀ out : List ℕ} {key
 pub listed-draws : {scheme : Scheme} {dt n first count : ℕ} {out₀ out : List ℕ} {key drawn i : ℕ} → n ≤ 255 → count ≤ 16
     → Listed scheme dt n first count out₀ out key drawn i → drawn ≤ 69360
 listed-draws {scheme = scheme} {dt = dt} {n = n} {first = first} {count = count} h k l =
-    omega (arith, l .draws, packet-draws scheme dt n h (keys first count) (rw (length-keys first count) k))
+    omega (arith, l .draws, packet-draws-most scheme dt n h (keys first count) (rw (length-keys first count) k))
 
 pub lists-done : {scheme : Scheme} {dt n first count : ℕ} {out₀ out : List ℕ} {key drawn : ℕ} → Listed scheme dt n first count out₀ out key drawn count
     → FillsLists scheme dt n (keys first count) out₀ (Done drawn) out

@@ -150,7 +150,7 @@ bits-all-ok dt n (key ∷ l) = rw (bits-ok key dt n) (bits-all-ok dt n l)
 
 -- ---- the draws
 
--- one coefficient takes at most 17: rand16 and sixteen bytes
+-- looking for a byte that is not zero takes at most n draws
 nonzero-draws : (n k : ℕ) (s : List ℕ) → nonzeroFrom n k s .draws ≤ k + n
 unfolding nonzeroFrom
 nonzero-draws zero k s = omega arith
@@ -158,28 +158,29 @@ nonzero-draws (suc n) k s =
     cond-both (λ (c : Coefficient). c .draws ≤ k + suc n) (eqb (low8 (drawOf s .value)) 0)
     (omega (arith, nonzero-draws n (k + 1) (drawOf s .state))) (omega arith)
 
-pub coefficient-draws : (scheme : Scheme) (dt : ℕ) (s : List ℕ) → coefficientOf scheme dt s .draws ≤ 17
+-- one coefficient takes at most 17: rand16 and sixteen bytes
+pub coefficient-draws-most : (scheme : Scheme) (dt : ℕ) (s : List ℕ) → coefficientOf scheme dt s .draws ≤ 17
 unfolding bitOf byteOf
-coefficient-draws Gf2 dt s = cond-both (λ (c : Coefficient). c .draws ≤ 17) (eqb dt 15) (omega arith) (omega arith)
-coefficient-draws Gf256 dt s =
+coefficient-draws-most Gf2 dt s = cond-both (λ (c : Coefficient). c .draws ≤ 17) (eqb dt 15) (omega arith) (omega arith)
+coefficient-draws-most Gf256 dt s =
     cond-both (λ (c : Coefficient). c .draws ≤ 17) (eqb dt 15) (omega (arith, nonzero-draws lastZero 0 s))
     (cond-both (λ (c : Coefficient). c .draws ≤ 17) (leb (low4 (drawOf s .value)) dt) (nonzero-draws lastZero 1 (drawOf s .state)) (omega arith))
 
-pub list-draws : (scheme : Scheme) (key dt n : ℕ) → coefficientsOf scheme key dt n .draws ≤ 17 * n
+pub list-draws-most : (scheme : Scheme) (key dt n : ℕ) → coefficientsOf scheme key dt n .draws ≤ 17 * n
 unfolding coefficientsOf extend
-list-draws scheme key dt zero = omega arith
-list-draws scheme key dt (suc n) =
+list-draws-most scheme key dt zero = omega arith
+list-draws-most scheme key dt (suc n) =
     let l = coefficientsOf scheme key dt n in
     cond-both (λ (r : Coefficients). r .draws ≤ 17 * suc n) (l .ok)
-    (omega (arith, list-draws scheme key dt n, coefficient-draws scheme dt (l .state))) (omega (arith, list-draws scheme key dt n))
+    (omega (arith, list-draws-most scheme key dt n, coefficient-draws-most scheme dt (l .state))) (omega (arith, list-draws-most scheme key dt n))
 
--- those of a packet within our sizes, 16 lists of 255, at most 69,360
-lists-draws : (scheme : Scheme) (dt n : ℕ) → n ≤ 255 → (ks : List ℕ) → drawsOf scheme dt n ks ≤ 4335 * length ks
-lists-draws scheme dt n h [] = omega arith
-lists-draws scheme dt n h (key ∷ ks) = omega (arith, list-draws scheme key dt n, lists-draws scheme dt n h ks)
+-- those of a packet within our sizes at most 69,360: 16 lists of 255 coefficients, 17 × 255 = 4,335 each
+lists-draws-most : (scheme : Scheme) (dt n : ℕ) → n ≤ 255 → (ks : List ℕ) → drawsOf scheme dt n ks ≤ 4335 * length ks
+lists-draws-most scheme dt n h [] = omega arith
+lists-draws-most scheme dt n h (key ∷ ks) = omega (arith, list-draws-most scheme key dt n, lists-draws-most scheme dt n h ks)
 
-pub packet-draws : (scheme : Scheme) (dt n : ℕ) → n ≤ 255 → (ks : List ℕ) → length ks ≤ 16 → drawsOf scheme dt n ks ≤ 69360
-packet-draws scheme dt n h ks k = omega (arith, lists-draws scheme dt n h ks)
+pub packet-draws-most : (scheme : Scheme) (dt n : ℕ) → n ≤ 255 → (ks : List ℕ) → length ks ≤ 16 → drawsOf scheme dt n ks ≤ 69360
+packet-draws-most scheme dt n h ks k = omega (arith, lists-draws-most scheme dt n h ks)
 
 -- a packet takes the draws of the lists that its symbols were made with
 pub written-draws : (scheme : Scheme) (key dt nss first E : ℕ) (xs : List (List ℕ)) → Sized E xs → 0 < E → key < 2 ^ 16 → dt < 16 → nss < 4096

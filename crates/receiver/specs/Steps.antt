@@ -137,7 +137,7 @@ pub record PlacedBy (h : Header) (at : PacketPlace) (own : ℕ) : Type 0 where
   pub room : at .offset + own ≤ at .shape .width
 
 -- The packet's rows in working memory have joined the state's, and the base has risen: the memory holds what the model says of the equations
--- `es` of which these rows are, and `count` positions have become known.
+-- `es` of which these rows are, and `count` positions have become known, on any memory no more than 256 for a row.
 pub record Finished (h : Header) (at : PacketPlace) (kept count : ℕ) (work m m′ : List ℕ) : Type 0 where
   pub contained : Contained (memorySize (h .setting)) m m′
   pub marks : SameMarks (h .setting .width) (h .setting .size) m m′

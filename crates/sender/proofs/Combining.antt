@@ -1,6 +1,6 @@
--- The repair symbols of a packet: each combined by slot, and one after the other in the output.
+-- The repair symbols of a packet: each combined by slot, and one after the other in the output; then the packet, its draws, and what the call promises.
 use mathlib.Core.Path.{_≡_, refl, sym, ap, _∙_}
-use mathlib.Core.Bool.{Bool, true, false, cond, _||_, not}
+use mathlib.Core.Bool.{Bool, true, false, _||_, not}
 use mathlib.Core.Option.{some, Option·some-injective}
 use Prim.Native.Nat.{ℕ, zero, suc, _+_, _*_, _%_, _^_, _≤_, _<_}
 use native.Mathlib.Nat.{zero-mul, add-mul, one-mul, mul-le-mul, le-of-suc-le-suc, not-suc-le-zero}
@@ -11,9 +11,8 @@ use lib.ListN.{length, take, getD, replicate, length-append, length-map, take-ap
 use lib.Seq.{take-suc, take-all}
 use Rattle.memory.specs.Part.{part, splice}
 use Rattle.memory.proofs.Parts.{splice-next, take-new, cons-eq}
-use lib.Dec.{eqb, ltb, lit<}
+use lib.Dec.{ltb}
 use Rattle.wire.specs.declared.Scheme.{Scheme}
-use Rattle.wire.specs.declared.Scheme.the-variants.{Gf2, Gf256}
 use Rattle.wire.specs.declared.Refusal.{Refusal}
 use Rattle.wire.specs.declared.Refusal.the-variants as refusals
 use Rattle.wire.specs.Numbers.{within, esiBefore}
@@ -24,7 +23,7 @@ use Rattle.rows.specs.Combination.{coefficient, combination, combined, rowAt}
 use Rattle.rows.proofs.Dot.{dot-same}
 use Rattle.rows.proofs.Combinations.{long-rows, length-combination, combined-sums}
 use Rattle.coefficients.specs.Coefficients.{keys, listsOf, allOk, drawsOf, packetDraws}
-use Rattle.coefficients.proofs.Lists.{length-keys, packet-draws, written-draws}
+use Rattle.coefficients.proofs.Lists.{length-keys, packet-draws-most, written-draws}
 use Rattle.coefficients.proofs.Fills.{lists-cut}
 use Rattle.sender.specs.declared.Header.{Header}
 use Rattle.sender.specs.declared.Answer.the-variants.{Refused}
@@ -37,7 +36,7 @@ use Rattle.sender.specs.Repair.{repairSymbol, writtenKey}
 use Rattle.sender.specs.Inner.{firstSlot, windowIn, Laid, symbolsFrom, packetFrom, PacketOr10, Packed}
 use Rattle.sender.proofs.Heads.{Opened, opened}
 use Rattle.sender.proofs.Promising.{promise-refused, promise-done}
-use Rattle.sender.proofs.Repairing.{length-stored, getD-stored, packet-of, repairing-draws, repairing-done}
+use Rattle.sender.proofs.Repairing.{length-stored, getD-stored, packet-of, written-small, repairing-draws, repairing-done}
 
 -- ---- one repair symbol
 
@@ -165,15 +164,6 @@ module _ (h : Header) (m : List ℕ) (key dt count : ℕ) (z : 0 < h .setting .s
       written-draws (h .setting .scheme) key dt (h .held) first (h .setting .size) symbols sized z k d n
       ∙ ap (λ (n : ℕ). drawsOf (h .setting .scheme) dt (h .held) (keys key n)) counted
 
--- the key that is written has 16 bits too
-pub written-small : (scheme : Scheme) (key dt : ℕ) → key < 2 ^ 16 → writtenKey scheme key dt < 2 ^ 16
-written-small Gf2 key dt h = go (eqb dt 15)
-  where
-    go : (b : Bool) → cond b 0 key < 2 ^ 16
-    go true = lit< tt
-    go false = h
-written-small Gf256 key dt h = h
-
 -- the promise of a call that passed the checks before the draws
 module _ (h : Header) (key dt count : ℕ) (m out : List ℕ) (o : headerIn m ≡ some h) (g : (ltb 15 dt || not (within 1 16 count)) ≡ false) where
   abbrev written : ℕ
@@ -213,21 +203,22 @@ module _ (h : Header) (key dt count : ℕ) (m out : List ℕ) (o : headerIn m �
       held = omega (arith, says .held, says .valid .width-most)
 
       few : drawsOf (h .setting .scheme) dt (h .held) (keys written count) ≤ 69360
-      few = packet-draws (h .setting .scheme) dt (h .held) held (keys written count) (rw (length-keys written count) c)
+      few = packet-draws-most (h .setting .scheme) dt (h .held) held (keys written count) (rw (length-keys written count) c)
 
       short : 8 + count * h .setting .size ≤ 24008
       short = omega (arith, mul-le-mul c (says .valid .size-most))
 
-      go : (b : Bool) → PacketOr10 b h written dt count m out r out′ → Draws m out′ r
+      go : (b : Bool) → PacketOr10 b h written dt count m out r out′ → Draws key dt count m out′ r
       go false q = rw (q .0) tt
       go true q =
           let z : 0 < h .setting .size = omega (arith, says .valid .size-least) in
           let l = length-packet h m written dt count z in
           let t = take-new (8 + count * h .setting .size) (packetFrom h m written dt count) out l in
+          let same : (h′ : Header) → headerIn m ≡ some h′ → h ≡ h′ = λ h′ e. Option·some-injective h h′ (sym o ∙ e) in
           rw (q .0) (record {
-            draws = λ h′ e.
-                let i : h ≡ h′ = Option·some-injective h h′ (sym o ∙ e) in
-                rw (← i, q .1, t)
+            lists = λ h′ e. rw (← same h′ e);
+            packet = λ h′ e.
+                rw (← same h′ e, q .1, t)
                 (sym (draws-packet h m written dt count z (written-small (h .setting .scheme) key dt k) (omega arith) (omega (arith, held))));
             small = (short, few);
           })

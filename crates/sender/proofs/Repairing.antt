@@ -1,16 +1,18 @@
 -- Making repair: the window as the memory has it is the sender's, the lists of coefficients give the packet's symbols, and what each case of the call
 -- comes to.
 use mathlib.Core.Path.{_≡_, refl, sym, ap, _∙_}
-use mathlib.Core.Bool.{true, false, _||_, not}
+use mathlib.Core.Bool.{Bool, true, false, cond, _||_, not}
 use Prim.Native.Nat.{ℕ, zero, suc, _+_, _-_, _*_, _%_, _^_, _≤_, _<_, min}
 use native.Mathlib.Nat.{mod-eq-of-lt, add-mod-left, add-mod-right, mod-add-mod, not-suc-le-zero, le-of-suc-le-suc, add-zero}
 use native.Mathlib.Omega.{arith}
 use mathlib.Core.List.{List, []}
 use lib.ListN.{length, getD}
-use lib.Dec.{ltb}
+use lib.Dec.{eqb, ltb, lit<}
 use lib.Seq.{ext-getD, getD-drop}
 use borrow.Author.Tests.{lt-ltb, le-ltb, eq-eqb, ne-eqb}
 use Rattle.memory.specs.Part.{part}
+use Rattle.wire.specs.declared.Scheme.{Scheme}
+use Rattle.wire.specs.declared.Scheme.the-variants.{Gf2, Gf256}
 use Rattle.wire.specs.Numbers.{within, esiBefore}
 use Rattle.coefficients.specs.Coefficients.{keys, allOk}
 use Rattle.sender.specs.declared.Header.{Header}
@@ -72,6 +74,17 @@ module _ (m : List ℕ) (s : Sender) (h : Holds m s) where
       let v = opened m (headerOf s) (h .header) .valid in
       let e : esiBefore (length (s .symbols) % 2 ^ 32) (length (window s)) ≡ windowStart s % 2 ^ 32 = rw (held-is s) (esi-of (length (s .symbols)) (s .setting .width) (v .width-most)) in
       rw (window-of, e)
+
+-- ---- the key that is written
+
+-- it has 16 bits too
+pub written-small : (scheme : Scheme) (key dt : ℕ) → key < 2 ^ 16 → writtenKey scheme key dt < 2 ^ 16
+written-small Gf2 key dt h = go (eqb dt 15)
+  where
+    go : (b : Bool) → cond b 0 key < 2 ^ 16
+    go true = lit< tt
+    go false = h
+written-small Gf256 key dt h = h
 
 -- ---- the outcome, by what the header says
 

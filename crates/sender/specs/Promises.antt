@@ -7,13 +7,14 @@ use mathlib.Core.List.{List, []}
 use lib.ListN.{length, take, drop}
 use Rattle.memory.specs.Part.{splice}
 use Rattle.wire.specs.Numbers.{numberOf}
-use Rattle.coefficients.specs.Coefficients.{packetDraws}
+use Rattle.coefficients.specs.Coefficients.{keys, drawsOf, packetDraws}
 use Rattle.sender.specs.declared.Answer.{Answer}
 use Rattle.sender.specs.declared.Answer.the-variants.{Done, Refused}
 use Rattle.sender.specs.declared.RepairAnswer.{RepairAnswer}
 use Rattle.sender.specs.declared.RepairAnswer.the-variants.{Made, NotMade}
 use Rattle.sender.specs.declared.Header.{Header}
 use Rattle.sender.specs.State.{Sender, memorySize, headerIn, Holds}
+use Rattle.sender.specs.Repair.{writtenKey}
 use Rattle.sender.specs.Calls.{Outcome, refused, done, opening, adding, repairing}
 
 -- what an answer says: how many bytes were written, or the number of a refusal
@@ -82,17 +83,20 @@ abbrev pub answerOf : RepairAnswer → Answer
 answerOf (Made n draws) = Done n
 answerOf (NotMade n) = Refused n
 
--- d are the draws that the packet of n bytes at the front of the output takes; both numbers are small, whatever the memory
-pub record Drew (m out′ : List ℕ) (n d : ℕ) : Type 0 where
-  pub draws : (h : Header) → headerIn m ≡ some h → d ≡ packetDraws (h .setting .scheme) (h .setting .size) (take n out′)
+-- d are the draws of the lists from the key written on, over the symbols that the window has, and those that the packet of n bytes at the front of the
+-- output takes; both numbers are small, whatever the memory
+pub record Drew (key dt count : ℕ) (m out′ : List ℕ) (n d : ℕ) : Type 0 where
+  pub lists : (h : Header) → headerIn m ≡ some h
+      → d ≡ drawsOf (h .setting .scheme) dt (h .held) (keys (writtenKey (h .setting .scheme) key dt) count)
+  pub packet : (h : Header) → headerIn m ≡ some h → d ≡ packetDraws (h .setting .scheme) (h .setting .size) (take n out′)
   pub small : (n ≤ 24008) × (d ≤ 69360)
 
 -- a refusal has no draws
-abbrev pub Draws : (m out′ : List ℕ) → RepairAnswer → Type 0
-Draws m out′ (Made n d) = Drew m out′ n d
-Draws m out′ (NotMade n) = Unit {0}
+abbrev pub Draws : (key dt count : ℕ) (m out′ : List ℕ) → RepairAnswer → Type 0
+Draws key dt count m out′ (Made n d) = Drew key dt count m out′ n d
+Draws key dt count m out′ (NotMade n) = Unit {0}
 
 -- making repair, with the draws beside the bytes written
 pub record RepairMade (key dt count : ℕ) (m out : List ℕ) (r : RepairAnswer) (out′ : List ℕ) : Type 0 where
   pub repairs : Repairs key dt count m out (answerOf r) out′
-  pub draws : Draws m out′ r
+  pub draws : Draws key dt count m out′ r

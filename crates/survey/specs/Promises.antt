@@ -6,14 +6,14 @@ use Rattle.wire.specs.declared.Scheme.{Scheme}
 use Rattle.coefficients.specs.Coefficients.{lastZero, coefficientsOf, keys, allOk}
 use Rattle.survey.specs.Survey.{longestWithin, longestZeros}
 
--- no list of at most `count` coefficients is refused, whatever its scheme, for a key below `keys` at a density threshold below `thresholds`
-abbrev pub Unrefused : (count keys thresholds : ℕ) → Type 0
-Unrefused count keys thresholds =
-    (scheme : Scheme) (key dt n : ℕ) → key < keys → dt < thresholds → n ≤ count → coefficientsOf scheme key dt n .ok ≡ true
+-- no list of at most `count` coefficients is refused, whatever its scheme, for a key below `limit` at a density threshold below `thresholds`
+abbrev pub Unrefused : (count limit thresholds : ℕ) → Type 0
+Unrefused count limit thresholds =
+    (scheme : Scheme) (key dt n : ℕ) → key < limit → dt < thresholds → n ≤ count → coefficientsOf scheme key dt n .ok ≡ true
 
 pub record Surveyed : Type 0 where
   -- of any survey
-  pub lists : (count keys thresholds : ℕ) → longestWithin count keys thresholds < lastZero → Unrefused count keys thresholds
+  pub lists : (count limit thresholds : ℕ) → longestWithin count limit thresholds < lastZero → Unrefused count limit thresholds
   -- of that within our sizes
   pub sizes : longestZeros < lastZero → Unrefused 255 65536 16
   -- so no repair packet has a list that is refused, whatever its first key and the number of its repair symbols

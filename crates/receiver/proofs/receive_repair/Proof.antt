@@ -13,7 +13,7 @@ use Rattle.wire.specs.Numbers.{within}
 use Rattle.wire.specs.Headers.{repairHeaderOf}
 use Rattle.wire.proofs.Settings.{within-bounds}
 use Rattle.coefficients.specs.Coefficients.{keys}
-use Rattle.coefficients.proofs.Lists.{length-keys, packet-draws}
+use Rattle.coefficients.proofs.Lists.{length-keys, packet-draws-most}
 use Rattle.coefficients.proofs.Fills.{lists-were-done, lists-were-refused}
 use Rattle.receiver.specs.declared.Header.{Header}
 use Rattle.receiver.specs.declared.packet.PacketPlace.{PacketPlace}
@@ -181,7 +181,7 @@ returns-8 c =
     let lists : length (keys (f .key .0) (f .count)) ≤ 16 = rw (length-keys (f .key .0) (f .count)) (sized _ _ f r .0) in
     answered-done (header h) _ _ _ (gathered .result) _ _ _ _ (has h) kept (gathered .ensures .works) accepted
     (done .1 ∙ draws-are _ _ (h .before .before .before .before .before .before .before .args .work .now) (header h) (has h) (lent (roomy p)) f r)
-    (rw (done .1) (packet-draws (header h .setting .scheme) (f .dt) (f .nss) (few (ranged p)) (keys (f .key .0) (f .count)) lists))
+    (rw (done .1) (packet-draws-most (header h .setting .scheme) (f .dt) (f .nss) (few (ranged p)) (keys (f .key .0) (f .count)) lists))
     (call-done _ _ _ (header h) (has h) (lent (roomy p)) f r (fits (ranged p)) (place p) (found p) (done .0) _ _
     (drawn d .fill-lists .ensures .bytes _ (d .draws .given .1)) _ _ (gathered .ensures) _ _ _ kept accepted)
 
