@@ -7,7 +7,7 @@ use Prim.Native.Nat.{ℕ, zero, suc, _+_, _-_, _≤_}
 use native.Mathlib.Nat.{zero-add, suc-add}
 use native.Mathlib.Omega.{arith}
 use Rattle.decoder.specs.Field.{Ops, Laws}
-use Rattle.decoder.specs.Model.{tail, Filling, Row, eval, symbol, State, end, free, pivot, extend, Sat, Rref, insert, known, advance}
+use Rattle.decoder.specs.Model.{tail, ext, Filling, Row, eval, symbol, State, end, free, pivot, extend, Sat, Rref, insert, known, advance}
 use Rattle.decoder.specs.Receiver.{shift, and-then, Packet, Hold, Satisfies, Satisfies-all, embed, over}
 use Rattle.decoder.specs.Receiver.{Receiver, empty, fresh, advance-by, insert-all, rise, receive, Placed}
 use Rattle.decoder.specs.Receiver.{Accepted, Log, opened, answered, called, run}
@@ -144,12 +144,21 @@ module _ {O : Ops} (L : Laws O) where
   empty-sat zero x = tt
   empty-sat (suc w) x = empty-sat w (tail x)
 
-  pub fresh-follows : (w : ℕ) → Follows [] (fresh O w)
-  unfolding fresh
-  fresh-follows w = record {
+  -- A filling with symbols for the positions before the base.
+  preceded : ℕ → Filling O → Filling O
+  preceded zero x = x
+  preceded (suc b) x = ext null (preceded b x)
+
+  shift-preceded : (b : ℕ) (x : Filling O) → shift b (preceded b x) ≡ x
+  unfolding preceded
+  shift-preceded zero x = refl
+  shift-preceded (suc b) x = shift-preceded b x
+
+  pub fresh-follows : (w b : ℕ) → Follows [] (fresh O w b)
+  fresh-follows w b = record {
     rref = empty-rref w;
-    sound = λ f _. empty-sat w f;
-    complete = λ x _. (x, tt, refl);
+    sound = λ f _. empty-sat w (shift b f);
+    complete = λ x _. (preceded b x, tt, shift-preceded b x);
   }
 
   pub faithful : {w : ℕ} (A : List (Packet O)) (r : Receiver O w) → Follows A r → Faithful A r
@@ -268,5 +277,5 @@ module _ {O : Ops} (L : Laws O) where
         run-kept cs (called l (locate c (l .receiver .base)))
         (called-kept l (locate c (l .receiver .base)) (placed c (l .receiver .base)) h)
 
-    pub demand-3 : (cs : List Call) → Demand-3 (run locate (opened O w) cs)
-    demand-3 cs = kept-demand (run locate (opened O w) cs) (run-kept cs (opened O w) (fresh-follows w))
+    pub demand-3 : (b : ℕ) (cs : List Call) → Demand-3 (run locate (opened O w b) cs)
+    demand-3 b cs = kept-demand (run locate (opened O w b) cs) (run-kept cs (opened O w b) (fresh-follows w b))

@@ -66,7 +66,7 @@ pub byte-decoder : Byte-decoder
 byte-decoder E h = decoder (laws E h)
 
 pub byte-demand-3 : (E : ℕ) → 0 < E → {w : ℕ} {Call : Type 0} (locate : Call → ℕ → Option (Packet (Coded E))) → Locates w locate
-    → (cs : List Call) → Demand-3 (run locate (opened (Coded E) w) cs)
+    → (base : ℕ) (cs : List Call) → Demand-3 (run locate (opened (Coded E) w base) cs)
 byte-demand-3 E h = byte-decoder E h .demand-3
 
 pub scheme-9 : (E : ℕ) → Scheme-9 E

@@ -72,9 +72,9 @@ pub record Decoder (O : Ops) : Type 1 where
   -- Two receivers with one base whose accepted packets have the same fillings, in whatever order they came, know the same.
   pub order : {w : ℕ} (A B : List (Packet O)) (r s : Receiver O w) → Faithful A r → Faithful B s → r .base ≡ s .base
       → ((f : Filling O) → Satisfies-all O A f ↔ Satisfies-all O B f) → (i : ℕ) → known (r .window) i ≡ known (s .window) i
-  -- Demand 3, after every list of calls.
+  -- Demand 3, after every list of calls, at whatever base the first finds the receiver.
   pub demand-3 : {w : ℕ} {Call : Type 0} (locate : Call → ℕ → Option (Packet O)) → Locates w locate
-      → (cs : List Call) → Demand-3 (run locate (opened O w) cs)
+      → (base : ℕ) (cs : List Call) → Demand-3 (run locate (opened O w base) cs)
 
 -- All this at the field of bytes, for symbols of any length but zero and windows of any width.
 abbrev pub Byte-decoder : Type 1

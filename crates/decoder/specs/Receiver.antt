@@ -74,8 +74,9 @@ module _ (O : Ops) where
   empty zero = end
   empty (suc w) = free (empty w)
 
-  unfoldable pub fresh : (w : ℕ) → Receiver w
-  fresh w = record { base = 0; window = empty w }
+  -- None, at a base.
+  abbrev pub fresh : (w base : ℕ) → Receiver w
+  fresh w b = record { base = b; window = empty w }
 
 module _ {O : Ops} where
   -- The window moves on by several positions.
@@ -129,5 +130,5 @@ module _ {O : Ops} {w : ℕ} where
   run locate l (c ∷ cs) = run locate (called l (locate c (l .receiver .base))) cs
 
 -- Before the first call.
-abbrev pub opened : (O : Ops) (w : ℕ) → Log O w
-opened O w = record { receiver = fresh O w; accepted = [] }
+abbrev pub opened : (O : Ops) (w base : ℕ) → Log O w
+opened O w b = record { receiver = fresh O w b; accepted = [] }
