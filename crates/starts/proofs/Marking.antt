@@ -11,10 +11,10 @@ use lib.ListN.{length, getD, set, length-set}
 use lib.Seq.{getD-set-same, getD-set-other}
 use lib.Dec.{leb, ltb}
 use borrow.Author.Tests.{eq-eqb, ne-eqb, le-leb, lt-leb}
-use Rattle.starts.specs.Starts.{Starts, zeroth, also, moved}
+use Rattle.starts.specs.Starts.{Starts, also, moved}
 use Rattle.starts.specs.Marks.{markAt, marked, Marks, OnlyMarks}
 use Rattle.starts.specs.MarkSteps.{markByte, Written, Dropped}
-use Rattle.starts.specs.Contracts.{Begun, Added, Moved}
+use Rattle.starts.specs.Contracts.{Cleared, Added, Moved}
 use Rattle.starts.proofs.Only.{mark-row, mark-past, mark-apart, no-mark, only-refl, only-trans}
 
 -- ---- one mark
@@ -64,13 +64,27 @@ dropped-more w E base i m m₁ m₂ pos l f g = record {
 pub dropped-to : {w E base i n : ℕ} {m m′ : List ℕ} → i ≡ n → Dropped w E base i m m′ → Dropped w E base n m m′
 dropped-to {w} {E} {base} {i} {n} {m} {m′} e f = subst (λ x. Dropped w E base x m m′) e f
 
--- Position 0 alone is marked.
-pub begun : (w E base : ℕ) (m m₁ m₂ : List ℕ) → 0 < w → Dropped w E base (w + 1) m m₁ → Written w E base 0 1 m₁ m₂ → Begun w E base m m₂
-begun w E base m m₁ m₂ pos f g = record { only = only-trans (f .only) (written-only pos g); marks = λ i l. go i l (ℕ-discrete i 0) }
+-- Where all marks are dropped, none is left, wherever the base is.
+none-left : (w E base : ℕ) (m m′ : List ℕ) → base < w → Dropped w E base (w + 1) m m′ → (b i : ℕ) → marked w E b m′ i ≡ false
+none-left w E base m m′ near f b i = go (decLt i w)
   where
-    go : (i : ℕ) → i ≤ w → Dec (i ≡ 0) → marked w E base m₂ i ≡ zeroth i
-    go i l (yes e) = ap (λ x. marked w E base m₂ x) e ∙ ap (ltb 0) (g .here) ∙ sym (eq-eqb i 0 e)
-    go i l (no n) = ap (ltb 0) (other-mark w E base 0 1 i m₁ m₂ g (omega arith) l n ∙ f .gone i (omega arith)) ∙ sym (ne-eqb i 0 n)
+    pos : 0 < w
+    pos = omega arith
+
+    go : Dec (i < w) → marked w E b m′ i ≡ false
+    go (yes a) =
+        let r = (b + i) % w in
+        let j = (r + w - base) % w in
+        let l : j < w = mod-lt (r + w - base) pos in
+        let k : base + (r + w - base) ≡ r + w = omega arith in
+        let e : r ≡ (base + j) % w =
+        sym (add-mod-mod base (r + w - base) w ∙ ap (λ x. x % w) k ∙ add-mod-right r w ∙ mod-eq-of-lt (mod-lt (b + i) pos)) in
+        ap (λ x. ltb 0 (getD m′ x 0)) (sym (mark-row w E b i r a refl) ∙ mark-row w E base j r l e) ∙ ap (ltb 0) (f .gone j (omega arith))
+    go (no a) =
+        ap (λ x. ltb 0 (getD m′ x 0)) (sym (mark-past w E b i (omega arith)) ∙ mark-past w E base w (omega arith)) ∙ ap (ltb 0) (f .gone w (omega arith))
+
+pub cleared : (w E base : ℕ) (m m′ : List ℕ) → base < w → Dropped w E base (w + 1) m m′ → Cleared w E m m′
+cleared w E base m m′ near f = record { only = f .only; marks = λ b i l. none-left w E base m m′ near f b i }
 
 -- ---- the window moves on
 
@@ -90,21 +104,12 @@ turned w E base rise i j h l e =
     ∙ mark-row w E base j ((base + rise + i) % w) l (sym e)
 
 -- The base has risen by more than the width.
-pub moved-far : (w E base rise : ℕ) (m m′ : List ℕ) → 0 < w → w < rise → Dropped w E base (w + 1) m m′ → Moved w E base rise m m′
-moved-far w E base rise m m′ pos g f = record {
+pub moved-far : (w E base rise : ℕ) (m m′ : List ℕ) → base < w → w < rise → Dropped w E base (w + 1) m m′ → Moved w E base rise m m′
+moved-far w E base rise m m′ near g f = record {
   only = f .only;
-  marks = λ M h i l. go i (decLt i w) ∙ sym (ap (λ t. t && M (rise + i)) (lt-leb (rise + i) w (omega arith)));
+  marks = λ M h i l.
+      none-left w E base m m′ near f ((base + rise) % w) i ∙ sym (ap (λ t. t && M (rise + i)) (lt-leb (rise + i) w (omega arith)));
 }
-  where
-    go : (i : ℕ) → Dec (i < w) → marked w E ((base + rise) % w) m′ i ≡ false
-    go i (yes a) =
-        let j = (rise + i) % w in
-        let k : j < w = mod-lt (rise + i) pos in
-        let e : (base + j) % w ≡ (base + rise + i) % w = add-mod-mod base (rise + i) w ∙ ap (λ x. x % w) (sym (add-assoc base rise i)) in
-        ap (λ x. ltb 0 (getD m′ x 0)) (turned w E base rise i j a k e) ∙ ap (ltb 0) (f .gone j (omega arith))
-    go i (no a) =
-        ap (λ x. ltb 0 (getD m′ x 0)) (sym (mark-past w E ((base + rise) % w) i (omega arith)) ∙ mark-past w E base w (omega arith))
-        ∙ ap (ltb 0) (f .gone w (omega arith))
 
 -- By no more: the mark of the position just past the window comes into the row of the old base.
 module _ (w E base rise past : ℕ) (m m₁ m₂ m₃ : List ℕ) (pos : 0 < rise) (near : rise ≤ w) (was : past ≡ getD m 10 0)

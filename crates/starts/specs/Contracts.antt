@@ -13,14 +13,14 @@ use Rattle.elimination.specs.Window.{Window}
 use Rattle.starts.specs.declared.Handed.{Handed}
 use Rattle.starts.specs.declared.Handed.the-variants.{Withheld}
 use Rattle.starts.specs.Adu.{handing, Leaves, HandedAs}
-use Rattle.starts.specs.Starts.{Starts, zeroth, also, moved, pass, seen}
+use Rattle.starts.specs.Starts.{Starts, nowhere, also, moved, pass, seen}
 use Rattle.starts.specs.Marks.{Marks, OnlyMarks, notedIn, OnlyStarts}
 use Rattle.starts.specs.Settled.{Settled}
 
--- Position 0 alone is marked.
-pub record Begun (w E base : ℕ) (m m′ : List ℕ) : Type 0 where
+-- No position is marked, wherever the base will be.
+pub record Cleared (w E : ℕ) (m m′ : List ℕ) : Type 0 where
   pub only : OnlyMarks w E m m′
-  pub marks : Marks w E base m′ zeroth
+  pub marks : (base : ℕ) → Marks w E base m′ nowhere
 
 -- One more position is marked.
 pub record Added (w E base i : ℕ) (m m′ : List ℕ) : Type 0 where

@@ -15,9 +15,9 @@ use Rattle.starts.specs.Adu.{needs, View}
 abbrev pub Starts : Type 0
 Starts = ℕ → Bool
 
--- Position 0 alone.
-abbrev pub zeroth : Starts
-zeroth i = eqb i 0
+-- None.
+abbrev pub nowhere : Starts
+nowhere i = false
 
 -- One more.
 abbrev pub also : ℕ → Starts → Starts

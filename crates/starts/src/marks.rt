@@ -5,7 +5,7 @@ ghost use lib.ListN.{length};
 ghost use Rattle.elimination.specs.Window.{place, Fits};
 ghost use Rattle.starts.specs.Marks.{markAt, marked};
 ghost use Rattle.starts.specs.MarkSteps.{Written, Dropped, Noted, Stepped, Followed, Owned, Decided, Extended, Updated, OneKnown, Tallied};
-ghost use Rattle.starts.specs.Contracts.{Begun, Added, Moved, Passed};
+ghost use Rattle.starts.specs.Contracts.{Cleared, Added, Moved, Passed};
 use elimination::Shape;
 
 // The row of the i-th position of the window.
@@ -105,13 +105,12 @@ fn set(mem: &mut [u8], shape: Shape, i: usize)
     write(mem, shape, i, 1);
 }
 
-// Position 0 alone is marked.
-pub fn begin(mem: &mut [u8], shape: Shape)
+// No position is marked.
+pub fn clear(mem: &mut [u8], shape: Shape)
     requires { ⌜ Fits (shape .width) (shape .size) (now mem) × (shape .base < shape .width) ⌝ }
-    ensures { λ _. ⌜ Begun (shape .width) (shape .size) (shape .base) (now (mem .entry)) (now (mem .exit)) ⌝ }
+    ensures { λ _. ⌜ Cleared (shape .width) (shape .size) (now (mem .entry)) (now (mem .exit)) ⌝ }
 {
     drop_first(mem, shape, shape.width + 1);
-    write(mem, shape, 0, 1);
 }
 
 // The window moves on by `rise` positions: marks below its base are dropped, and the one just past it comes into a row.

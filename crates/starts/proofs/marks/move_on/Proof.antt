@@ -29,7 +29,7 @@ returns-2 c =
     let p2 = c .before .before in
     let p4 = p2 .before .before in
     let p7 = p4 .before .before .before in
-    moved-far _ _ _ _ _ _ (p7 .pre .0 .some-width) (p4 .if2 .taken) (p2 .drop-first .ensures)
+    moved-far _ _ _ _ _ _ (p7 .pre .1) (p4 .if2 .taken) (p2 .drop-first .ensures)
 
 -- src/marks.rt:101:16
 slice-read-past : tie.Need-slice-read-past
