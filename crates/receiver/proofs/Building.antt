@@ -11,7 +11,6 @@ use native.Mathlib.Omega.{arith}
 use lib.Dec.{ltb, lit<}
 use lib.ListN.{length, getD, length-append, drop, List·getD-append}
 use lib.Seq.{take-at, drop-at, drop-drop, getD-append-add}
-use borrow.Author.Tests.{le-leb, lt-ltb}
 use Rattle.memory.specs.Part.{part, splice}
 use Rattle.memory.specs.Number.{number, bytes}
 use Rattle.memory.proofs.Parts.{part-drop}
@@ -34,9 +33,10 @@ use Rattle.decoder.proofs.Bytes.{byte-of}
 use Rattle.elimination.specs.Window as window
 use Rattle.receiver.specs.Symbol.{Symbol, bytesOf}
 use Rattle.receiver.specs.History.{memorySize}
-use Rattle.receiver.specs.Model.{State}
-use Rattle.receiver.specs.Header.{headerIn}
-use Rattle.receiver.specs.Layout.{headerOf, Holds}
+use Rattle.receiver.specs.Model.{Joined}
+use Rattle.receiver.specs.Header.{rowIn, headerIn}
+use Rattle.receiver.specs.Layout.{headerFrom, Holds}
+use Rattle.receiver.proofs.Headers.{found-joined}
 use Rattle.receiver.proofs.Says.{symbol-tail, bytes-sized}
 
 -- ---- A system, coefficient by coefficient
@@ -278,7 +278,7 @@ module _ (w E b : ℕ) (z : 0 < w) (S : model.State (Coded E) w) where
 
 -- ---- The memory
 
-module _ (s : Setting) (v : Valid s) (t : State s) (past : List ℕ) where
+module _ (s : Setting) (v : Valid s) (t : Joined s) (past : List ℕ) where
   open Setting s using (size as E, width as w)
 
   abbrev wide : 0 < w
@@ -309,7 +309,7 @@ module _ (s : Setting) (v : Valid s) (t : State s) (past : List ℕ) where
       (ap (λ (l : List (List ℕ)). x ∷ l) (cut k xs (h .1)))
 
   abbrev head : List ℕ
-  head = settingBytes 2 s ++ (bytes 2 (t .base % w) ++ (0 ∷ 0 ∷ (bytes 4 (t .base % 2 ^ 32) ++ zeros 48)))
+  head = settingBytes 2 s ++ (bytes 2 (t .base % w + 1) ++ (0 ∷ 0 ∷ (bytes 4 (t .base % 2 ^ 32) ++ zeros 48)))
 
   abbrev body : List ℕ
   body = joined (rowsFrom 0 w) ++ past
@@ -343,46 +343,41 @@ module _ (s : Setting) (v : Valid s) (t : State s) (past : List ℕ) where
   setting-is : settingIn 2 memory ≡ some s
   unfolding splice
   setting-is =
-      let rest = bytes 2 (t .base % w) ++ (0 ∷ 0 ∷ (bytes 4 (t .base % 2 ^ 32) ++ zeros 48)) in
+      let rest = bytes 2 (t .base % w + 1) ++ (0 ∷ 0 ∷ (bytes 4 (t .base % 2 ^ 32) ++ zeros 48)) in
       let x = settingBytes 2 s in
       let same : splice 0 x memory ≡ memory =
       ap (λ (l : List ℕ). x ++ l) (ap (drop (length x)) (append-assoc x rest body) ∙ drop-at x (rest ++ body) (length x) refl)
       ∙ sym (append-assoc x rest body) in
       ap (settingIn 2) (sym same) ∙ setting-written 2 s memory (lit< tt) v
 
-  row-number : number (part 8 2 memory) ≡ t .base % w
+  row-number : rowIn memory ≡ t .base % w + 1
   unfolding part settingBytes
-  row-number = let l = mod-lt (t .base) wide in number-bytes 2 (t .base % w) (omega (arith, l, v .width-most))
+  row-number = let l = mod-lt (t .base) wide in number-bytes 2 (t .base % w + 1) (omega (arith, l, v .width-most))
 
   base-number : number (part 12 4 memory) ≡ t .base % 2 ^ 32
   unfolding part settingBytes
   base-number = number-bytes 4 (t .base % 2 ^ 32) (mod-lt (t .base) (lit< tt))
 
-  header-is : headerIn memory ≡ some (headerOf s t)
-  unfolding headerIn
+  header-is : headerIn memory ≡ some (headerFrom s t)
   header-is =
-      rw (
-        setting-is,
-        row-number,
-        base-number,
-        le-leb (memorySize s) (length memory) (omega (arith, length-memory)),
-        lt-ltb (t .base % w) w (mod-lt (t .base) wide),
-      )
+      found-joined memory s setting-is (t .base % w) (t .base % 2 ^ 32) (omega (arith, length-memory)) (mod-lt (t .base) wide) row-number base-number
 
 -- A memory that holds the state, with these bytes past its size.
-pub record Built (s : Setting) (t : State s) (past : List ℕ) : Type 0 where
+pub record Built (s : Setting) (t : Joined s) (past : List ℕ) : Type 0 where
   pub memory : List ℕ
-  pub holds : Holds memory s t
+  pub holds : Holds memory s (some t)
   pub same : length memory ≡ memorySize s + length past
   pub rest : drop (memorySize s) memory ≡ past
 
-pub built : (s : Setting) → Valid s → (t : State s) → Rref (t .window) → (past : List ℕ) → Built s t past
+pub built : (s : Setting) → Valid s → (t : Joined s) → Rref (t .window) → (past : List ℕ) → Built s t past
 built s v t r past = record {
   memory = memory s v t past;
   holds = record {
     header = header-is s v t past;
-    reduced = r;
-    rows = rows-held (s .width) (s .size) (t .base) (wide s v t past) (t .window) (memory s v t past) (row-is s v t past);
+    rows = record {
+      reduced = r;
+      rows = rows-held (s .width) (s .size) (t .base) (wide s v t past) (t .window) (memory s v t past) (row-is s v t past);
+    };
   };
   same = length-memory s v t past;
   rest = past-memory s v t past;

@@ -1,6 +1,6 @@
 -- A memory knows its base by two remainders. States that differ by no more than that are held by the same memories, and calls treat them alike.
 use mathlib.Core.Path.{_≡_, refl, sym, ap, ap₂, _∙_, subst}
-use mathlib.Core.Bool.{Bool, true, false, cond}
+use mathlib.Core.Bool.{Bool, true, false, cond, true≢false}
 use mathlib.Core.Option.{Option, none, some, Option·some-injective}
 use mathlib.Core.List.{List, map}
 use Prim.Native.Nat.{ℕ, zero, suc, _+_, _-_, _%_, _^_, _≤_, _<_}
@@ -24,8 +24,8 @@ use Rattle.receiver.specs.History.{source, repair, Place, behind, ahead,
 use Rattle.receiver.specs.History.{located, check, placed, readSource, readRepair, reading}
 use Rattle.starts.specs.Starts.{Starts, also, moved, seen}
 use Rattle.starts.proofs.Agreeing.{Agree, also-agree, moved-agree, pass-agree}
-use Rattle.receiver.specs.Model.{State, Outcome, refused, done, added, responds, receiving, stateAfter, startsAfter, marking}
-use Rattle.receiver.specs.Layout.{headerOf, Holds}
+use Rattle.receiver.specs.Model.{Joined, State, foundBy, Outcome, refused, done, added, responds, answering, stateAfter, startsAfter, marking}
+use Rattle.receiver.specs.Layout.{headerFrom, Holds}
 
 -- ---- Memory
 
@@ -81,35 +81,53 @@ module _ (w E : ℕ) (m : List ℕ) where
 
 -- ---- States
 
--- The same window at congruent bases.
-pub record Same (s : Setting) (t u : State s) : Type 0 where
+-- The same window at congruent bases; or no base.
+pub record SameFrom (s : Setting) (t u : Joined s) : Type 0 where
   pub row : t .base % s .width ≡ u .base % s .width
   pub esi : t .base % 2 ^ 32 ≡ u .base % 2 ^ 32
   pub window : t .window ≡ u .window
 
+abbrev pub Same : (s : Setting) → State s → State s → Type 0
+Same s none none = Unit {0}
+Same s none (some u) = ⊥
+Same s (some t) none = ⊥
+Same s (some t) (some u) = SameFrom s t u
+
 module _ (s : Setting) where
   open Setting s using (size as E, width as w)
 
-  header-same : (t u : State s) → Same s t u → headerOf s t ≡ headerOf s u
-  header-same t u k = ap₂ (λ r e. record { setting = s; row = r; base = record { 0 = e } }) (k .row) (k .esi)
+  header-same : (t u : Joined s) → SameFrom s t u → headerFrom s t ≡ headerFrom s u
+  header-same t u k = ap₂ (λ r e. record { setting = s; joined = true; row = r; base = record { 0 = e } }) (k .row) (k .esi)
 
-  pub holds-same : (m : List ℕ) (t u : State s) → Same s t u → Holds m s t → Holds m s u
+  pub holds-same : (m : List ℕ) (t u : Joined s) → SameFrom s t u → Holds m s (some t) → Holds m s (some u)
   holds-same m t u k h = record {
     header = h .header ∙ ap some (header-same t u k);
-    reduced = subst Rref (k .window) (h .reduced);
-    rows = window-same w E m (t .base) (u .base) (u .window) (k .row) (subst (window.Window w E m (t .base)) (k .window) (h .rows));
+    rows = record {
+      reduced = subst Rref (k .window) (h .rows .reduced);
+      rows = window-same w E m (t .base) (u .base) (u .window) (k .row) (subst (window.Window w E m (t .base)) (k .window) (h .rows .rows));
+    };
   }
 
   -- What one memory holds is the same.
   pub held-same : (m : List ℕ) (t u : State s) → Holds m s t → Holds m s u → Same s t u
-  held-same m t u h k =
-      let e : headerOf s t ≡ headerOf s u = Option·some-injective _ _ (sym (h .header) ∙ k .header) in
+  held-same m none none h k = tt
+  held-same m none (some u) h k = true≢false (sym (ap (λ (x : Header). x .joined) (Option·some-injective _ _ (sym (h .header) ∙ k .header))))
+  held-same m (some t) none h k = true≢false (ap (λ (x : Header). x .joined) (Option·some-injective _ _ (sym (h .header) ∙ k .header)))
+  held-same m (some t) (some u) h k =
+      let e : headerFrom s t ≡ headerFrom s u = Option·some-injective _ _ (sym (h .header) ∙ k .header) in
       let r = ap (λ (x : Header). x .row) e in
       record {
         row = r;
         esi = ap (λ (x : Header). x .base .0) e;
-        window = sym (h .rows .reads) ∙ view-same w E m w (t .base) (u .base) r ∙ k .rows .reads;
+        window = sym (h .rows .rows .reads) ∙ view-same w E m w (t .base) (u .base) r ∙ k .rows .rows .reads;
       }
+
+  -- A packet finds states that are the same the same.
+  pub found-same : (t u : State s) (p : ℕ) → Same s t u → SameFrom s (foundBy s t p) (foundBy s u p)
+  found-same none none p k = record { row = refl; esi = refl; window = refl }
+  found-same none (some u) p k = absurd k
+  found-same (some t) none p k = absurd k
+  found-same (some t) (some u) p k = k
 
 -- ---- Calls
 
@@ -152,7 +170,7 @@ module _ (b c : ℕ) where
 -- Outcomes that differ by no more than the base.
 pub data Alike (s : Setting) : Outcome s → Outcome s → Type 0 where
   both-refused : (n : ℕ) → Alike s (refused n) (refused n)
-  both-done : (n : ℕ) (t u : State s) → Same s t u → Alike s (done n t) (done n u)
+  both-done : (n : ℕ) (t u : Joined s) → SameFrom s t u → Alike s (done n t) (done n u)
 
 module _ (s : Setting) where
   open Setting s using (size as E, width as w)
@@ -211,9 +229,9 @@ module _ (s : Setting) where
   responds-alike b c S r q h g (both-repair d n cs vs) = packet-alike b c d n _ S h g
 
   -- A packet call comes to the same.
-  pub receiving-alike : (t u : State s) (room : ℕ) (c : Call) → Same s t u → Alike s (receiving s t room c) (receiving s u room c)
-  unfolding receiving
-  receiving-alike t u room c k =
+  pub answering-alike : (t u : Joined s) (room : ℕ) (c : Call) → SameFrom s t u → Alike s (answering s t room c) (answering s u room c)
+  unfolding answering
+  answering-alike t u room c k =
       subst (λ S. Alike s (responds s t (reading s (t .base) room c)) (responds s (record { base = u .base; window = S }) (reading s (u .base) room c)))
       (k .window)
       (responds-alike (t .base) (u .base) (t .window) _ _ (k .row) (k .esi) (reading-shifted (t .base) (u .base) s room c (k .esi)))
@@ -238,10 +256,10 @@ module _ (s : Setting) where
       ap (λ x. moved w x M i) e ∙ moved-agree w M N a (c + k - c) i l
 
   module _ (b c : ℕ) (S : model.State (Coded E) w) (M N : Starts) (a : Agree w M N) where
-    abbrev one : State s
+    abbrev one : Joined s
     one = record { base = b; window = S }
 
-    abbrev other : State s
+    abbrev other : Joined s
     other = record { base = c; window = S }
 
     source-agree : (d k : ℕ) (vs : List (List ℕ)) (o : Option (model.State (Coded E) w))
@@ -278,13 +296,13 @@ module _ (s : Setting) where
     marking-shifted r q (both-repair d n cs vs) i l = repair-packet d n cs vs _ i l
 
   -- The marks after a packet call.
-  pub marking-alike : (t u : State s) (room : ℕ) (c : Call) (M N : Starts) → Same s t u → Agree w M N
-      → Agree w (marking s t M (reading s (t .base) room c) (receiving s t room c)) (marking s u N (reading s (u .base) room c) (receiving s u room c))
-  unfolding receiving
+  pub marking-alike : (t u : Joined s) (room : ℕ) (c : Call) (M N : Starts) → SameFrom s t u → Agree w M N
+      → Agree w (marking s t M (reading s (t .base) room c) (answering s t room c)) (marking s u N (reading s (u .base) room c) (answering s u room c))
+  unfolding answering
   marking-alike t u room c M N k a =
       let r = reading s (t .base) room c in
       let q = reading s (u .base) room c in
-      subst (λ S. let x : State s = record { base = u .base; window = S } in Agree w (marking s t M r (responds s t r)) (marking s x N q (responds s x q)))
+      subst (λ S. let x : Joined s = record { base = u .base; window = S } in Agree w (marking s t M r (responds s t r)) (marking s x N q (responds s x q)))
       (k .window)
       (marking-shifted (t .base) (u .base) (t .window) M N a r q (reading-shifted (t .base) (u .base) s room c (k .esi)))
 

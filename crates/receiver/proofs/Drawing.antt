@@ -24,10 +24,10 @@ module _ {c : Call} {m m′ v v′ : List ℕ} where
   answered-refused p = record { received = p; draws = tt }
 
   -- A packet was accepted.
-  pub answered-done : (h : Header) (at : PacketPlace) (w E : ℕ) (r : Gathered) (kept own n d : ℕ) → headerIn m ≡ some h → r ≡ All kept → WorksOn w E v′ r
-      → Accepted h at kept own n v′ m m′ → d ≡ drawsFor (h .setting) c → d ≤ 69360 → Received receiverLayout c m m′ v v′ (Done n)
+  pub answered-done : (h g : Header) (at : PacketPlace) (w E : ℕ) (r : Gathered) (kept own n d : ℕ) → headerIn m ≡ some h → r ≡ All kept → WorksOn w E v′ r
+      → Accepted g at kept own n v′ m m′ → d ≡ drawsFor (h .setting) c → d ≤ 69360 → Received receiverLayout c m m′ v v′ (Done n)
       → PacketAnswered receiverLayout c m m′ v v′ (answers.Accepted n d)
-  answered-done h at w E r kept own n d has all works done is few p =
+  answered-done h g at w E r kept own n d has all works done is few p =
       let k : Works w E kept v′ = rw all at works in
       record {
         received = p;

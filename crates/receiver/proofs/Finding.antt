@@ -1,7 +1,7 @@
 -- From what the code reads in the memory to what the symbol calls promise.
 use mathlib.Core.Path.{_≡_, refl, sym, ap, _∙_, subst}
 use mathlib.Core.Logic.{_≢_, inl, inr}
-use mathlib.Core.Bool.{Bool, true, false}
+use mathlib.Core.Bool.{Bool, true, false, true≢false}
 use mathlib.Core.Option.{Option, none, some, Option·none-ne-some, Option·some-injective}
 use mathlib.Core.List.{List, []}
 use denote.Ref.{RefT, now}
@@ -26,12 +26,12 @@ use Rattle.receiver.specs.declared.Spot.{Spot}
 use Rattle.receiver.specs.declared.Spot.the-variants.{At, Nowhere}
 use Rattle.receiver.specs.Symbol.{bytesOf}
 use Rattle.receiver.specs.History.{placeOf, Said, value, refusal, IsValue}
-use Rattle.receiver.specs.Model.{State, shows, hides, shown, finding}
+use Rattle.receiver.specs.Model.{Joined, shows, hides, shown, finding}
 use Rattle.receiver.specs.Header.{headerIn}
-use Rattle.receiver.specs.Promises.{said, Finds, SymbolAnswered, Shows, PartShown}
-use Rattle.receiver.specs.Layout.{headerOf, Holds, receiverLayout}
+use Rattle.receiver.specs.Promises.{Finds, SymbolAnswered, Shows, PartShown}
+use Rattle.receiver.specs.Layout.{receiverLayout}
 use Rattle.receiver.specs.Inner.{RowOf, SpottedFor, Spotted}
-use Rattle.receiver.proofs.Headers.{Headed, headed, header-fits, of-header}
+use Rattle.receiver.proofs.Headers.{header-fits, of-header, of-joined}
 
 -- ---- The row of a position
 
@@ -57,7 +57,16 @@ finds-unopened m e h = record {
   told = λ s t k. absurd (Option·none-ne-some _ (sym h ∙ k .header));
 }
 
-module _ (m : List ℕ) (e : ℕ) (h : Header) (k : headerIn m ≡ some h) where
+-- Before any base.
+pub finds-fresh : (m : List ℕ) (e : ℕ) (h : Header) → headerIn m ≡ some h → h .joined ≡ false → Spotted m e (Nowhere Unknown)
+unfolding finding
+finds-fresh m e h k j = record {
+  unopened = λ z. absurd (Option·none-ne-some h (sym z ∙ k));
+  lies = λ y z x. absurd (omega (arith, x));
+  told = of-header m h k (λ s t. SpottedFor m e s t (Nowhere Unknown)) (λ _. refl) (λ t g i r b. absurd (true≢false (sym i ∙ j)));
+}
+
+module _ (m : List ℕ) (e : ℕ) (h : Header) (k : headerIn m ≡ some h) (joined : h .joined ≡ true) where
   abbrev d : ℕ
   d = distanceOf e (h .base .0)
 
@@ -65,11 +74,11 @@ module _ (m : List ℕ) (e : ℕ) (h : Header) (k : headerIn m ≡ some h) where
 
   -- Nowhere, where the place alone says so.
   hidden : (x : Refusal) → numberOf x ≢ 3
-      → ((t : State (h .setting)) → h .base .0 ≡ t .base % 2 ^ 32 → finding (h .setting) t e ≡ hides (numberOf x)) → Spotted m e (Nowhere x)
+      → ((t : Joined (h .setting)) → h .base .0 ≡ t .base % 2 ^ 32 → finding (h .setting) (some t) e ≡ hides (numberOf x)) → Spotted m e (Nowhere x)
   hidden x n f = record {
     unopened = λ z. absurd (Option·none-ne-some h (sym z ∙ k));
     lies = λ y z. n;
-    told = of-header m h k (λ s t. SpottedFor m e s t (Nowhere x)) (λ t g r b. f t b);
+    told = of-joined m h k joined (λ s t. SpottedFor m e s t (Nowhere x)) (λ t g r b. f t b);
   }
 
   pub finds-behind : 2 ^ 31 ≤ d → Spotted m e (Nowhere Behind)
@@ -90,18 +99,19 @@ module _ (m : List ℕ) (e : ℕ) (h : Header) (k : headerIn m ≡ some h) where
 
   module _ (near : d < 2 ^ 31) (inside : d < width) (r : ℕ) (w : RowOf (h .row) d width r) where
     -- In the window the symbol call goes by what is known there.
-    looked : (t : State (h .setting)) → h .base .0 ≡ t .base % 2 ^ 32 → finding (h .setting) t e ≡ shown (h .setting) (t .base + d) (known (t .window) d)
+    looked : (t : Joined (h .setting)) → h .base .0 ≡ t .base % 2 ^ 32
+        → finding (h .setting) (some t) e ≡ shown (h .setting) (t .base + d) (known (t .window) d)
     unfolding finding placeOf
     looked t b = rw (← b, lt-ltb d (2 ^ 31) near, lt-ltb d width inside)
 
-    here : (t : State (h .setting)) → h .row ≡ t .base % width → (t .base + d) % width ≡ r
+    here : (t : Joined (h .setting)) → h .row ≡ t .base % width → (t .base + d) % width ≡ r
     here t a = sym (mod-add-mod (t .base) width d) ∙ ap (λ x. (x + d) % width) (sym a) ∙ sym (w .is)
 
     unknown : Known width size r false m → Spotted m e (Nowhere Unknown)
     unknown u = record {
       unopened = λ z. absurd (Option·none-ne-some h (sym z ∙ k));
       lies = λ y z x. absurd (omega (arith, x));
-      told = of-header m h k (λ s t. SpottedFor m e s t (Nowhere Unknown))
+      told = of-joined m h k joined (λ s t. SpottedFor m e s t (Nowhere Unknown))
           (λ t g a b. looked t b ∙ ap (shown (h .setting) (t .base + d)) (u (t .base) d (t .window) inside (here t a) (g .rows)));
     }
 
@@ -117,7 +127,7 @@ module _ (m : List ℕ) (e : ℕ) (h : Header) (k : headerIn m ≡ some h) where
     known-at b u = record {
       unopened = λ z. absurd (Option·none-ne-some h (sym z ∙ k));
       lies = λ y z. let i : h ≡ y = Option·some-injective _ _ (sym k ∙ z) in (ap (λ (x : Header). x .setting .size) i, omega (arith, row-ends));
-      told = of-header m h k (λ s t. SpottedFor m e s t (At (window.place width size r + width) size))
+      told = of-joined m h k joined (λ s t. SpottedFor m e s t (At (window.place width size r + width) size))
           (λ t g a c. (
             t .base + d,
             window.line width size (window.row width size r m) .sym,

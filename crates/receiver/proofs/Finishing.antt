@@ -1,6 +1,6 @@
 -- A packet's rows joined with the state's, and the header with the new base: the memory holds the state after the packet.
-use mathlib.Core.Path.{_≡_, refl, sym, ap, ap₂, _∙_, subst}
-use mathlib.Core.Option.{some, Option·some-injective}
+use mathlib.Core.Path.{_≡_, refl, sym, ap, _∙_, subst}
+use mathlib.Core.Option.{some}
 use mathlib.Core.List.{List}
 use Prim.Native.Nat.{ℕ, _+_, _%_, _^_, _≤_, _<_}
 use native.Mathlib.Nat.{mod-lt}
@@ -28,15 +28,12 @@ use Rattle.starts.specs.Marks.{flagAt}
 use Rattle.receiver.specs.declared.Header.{Header}
 use Rattle.receiver.specs.declared.packet.PacketPlace.{PacketPlace}
 use Rattle.receiver.specs.History.{memorySize}
-use Rattle.receiver.specs.Model.{State}
-use Rattle.receiver.specs.Header.{headerIn}
-use Rattle.receiver.specs.Layout.{headerOf, Holds}
+use Rattle.receiver.specs.Model.{Joined}
+use Rattle.receiver.specs.Header.{rowIn, headerIn}
+use Rattle.receiver.specs.Layout.{headerFrom, Holds}
+use Rattle.receiver.specs.Inner.{Based}
 use Rattle.receiver.specs.Steps.{Finished}
-use Rattle.receiver.proofs.Headers.{found, headed, header-fits}
-
--- The header that a memory has is that of the state which it holds.
-pub header-held : (m : List ℕ) (h : Header) (s : Setting) (t : State s) → headerIn m ≡ some h → Holds m s t → h ≡ headerOf s t
-header-held m h s t e k = Option·some-injective h (headerOf s t) (sym e ∙ k .header)
+use Rattle.receiver.proofs.Headers.{found-joined, based-fits}
 
 -- The equations that a system takes leave it reduced.
 taken-reduced : (w E rise : ℕ) (S T : model.State (Coded E) w) (es : List (model.Row (Coded E) w)) → 0 < E → model.Rref S
@@ -45,7 +42,7 @@ taken-reduced w E rise S T es pos r e =
     subst (history.Added-all (laws E pos) (decoder.advance-by rise S) es) e
     (history.insert-all-added (laws E pos) es (decoder.advance-by rise S) (history.advance-by-rref (laws E pos) rise S r)) .0
 
--- The row and the ESI of a base, stored.
+-- A number for the row and the ESI of a base, stored.
 abbrev pub rebased : (row esi : ℕ) → List ℕ → List ℕ
 rebased row esi m = splice 12 (bytes 4 esi) (splice 8 (bytes 2 row) m)
 
@@ -77,7 +74,7 @@ module _ (row esi : ℕ) (m : List ℕ) (long : 64 ≤ length m) where
       getD-past k 12 (bytes 4 esi) m₁ (omega (arith, length-bytes 4 esi)) (omega (arith, length-first))
       ∙ getD-past k 8 (bytes 2 row) m (omega (arith, length-bytes 2 row)) (omega arith)
 
-  pub rebased-row : row < 65536 → number (part 8 2 (rebased row esi m)) ≡ row
+  pub rebased-row : row < 65536 → rowIn (rebased row esi m) ≡ row
   rebased-row h =
       ap number (part-before 8 2 12 (bytes 4 esi) m₁ (omega arith) (omega (arith, length-first)) ∙ part-splice 8 (bytes 2 row) m (omega arith))
       ∙ number-bytes 2 row h
@@ -92,62 +89,63 @@ module _ (row esi : ℕ) (m : List ℕ) (long : 64 ≤ length m) where
       (record { some-width = f .some-width; wide = f .wide; some-symbol = f .some-symbol; long = f .long; room = omega (arith, f .room, length-first) })
       (omega (arith, length-bytes 4 esi)) (window-header w E 8 b (bytes 2 row) m S f (omega (arith, length-bytes 2 row)) v)
 
-module _ (h : Header) (place : PacketPlace) (kept count esi : ℕ) (work m m₁ m′ : List ℕ) (has : headerIn m ≡ some h)
+module _ (h : Header) (place : PacketPlace) (kept count esi : ℕ) (work m m₁ m′ : List ℕ) (has : Based m h)
     (f : Committed (h .setting .width) (h .setting .size) (h .row) (place .rise) kept count work m m₁)
-    (small : place .shape .base < 65536) (next : esi ≡ esiAfter (h .base .0) (place .rise)) (stored : m′ ≡ rebased (place .shape .base) esi m₁) where
+    (small : place .shape .base < 65535) (next : esi ≡ esiAfter (h .base .0) (place .rise)) (stored : m′ ≡ rebased (place .shape .base + 1) esi m₁) where
   room : window.Fits (h .setting .width) (h .setting .size) m₁
-  room = fits-kept (header-fits m h has) (f .unchanged)
+  room = fits-kept (based-fits m h has) (f .unchanged)
 
   long : 64 ≤ length m₁
   long = omega (arith, room .room)
 
   -- The memory holds the state with the base that was stored.
-  held : (s : Setting) (t : State s) (T : model.State (Coded (s .size)) (s .width)) → h ≡ headerOf s t → model.Rref T
+  held : (s : Setting) (t : Joined s) (T : model.State (Coded (s .size)) (s .width)) → h ≡ headerFrom s t → model.Rref T
       → place .shape .base ≡ (t .base + place .rise) % s .width → window.Window (s .width) (s .size) m₁ (t .base + place .rise) T
-      → Holds m′ s (record { base = t .base + place .rise; window = T })
+      → Holds m′ s (some (record { base = t .base + place .rise; window = T }))
   held s t T is reduced row v =
       let b = place .shape .base in
+      let n : ℕ = b + 1 in
       let same : h .setting ≡ s = ap (λ x. x .setting) is in
       let base : h .base .0 ≡ t .base % 2 ^ 32 = ap (λ x. x .base .0) is in
       let e : esi ≡ (t .base + place .rise) % 2 ^ 32 = omega (arith, next, base) in
       let l : 64 ≤ length m₁ = long in
       let fits : window.Fits (s .width) (s .size) m₁ = subst (λ x. window.Fits (x .width) (x .size) m₁) same room in
-      let front : take 8 (rebased b esi m₁) ≡ take 8 m =
-      rebased-front b esi m₁ l ∙ sym (take-take 8 64 m₁ (omega arith)) ∙ ap (take 8) (f .unchanged .header) ∙ take-take 8 64 m (omega arith) in
-      let set : settingIn 2 (rebased b esi m₁) ≡ some s =
-      setting-kept 2 (rebased b esi m₁) m front ∙ headed m h has .setting ∙ ap some same in
-      let at : number (part 8 2 (rebased b esi m₁)) ≡ b = rebased-row b esi m₁ l small in
-      let at-esi : number (part 12 4 (rebased b esi m₁)) ≡ esi = rebased-esi b esi m₁ l (omega (arith, e)) in
-      let head : headerIn (rebased b esi m₁) ≡ some (headerOf s (record { base = t .base + place .rise; window = T })) =
-      found (rebased b esi m₁) s set (omega (arith, fits .room, rebased-length b esi m₁ l))
-      (omega (arith, at, row, mod-lt (t .base + place .rise) (fits .some-width)))
-      ∙ ap₂ (λ (x y : ℕ). some (record { setting = s; row = x; base = record { 0 = y } })) (at ∙ row) (at-esi ∙ e) in
-      subst (λ x. Holds x s (record { base = t .base + place .rise; window = T })) (sym stored)
-      (record { header = head; reduced = reduced; rows = rebased-window b esi m₁ l (s .width) (s .size) (t .base + place .rise) T fits v })
+      let front : take 8 (rebased n esi m₁) ≡ take 8 m =
+      rebased-front n esi m₁ l ∙ sym (take-take 8 64 m₁ (omega arith)) ∙ ap (take 8) (f .unchanged .header) ∙ take-take 8 64 m (omega arith) in
+      let set : settingIn 2 (rebased n esi m₁) ≡ some s =
+      setting-kept 2 (rebased n esi m₁) m front ∙ has .setting ∙ ap some same in
+      let at : rowIn (rebased n esi m₁) ≡ (t .base + place .rise) % s .width + 1 = rebased-row n esi m₁ l (omega arith) ∙ ap (λ x. x + 1) row in
+      let at-esi : number (part 12 4 (rebased n esi m₁)) ≡ (t .base + place .rise) % 2 ^ 32 = rebased-esi n esi m₁ l (omega (arith, e)) ∙ e in
+      let head : headerIn (rebased n esi m₁) ≡ some (headerFrom s (record { base = t .base + place .rise; window = T })) =
+      found-joined (rebased n esi m₁) s set _ _ (omega (arith, fits .room, rebased-length n esi m₁ l)) (mod-lt (t .base + place .rise) (fits .some-width)) at at-esi in
+      subst (λ x. Holds x s (some (record { base = t .base + place .rise; window = T }))) (sym stored)
+      (record {
+        header = head;
+        rows = record { reduced = reduced; rows = rebased-window n esi m₁ l (s .width) (s .size) (t .base + place .rise) T fits v };
+      })
 
   pub finished : Finished h place kept count work m m′
   finished = record {
     contained = record {
-      same = ap length stored ∙ rebased-length (place .shape .base) esi m₁ long ∙ f .unchanged .size;
+      same = ap length stored ∙ rebased-length (place .shape .base + 1) esi m₁ long ∙ f .unchanged .size;
       past =
-          ap (drop (memorySize (h .setting))) stored ∙ rebased-past (place .shape .base) esi m₁ long (memorySize (h .setting)) (omega arith)
+          ap (drop (memorySize (h .setting))) stored ∙ rebased-past (place .shape .base + 1) esi m₁ long (memorySize (h .setting)) (omega arith)
           ∙ f .unchanged .past;
     };
     marks = record {
       header = λ k l g.
-          ap (λ x. getD x k 0) stored ∙ rebased-spare (place .shape .base) esi m₁ long k l g
+          ap (λ x. getD x k 0) stored ∙ rebased-spare (place .shape .base + 1) esi m₁ long k l g
           ∙ sym (getD-take 64 m₁ k 0 (omega arith)) ∙ ap (λ x. getD x k 0) (f .unchanged .header) ∙ getD-take 64 m k 0 (omega arith);
       rows = λ r l.
           let w = h .setting .width in
           let E = h .setting .size in
-          ap (λ x. getD x (flagAt w E r) 0) stored ∙ rebased-rows (place .shape .base) esi m₁ long (flagAt w E r) (omega arith)
+          ap (λ x. getD x (flagAt w E r) 0) stored ∙ rebased-rows (place .shape .base + 1) esi m₁ long (flagAt w E r) (omega arith)
           ∙ f .unchanged .flags r (w + E + 1) l (omega arith) (omega arith);
     };
     most = f .most;
-    outcome = λ s t es k row g.
-        let is = header-held m h s t has k in
-        let fits = header-fits m (headerOf s t) (k .header) in
+    outcome = λ s t es is k row g.
+        let pos : 0 < s .size = subst (λ (x : Header). 0 < x .setting .size) is (omega (arith, has .valid .size-least)) in
         let c = subst (λ (x : Header). Committed (x .setting .width) (x .setting .size) (x .row) (place .rise) kept count work m m₁) is f in
         let (T, i, v, n) = c .outcome (t .base) (t .window) es refl (k .rows) (k .reduced) g in
-        (T, i, held s t T is (taken-reduced (s .width) (s .size) (place .rise) (t .window) T es (omega (arith, fits .some-symbol)) (k .reduced) i) row v, n);
+        (T, i, held s t T is (taken-reduced (s .width) (s .size) (place .rise) (t .window) T es pos (k .reduced) i) row v, n);
   }

@@ -1,6 +1,7 @@
 -- From what the code reads in the memory to what the ADU call promises.
 use mathlib.Core.Path.{_≡_, refl, sym, ap, _∙_, subst}
 use mathlib.Core.Logic.{_≢_}
+use mathlib.Core.Bool.{true, false, true≢false}
 use mathlib.Core.Option.{none, some, Option·none-ne-some}
 use mathlib.Core.List.{List}
 use Prim.Native.Nat.{ℕ, _%_, _^_, _≤_, _<_}
@@ -19,12 +20,12 @@ use Rattle.starts.specs.Marks as marks
 use Rattle.starts.specs.Contracts.{HandedOut}
 use Rattle.receiver.specs.declared.Header.{Header}
 use Rattle.receiver.specs.History.{placeOf, refusal}
-use Rattle.receiver.specs.Model.{State, aduAt}
+use Rattle.receiver.specs.Model.{Joined, aduAt}
 use Rattle.receiver.specs.Header.{headerIn}
 use Rattle.receiver.specs.Promises.{handedSaid, AduAnswered}
 use Rattle.receiver.specs.Layout.{Marks, receiverLayout}
 use Rattle.receiver.proofs.Cases.{IsRefusal, numeral}
-use Rattle.receiver.proofs.Headers.{of-header}
+use Rattle.receiver.proofs.Headers.{of-header, of-joined}
 
 pub adu-unopened : (m out : List ℕ) (e : ℕ) → headerIn m ≡ none → AduAnswered receiverLayout m e out out (Withheld Unopened)
 adu-unopened m out e h = record {
@@ -38,7 +39,18 @@ not-three : (r : Handed) → ((x : Refusal) → r ≡ Withheld x → numberOf x 
 not-three (Adu flow L) f z = subst IsRefusal (sym z) tt
 not-three (Withheld x) f z = f x refl (ap numeral z)
 
-module _ (m out : List ℕ) (e : ℕ) (h : Header) (k : headerIn m ≡ some h) where
+-- Before any base.
+pub adu-fresh : (m out : List ℕ) (e : ℕ) (h : Header) → headerIn m ≡ some h → h .joined ≡ false → AduAnswered receiverLayout m e out out (Withheld Unknown)
+unfolding aduAt
+adu-fresh m out e h k j = record {
+  unopened = ((λ q. let z = ap numeral q in absurd (omega (arith, z))), (λ z. absurd (Option·none-ne-some h (sym z ∙ k))));
+  leaves = refl;
+  hands = λ s t M g l.
+      of-header m h k (λ s t. HandedAs (aduAt s t M (length out) e) out out (Withheld Unknown)) (λ _. (refl, refl))
+      (λ t d i r b. absurd (true≢false (sym i ∙ j))) s t g;
+}
+
+module _ (m out : List ℕ) (e : ℕ) (h : Header) (k : headerIn m ≡ some h) (joined : h .joined ≡ true) where
   open Setting (h .setting) using (width, size)
 
   abbrev d : ℕ
@@ -46,13 +58,14 @@ module _ (m out : List ℕ) (e : ℕ) (h : Header) (k : headerIn m ≡ some h) w
 
   -- Refused, where the place alone says so.
   refused : (x : Refusal) → numberOf x ≢ 3
-      → ((t : State (h .setting)) (M : Starts) → h .base .0 ≡ t .base % 2 ^ 32 → aduAt (h .setting) t M (length out) e ≡ withholds (numberOf x))
+      → ((t : Joined (h .setting)) (M : Starts) → h .base .0 ≡ t .base % 2 ^ 32
+      → aduAt (h .setting) (some t) M (length out) e ≡ withholds (numberOf x))
       → AduAnswered receiverLayout m e out out (Withheld x)
   refused x n f = record {
     unopened = ((λ q. absurd (n (ap numeral q))), (λ z. absurd (Option·none-ne-some h (sym z ∙ k))));
     leaves = refl;
     hands = λ s t M g l.
-        of-header m h k (λ s t. HandedAs (aduAt s t M (length out) e) out out (Withheld x))
+        of-joined m h k joined (λ s t. HandedAs (aduAt s t M (length out) e) out out (Withheld x))
         (λ t _ _ b. subst (λ y. HandedAs y out out (Withheld x)) (sym (f t M b)) (refl, refl)) s t g;
   }
 
@@ -66,8 +79,8 @@ module _ (m out : List ℕ) (e : ℕ) (h : Header) (k : headerIn m ≡ some h) w
 
   -- In the window the call is that of the window's d-th position.
   module _ (x : ℕ) (q : x ≡ d) (near : x < 2 ^ 31) (inside : x < width) where
-    inner : (t : State (h .setting)) (M : Starts) → h .base .0 ≡ t .base % 2 ^ 32
-        → aduAt (h .setting) t M (length out) e ≡ handing size width (length out) M (seen size width (t .window)) x
+    inner : (t : Joined (h .setting)) (M : Starts) → h .base .0 ≡ t .base % 2 ^ 32
+        → aduAt (h .setting) (some t) M (length out) e ≡ handing size width (length out) M (seen size width (t .window)) x
     unfolding aduAt placeOf need
     inner t M b = rw (← b, ← q, lt-ltb x (2 ^ 31) near, lt-ltb x width inside)
 
@@ -76,7 +89,7 @@ module _ (m out : List ℕ) (e : ℕ) (h : Header) (k : headerIn m ≡ some h) w
       unopened = ((λ z. absurd (not-three r (g .opened) z)), (λ z. absurd (Option·none-ne-some h (sym z ∙ k))));
       leaves = g .leaves;
       hands = λ s t M v l.
-          of-header m h k (λ s t. Marks m s t M → HandedAs (aduAt s t M (length out) e) out out′ r)
+          of-joined m h k joined (λ s t. Marks m s t M → HandedAs (aduAt s t M (length out) e) out out′ r)
           (λ t v a b l.
           subst (λ y. HandedAs y out out′ r) (sym (inner t M b))
           (g .told (t .base) (t .window) M (sym a) (v .rows) (subst (λ y. marks.Marks width size y m M) (sym a) (l .bytes)))) s t v l;

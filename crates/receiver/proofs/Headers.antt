@@ -1,15 +1,15 @@
 -- The header of a receiver: what reading it finds, what refusal 3 stands for, and what opening leaves.
-use mathlib.Core.Path.{_≡_, refl, sym, ap, _∙_, subst}
-use mathlib.Core.Bool.{Bool, true, false, cond, _&&_}
+use mathlib.Core.Path.{_≡_, refl, sym, ap, ap₂, _∙_, subst}
+use mathlib.Core.Bool.{Bool, true, false, cond, _&&_, true≢false}
 use mathlib.Core.Option.{Option, none, some, Option·none-ne-some, Option·some-injective}
 use mathlib.Core.List.{List}
-use Prim.Native.Nat.{ℕ, _+_, _*_, _%_, _^_, _≤_, _<_}
-use native.Mathlib.Nat.{mul-le-mul}
+use Prim.Native.Nat.{ℕ, _+_, _-_, _*_, _%_, _^_, _≤_, _<_}
+use native.Mathlib.Nat.{mul-le-mul, mod-lt, mod-eq-of-lt}
 use native.Mathlib.Omega.{arith}
 use lib.Dec.{leb, ltb}
 use lib.ListN.{length, take, length-take}
 use lib.Seq.{take-take}
-use borrow.Author.Tests.{leb-true, ltb-true, le-leb, lt-leb, lt-ltb, le-ltb}
+use borrow.Author.Tests.{leb-true, le-leb, lt-leb, lt-ltb}
 use Rattle.memory.specs.Part.{part}
 use Rattle.memory.specs.Number.{number}
 use Rattle.wire.specs.declared.Setting.{Setting}
@@ -18,15 +18,17 @@ use Rattle.wire.specs.declared.Checked.the-variants.{Good, Bad}
 use Rattle.wire.specs.Packets.{zeros}
 use Rattle.wire.specs.Settings.{settingIn, Valid, checkedOf}
 use Rattle.wire.proofs.Settings.{both, setting-found, setting-kept, zeros-none, one-kind}
+use Rattle.decoder.proofs.Bytes.{laws}
+use Rattle.decoder.proofs.History as history
 use Rattle.elimination.specs.Window.{Fits}
 use Rattle.receiver.specs.declared.Header.{Header}
 use Rattle.receiver.specs.declared.Found.{Found}
 use Rattle.receiver.specs.declared.Found.the-variants.{HeaderIs, NoHeader}
 use Rattle.receiver.specs.History.{memorySize}
-use Rattle.receiver.specs.Model.{State}
-use Rattle.receiver.specs.Header.{headerWith, headerIn}
-use Rattle.receiver.specs.Layout.{headerOf, Holds}
-use Rattle.receiver.specs.Inner.{foundOf}
+use Rattle.receiver.specs.Model.{Joined, State, foundBy}
+use Rattle.receiver.specs.Header.{rowIn, headerWith, headerIn}
+use Rattle.receiver.specs.Layout.{headerFrom, headerOf, Stands, Holds}
+use Rattle.receiver.specs.Inner.{foundOf, headerFor, Based}
 
 -- ---- What an answer that was told apart says
 
@@ -60,20 +62,27 @@ working-area s v =
 
 -- The header's numbers, of a memory with a setting.
 abbrev pub numbers : Setting → List ℕ → Header
-numbers s m = record { setting = s; row = number (part 8 2 m); base = record { 0 = number (part 12 4 m) } }
+numbers s m = record { setting = s; joined = ltb 0 (rowIn m); row = rowIn m - 1; base = record { 0 = number (part 12 4 m) } }
 
 module _ (m : List ℕ) (s : Setting) (e : settingIn 2 m ≡ some s) where
-  pub found : memorySize s ≤ length m → number (part 8 2 m) < s .width → headerIn m ≡ some (numbers s m)
+  pub found : memorySize s ≤ length m → rowIn m ≤ s .width → headerIn m ≡ some (numbers s m)
   unfolding headerIn
-  found a b = rw (e, le-leb (memorySize s) (length m) a, lt-ltb (number (part 8 2 m)) (s .width) b)
+  found a b = rw (e, le-leb (memorySize s) (length m) a, le-leb (rowIn m) (s .width) b)
+
+  -- With a base, whose row and ESI are these.
+  pub found-joined : (r b : ℕ) → memorySize s ≤ length m → r < s .width → rowIn m ≡ r + 1 → number (part 12 4 m) ≡ b
+      → headerIn m ≡ some (record { setting = s; joined = true; row = r; base = record { 0 = b } })
+  found-joined r b a l p q =
+      let x : r + 1 - 1 ≡ r = omega arith in
+      found a (omega (arith, p)) ∙ rw (p, q, lt-ltb 0 (r + 1) (omega arith), x)
 
   pub none-short : length m < memorySize s → headerIn m ≡ none
   unfolding headerIn
   none-short a = rw (e, lt-leb (memorySize s) (length m) a)
 
-  pub none-row : memorySize s ≤ length m → s .width ≤ number (part 8 2 m) → headerIn m ≡ none
+  pub none-row : memorySize s ≤ length m → s .width < rowIn m → headerIn m ≡ none
   unfolding headerIn
-  none-row a b = rw (e, le-leb (memorySize s) (length m) a, le-ltb (number (part 8 2 m)) (s .width) b)
+  none-row a b = rw (e, le-leb (memorySize s) (length m) a, lt-leb (rowIn m) (s .width) b)
 
 pub none-setting : (m : List ℕ) → settingIn 2 m ≡ none → headerIn m ≡ none
 unfolding headerIn
@@ -91,17 +100,18 @@ pub headed : (m : List ℕ) (h : Header) → headerIn m ≡ some h → Headed m 
 unfolding headerIn
 headed m h e = go (settingIn 2 m) refl e
   where
-    of : (s : Setting) → settingIn 2 m ≡ some s → (t : Bool) → leb (memorySize s) (length m) && ltb (number (part 8 2 m)) (s .width) ≡ t
+    of : (s : Setting) → settingIn 2 m ≡ some s → (t : Bool) → leb (memorySize s) (length m) && leb (rowIn m) (s .width) ≡ t
         → cond t (some (numbers s m)) none ≡ some h → Headed m h
     of s k false b x = absurd (Option·none-ne-some h x)
     of s k true b x =
         let (p, q) = both (leb (memorySize s) (length m)) _ b in
+        let v = setting-found 2 m s k .named .valid in
         subst (Headed m) (Option·some-injective _ h x)
-        (record { setting = k; is = refl; valid = setting-found 2 m s k .named .valid; room = leb-true _ _ p; row-lt = ltb-true _ _ q })
+        (record { setting = k; is = refl; valid = v; room = leb-true _ _ p; row-lt = omega (arith, leb-true (rowIn m) (s .width) q, v .width-least) })
 
     go : (o : Option Setting) → settingIn 2 m ≡ o → headerWith m o ≡ some h → Headed m h
     go none k x = absurd (Option·none-ne-some h x)
-    go (some s) k x = of s k (leb (memorySize s) (length m) && ltb (number (part 8 2 m)) (s .width)) refl x
+    go (some s) k x = of s k (leb (memorySize s) (length m) && leb (rowIn m) (s .width)) refl x
 
 pub header-room : (m : List ℕ) (h : Header) → headerIn m ≡ some h → memorySize (h .setting) ≤ length m
 header-room m h e = headed m h e .room
@@ -119,16 +129,78 @@ setting-fits s m v h = record {
 pub header-fits : (m : List ℕ) (h : Header) → headerIn m ≡ some h → Fits (h .setting .width) (h .setting .size) m
 header-fits m h e = let k = headed m h e in setting-fits (h .setting) m (k .valid) (k .room)
 
--- A state that the memory holds has the header's setting and numbers.
+-- The header for a packet, with a base and without.
+pub for-joined : (h : Header) (e : ℕ) → h .joined ≡ true → h ≡ headerFor h e
+for-joined h e j =
+    ap₂
+    (λ (t u : Bool). record {
+      setting = h .setting;
+      joined = t;
+      row = cond u (h .row) (e % h .setting .width);
+      base = cond u (h .base) (record { 0 = e % 2 ^ 32 });
+    }) j (sym j)
+
+pub for-fresh : (h : Header) (e : ℕ) → h .joined ≡ false → e < 2 ^ 32
+    → record { setting = h .setting; joined = true; row = e % h .setting .width; base = record { 0 = e } } ≡ headerFor h e
+for-fresh h e j small = rw (j, mod-eq-of-lt small)
+
+-- The memory has the setting and the room of the header for a packet.
+pub based : (m : List ℕ) (h : Header) (e : ℕ) → headerIn m ≡ some h → Based m (headerFor h e)
+based m h e k =
+    let g = headed m h k in
+    record { setting = g .setting; valid = g .valid; room = g .room; row-lt = row (h .joined) (g .row-lt) (g .valid) }
+  where
+    row : (t : Bool) → h .row < h .setting .width → Valid (h .setting) → cond t (h .row) (e % h .setting .width) < h .setting .width
+    row true l v = l
+    row false l v = mod-lt e (omega (arith, v .width-least))
+
+pub based-fits : (m : List ℕ) (h : Header) → Based m h → Fits (h .setting .width) (h .setting .size) m
+based-fits m h k = setting-fits (h .setting) m (k .valid) (k .room)
+
+-- ---- A state that the memory holds
+
+pub header-held : (m : List ℕ) (h : Header) (s : Setting) (t : State s) → headerIn m ≡ some h → Holds m s t → h ≡ headerOf s t
+header-held m h s t e k = Option·some-injective h (headerOf s t) (sym e ∙ k .header)
+
+pub setting-of : (s : Setting) (t : State s) → headerOf s t .setting ≡ s
+setting-of s none = refl
+setting-of s (some t) = refl
+
+pub setting-held : (m : List ℕ) (h : Header) (s : Setting) (t : State s) → headerIn m ≡ some h → Holds m s t → h .setting ≡ s
+setting-held m h s t e k = ap (λ (x : Header). x .setting) (header-held m h s t e k) ∙ setting-of s t
+
+-- It has the header's setting; with the header's numbers, or no base yet.
 pub of-header : (m : List ℕ) (h : Header) → headerIn m ≡ some h → (P : (s : Setting) → State s → Type 0)
-    → ((t : State (h .setting)) → Holds m (h .setting) t → h .row ≡ t .base % h .setting .width → h .base .0 ≡ t .base % 2 ^ 32 → P (h .setting) t)
+    → (h .joined ≡ false → P (h .setting) none)
+    → ((t : Joined (h .setting)) → Stands m (h .setting) t → h .joined ≡ true → h .row ≡ t .base % h .setting .width → h .base .0 ≡ t .base % 2 ^ 32
+    → P (h .setting) (some t))
     → (s : Setting) (t : State s) → Holds m s t → P s t
-of-header m h k P f s t g =
-    let i : h ≡ headerOf s t = Option·some-injective _ _ (sym k ∙ g .header) in
+of-header m h k P f g s none d =
+    let i = header-held m h s none k d in
+    subst (λ x. P x none) (ap (λ (x : Header). x .setting) i) (f (ap (λ (x : Header). x .joined) i))
+of-header m h k P f g s (some t) d =
+    let i = header-held m h s (some t) k d in
     subst
     (λ (x : Header).
-    (t : State (x .setting)) → Holds m (x .setting) t → h .row ≡ t .base % x .setting .width → h .base .0 ≡ t .base % 2 ^ 32 → P (x .setting) t)
-    i f t g (ap (λ (x : Header). x .row) i) (ap (λ (x : Header). x .base .0) i)
+    (t : Joined (x .setting)) → Stands m (x .setting) t → h .joined ≡ true → h .row ≡ t .base % x .setting .width → h .base .0 ≡ t .base % 2 ^ 32
+    → P (x .setting) (some t))
+    i g t (d .rows) (ap (λ (x : Header). x .joined) i) (ap (λ (x : Header). x .row) i) (ap (λ (x : Header). x .base .0) i)
+
+-- With a base it has the header's numbers.
+pub of-joined : (m : List ℕ) (h : Header) → headerIn m ≡ some h → h .joined ≡ true → (P : (s : Setting) → State s → Type 0)
+    → ((t : Joined (h .setting)) → Stands m (h .setting) t → h .row ≡ t .base % h .setting .width → h .base .0 ≡ t .base % 2 ^ 32 → P (h .setting) (some t))
+    → (s : Setting) (t : State s) → Holds m s t → P s t
+of-joined m h k j P g = of-header m h k P (λ i. absurd (true≢false (sym j ∙ i))) (λ t d _ a b. g t d a b)
+
+-- For a packet whose first ESI is e, the header is that of the receiver as the packet finds it, whose rows the memory has.
+pub found-header : (m : List ℕ) (h : Header) (s : Setting) (t : State s) (e : ℕ) → headerIn m ≡ some h → Holds m s t
+    → headerFor h e ≡ headerFrom s (foundBy s t e)
+found-header m h s none e k d = ap (λ (x : Header). headerFor x e) (header-held m h s none k d)
+found-header m h s (some t) e k d = ap (λ (x : Header). headerFor x e) (header-held m h s (some t) k d)
+
+pub found-stands : (m : List ℕ) (s : Setting) (t : State s) (e : ℕ) → 0 < s .size → Holds m s t → Stands m s (foundBy s t e)
+found-stands m s none e z d = record { reduced = history.empty-rref (laws (s .size) z) (s .width); rows = d .rows e }
+found-stands m s (some t) e z d = d .rows
 
 -- ---- What refusal 3 stands for
 

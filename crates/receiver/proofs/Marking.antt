@@ -28,14 +28,14 @@ use Rattle.starts.proofs.Gaining.{old-ones}
 use Rattle.receiver.specs.declared.Header.{Header}
 use Rattle.receiver.specs.declared.packet.PacketPlace.{PacketPlace}
 use Rattle.receiver.specs.History.{memorySize}
-use Rattle.receiver.specs.Model.{State}
+use Rattle.receiver.specs.Model.{Joined, State}
 use Rattle.receiver.specs.Header.{headerWith, headerIn}
 use Rattle.receiver.specs.Promises.{Contained}
-use Rattle.receiver.specs.Layout.{headerOf, Holds, Marks}
+use Rattle.receiver.specs.Layout.{headerFrom, headerOf, Stands, Rows, Holds, MarksFrom}
+use Rattle.receiver.specs.Inner.{Based}
 use Rattle.receiver.specs.Steps.{SameMarks, PlacedBy, Finished, Accepted}
-use Rattle.receiver.proofs.Headers.{headed, header-fits}
+use Rattle.receiver.proofs.Headers.{header-fits, based-fits, setting-of}
 use Rattle.receiver.proofs.Gathering.{contained-more}
-use Rattle.receiver.proofs.Finishing.{header-held}
 
 -- ---- nothing but marks has changed
 
@@ -76,13 +76,16 @@ starts-contained s m m′ o = record {
       ∙ sym (getD-drop (memorySize s) m i 0));
 }
 
+starts-rows : (s : Setting) (t : State s) (m m′ : List ℕ) → 0 < s .width → Rows m s t → marks.OnlyStarts (s .width) (s .size) m m′ → Rows m′ s t
+starts-rows s none m m′ pos k o = λ b. starts-window pos o b _ (k b)
+starts-rows s (some t) m m′ pos k o = record { reduced = k .reduced; rows = starts-window pos o (t .base) (t .window) (k .rows) }
+
 pub starts-holds : (s : Setting) (t : State s) (m m′ : List ℕ) → Holds m s t → marks.OnlyStarts (s .width) (s .size) m m′ → Holds m′ s t
 starts-holds s t m m′ k o =
-    let f = header-fits m (headerOf s t) (k .header) in
+    let f = subst (λ (x : Setting). window.Fits (x .width) (x .size) m) (setting-of s t) (header-fits m (headerOf s t) (k .header)) in
     record {
       header = header-same (s .width) (s .size) m m′ o (omega (arith, f .room)) ∙ k .header;
-      reduced = k .reduced;
-      rows = starts-window (f .some-width) o (t .base) (t .window) (k .rows);
+      rows = starts-rows s t m m′ (f .some-width) (k .rows) o;
     }
 
 pub only-contained : (s : Setting) (m m′ : List ℕ) → marks.OnlyMarks (s .width) (s .size) m m′ → Contained (memorySize s) m m′
@@ -108,12 +111,12 @@ same-marks w E base m m′ M pos f h i l = go (decLt i w) ∙ h i l
 -- ---- a packet is accepted
 
 -- What following it with the marks asks.
-pub update-asks : (h : Header) (at : PacketPlace) (own : ℕ) (m m₁ : List ℕ) → headerIn m ≡ some h → PlacedBy h at own
+pub update-asks : (h : Header) (at : PacketPlace) (own : ℕ) (m m₁ : List ℕ) → Based m h → PlacedBy h at own
     → Contained (memorySize (h .setting)) m m₁
     → window.Fits (at .shape .width) (at .shape .size) m₁ × (h .row < at .shape .width) × (at .shape .base ≡ (h .row + at .rise) % at .shape .width)
     × (at .offset + own ≤ at .shape .width)
 update-asks h at own m m₁ has placed k =
-    let g = header-fits m h has in
+    let g = based-fits m h has in
     let f : window.Fits (h .setting .width) (h .setting .size) m₁ = record {
       some-width = g .some-width;
       wide = g .wide;
@@ -123,16 +126,16 @@ update-asks h at own m m₁ has placed k =
     } in
     let fits = subst (λ w. window.Fits w (at .shape .size) m₁) (sym (placed .width))
     (subst (λ E. window.Fits (h .setting .width) E m₁) (sym (placed .size)) f) in
-    (fits, subst (λ w. h .row < w) (sym (placed .width)) (headed m h has .row-lt), placed .base, placed .room)
+    (fits, subst (λ w. h .row < w) (sym (placed .width)) (has .row-lt), placed .base, placed .room)
 
 -- What it asks to count the packet's own positions before and after.
-pub count-asks : (h : Header) (at : PacketPlace) (own : ℕ) (m : List ℕ) → headerIn m ≡ some h → PlacedBy h at own → at .rise ≤ 65536
+pub count-asks : (h : Header) (at : PacketPlace) (own : ℕ) (m : List ℕ) → Based m h → PlacedBy h at own → at .rise ≤ 65536
     → window.Fits (h .setting .width) (h .setting .size) m × (h .row < h .setting .width) × (at .rise + at .offset + own ≤ 100000)
 count-asks h at own m has placed l =
-    let g = header-fits m h has in
-    (g, headed m h has .row-lt, omega (arith, l, placed .room, placed .width, g .wide))
+    let g = based-fits m h has in
+    (g, has .row-lt, omega (arith, l, placed .room, placed .width, g .wide))
 
-pub count-again : (h : Header) (at : PacketPlace) (own : ℕ) (m m₁ : List ℕ) → headerIn m ≡ some h → PlacedBy h at own
+pub count-again : (h : Header) (at : PacketPlace) (own : ℕ) (m m₁ : List ℕ) → Based m h → PlacedBy h at own
     → Contained (memorySize (h .setting)) m m₁
     → window.Fits (at .shape .width) (at .shape .size) m₁ × (at .shape .base < at .shape .width) × (at .offset + own ≤ 100000)
 count-again h at own m m₁ has placed k =
@@ -140,7 +143,7 @@ count-again h at own m m₁ has placed k =
     (f, subst (λ x. x < at .shape .width) (sym b) (mod-lt (h .row + at .rise) (f .some-width)), omega (arith, r, f .wide))
 
 -- Whether positions other than its own have become known is told by `others`.
-module _ (h : Header) (at : PacketPlace) (kept own count had has : ℕ) (others : Bool) (work m m₁ m₂ : List ℕ) (head : headerIn m ≡ some h)
+module _ (h : Header) (at : PacketPlace) (kept own count had has : ℕ) (others : Bool) (work m m₁ m₂ : List ℕ) (head : Based m h)
     (placed : PlacedBy h at own) (f : Finished h at kept count work m m₁)
     (before : Tallied (h .setting .width) (h .setting .size) (h .row) (at .rise + at .offset) own had m)
     (after : Tallied (at .shape .width) (at .shape .size) (at .shape .base) (at .offset) own has m₁)
@@ -157,28 +160,25 @@ module _ (h : Header) (at : PacketPlace) (kept own count had has : ℕ) (others 
       subst (λ x. Tallied (h .setting .width) x (at .shape .base) (at .offset) own has m₁) (placed .size)
       (subst (λ x. Tallied x (at .shape .size) (at .shape .base) (at .offset) own has m₁) (placed .width) after)
 
-  module _ (s : Setting) (t : State s) (es : List (model.Row (Coded (s .size)) (s .width))) (k : Holds m s t)
+  module _ (s : Setting) (t : Joined s) (es : List (model.Row (Coded (s .size)) (s .width))) (is : h ≡ headerFrom s t) (k : Stands m s t)
       (row : at .shape .base ≡ (t .base + at .rise) % s .width) (T : model.State (Coded (s .size)) (s .width))
       (inserted : decoder.insert-all es (decoder.advance-by (at .rise) (t .window)) ≡ some T)
-      (held : Holds m₁ s (record { base = t .base + at .rise; window = T }))
+      (held : Holds m₁ s (some (record { base = t .base + at .rise; window = T })))
       (counted : count ≡ decoder.newly t (record { base = t .base + at .rise; window = T })) where
-    is : h ≡ headerOf s t
-    is = header-held m h s t head k
-
     fits : window.Fits (s .width) (s .size) m
-    fits = header-fits m (headerOf s t) (k .header)
+    fits = subst (λ (x : Header). window.Fits (x .setting .width) (x .setting .size) m) is (based-fits m h head)
 
     olds : others ≡ false → Old (s .width) (at .rise) (at .offset) own (seen (s .size) (s .width) (t .window)) (seen (s .size) (s .width) T)
     olds no-others =
         let x = subst (λ (y : Header). Tallied (y .setting .width) (y .setting .size) (y .row) (at .rise + at .offset) own had m) is before in
         let y = subst (λ (z : Header). Tallied (z .setting .width) (z .setting .size) (at .shape .base) (at .offset) own has m₁) is after′ in
         let a = x .told (t .base) (t .window) refl (k .rows) in
-        let b = y .told (t .base + at .rise) T (sym row) (held .rows) in
+        let b = y .told (t .base + at .rise) T (sym row) (held .rows .rows) in
         let w : h .setting .width ≡ s .width = ap (λ (z : Header). z .setting .width) is in
         old-ones (s .width) (s .size) (at .rise) (t .window) T es (omega (arith, fits .some-symbol)) (k .reduced) inserted (t .base) (at .offset) own
         (omega (arith, placed .room, placed .width, w)) (sym counted ∙ tells no-others ∙ ap₂ (λ (i j : ℕ). i - j) b a)
 
-    marks-after : (M : Starts) → Marks m s t M → Marks m₂ s (record { base = t .base + at .rise; window = T })
+    marks-after : (M : Starts) → MarksFrom m s t M → MarksFrom m₂ s (record { base = t .base + at .rise; window = T })
         (pass (s .size) (seen (s .size) (s .width) T) (s .width) (owning (at .offset) own (moved (s .width) (at .rise) M)))
     marks-after M km =
         let N = pass (s .size) (seen (s .size) (s .width) T) (s .width) (owning (at .offset) own (moved (s .width) (at .rise) M)) in
@@ -187,7 +187,7 @@ module _ (h : Header) (at : PacketPlace) (kept own count had has : ℕ) (others 
         let around = mod-add-mod (t .base) (s .width) (at .rise) in
         let note : marks.notedIn m ≡ marks.notedIn m₁ = sym (same .header 11 (omega arith) (omega arith)) in
         let (g, settled) =
-        v .marks (t .base + at .rise) (seen (s .size) (s .width) (t .window)) T M (sym around) (held .rows)
+        v .marks (t .base + at .rise) (seen (s .size) (s .width) (t .window)) T M (sym around) (held .rows .rows)
         (same-marks (s .width) (s .size) (t .base % s .width) m m₁ M (fits .some-width) same (km .bytes))
         (subst (λ x. Settled (s .size) (s .width) (seen (s .size) (s .width) (t .window)) x M) note (km .settled)) olds in
         record { bytes = subst (λ b. marks.Marks (s .width) (s .size) b m₂ N) around g; settled = settled }
@@ -196,14 +196,13 @@ module _ (h : Header) (at : PacketPlace) (kept own count had has : ℕ) (others 
   accepted = record {
     contained = contained-more (f .contained) (starts-contained (h .setting) m₁ m₂ (u′ .only));
     most = f .most;
-    outcome = λ s t es k row g.
-        let (T, i, held, n) = f .outcome s t es k row g in
-        let is = header-held m h s t head k in
+    outcome = λ s t es is k row g.
+        let (T, i, held, n) = f .outcome s t es is k row g in
         let v = subst (λ (x : Header). marks.OnlyStarts (x .setting .width) (x .setting .size) m₁ m₂) is (u′ .only) in (
           T,
           i,
-          starts-holds s (record { base = t .base + at .rise; window = T }) m₁ m₂ held v,
+          starts-holds s (some (record { base = t .base + at .rise; window = T })) m₁ m₂ held v,
           n,
-          marks-after s t es k row T i held n,
+          marks-after s t es is k row T i held n,
         );
   }

@@ -4,7 +4,7 @@ use mathlib.Core.Logic.{_≢_}
 use mathlib.Core.Bool.{Bool, true, false}
 use mathlib.Core.Option.{Option, none, some}
 use mathlib.Core.List.{List}
-use Prim.Native.Nat.{ℕ, _+_, _-_, _<_}
+use Prim.Native.Nat.{ℕ, _+_, _<_}
 use native.Mathlib.Omega.{arith}
 use lib.Dec.{leb}
 use Rattle.wire.specs.declared.Setting.{Setting}
@@ -20,7 +20,7 @@ use Rattle.decoder.proofs.Bytes.{laws}
 use Rattle.decoder.proofs.History as history
 use Rattle.receiver.specs.History.{Place, behind, ahead, placeOf, Call, source-call, repair-call, Reading, fails, located, check}
 use Rattle.receiver.specs.History.{placed, readSource, readRepair, reading}
-use Rattle.receiver.specs.Model.{packetOf, State, Outcome, refused, done, added, responds, receiving}
+use Rattle.receiver.specs.Model.{packetOf, Joined, Outcome, refused, done, added, responds, answering}
 
 -- The number of a refusal that is not 3.
 pub record Named (n : ℕ) : Type 0 where
@@ -64,12 +64,12 @@ module _ (s : Setting) (e : 0 < s .size) where
   Sound (refused n) = Named n
   Sound (done n t) = Rref (t .window)
 
-  inserted-sound : (t : State s) (b : ℕ) (S : model.State (Coded E) w) (es : List (model.Row (Coded E) w)) (o : Option (model.State (Coded E) w))
+  inserted-sound : (t : Joined s) (b : ℕ) (S : model.State (Coded E) w) (es : List (model.Row (Coded E) w)) (o : Option (model.State (Coded E) w))
       → history.Added-all (laws E e) S es o → Sound (added s t (decoder.and-then o (λ T. some (record { base = b; window = T }))))
   inserted-sound t b S es none h = named Contradiction (λ e. absurd (omega (arith, e)))
   inserted-sound t b S es (some T) h = h .0
 
-  responds-sound : (t : State s) → Rref (t .window) → (r : Reading) → NamedReading r → Sound (responds s t r)
+  responds-sound : (t : Joined s) → Rref (t .window) → (r : Reading) → NamedReading r → Sound (responds s t r)
   unfolding decoder.receive
   responds-sound t k (fails n) h = h
   responds-sound t k (located q) h =
@@ -80,6 +80,6 @@ module _ (s : Setting) (e : 0 < s .size) where
       (history.insert-all-added (laws E e) es S (history.advance-by-rref (laws E e) d (t .window) k))
 
   -- What a packet call comes to: a refusal with its number, or a reduced window.
-  pub receiving-sound : (t : State s) → Rref (t .window) → (room : ℕ) (c : Call) → Sound (receiving s t room c)
-  unfolding receiving
-  receiving-sound t k room c = responds-sound t k (reading s (t .base) room c) (reading-named s (t .base) room c)
+  pub answering-sound : (t : Joined s) → Rref (t .window) → (room : ℕ) (c : Call) → Sound (answering s t room c)
+  unfolding answering
+  answering-sound t k room c = responds-sound t k (reading s (t .base) room c) (reading-named s (t .base) room c)

@@ -1,9 +1,9 @@
 -- Opening: what it answers, and that the memory it leaves holds a fresh receiver.
-use mathlib.Core.Path.{_≡_, refl, sym, ap, ap₂, _∙_, subst}
+use mathlib.Core.Path.{_≡_, refl, sym, ap, _∙_, subst}
 use mathlib.Core.Option.{none, some, Option·some-injective}
 use mathlib.Core.List.{List}
-use Prim.Native.Nat.{ℕ, _+_, _%_, _≤_, _<_}
-use native.Mathlib.Nat.{mod-eq-of-lt, zero-add}
+use Prim.Native.Nat.{ℕ, _+_, _≤_, _<_}
+use native.Mathlib.Nat.{zero-add}
 use native.Mathlib.Omega.{arith}
 use lib.ListN.{length, take, drop}
 use lib.Seq.{take-take}
@@ -16,19 +16,13 @@ use Rattle.wire.specs.declared.Refusal.the-variants.{Values, Short}
 use Rattle.wire.specs.Packets.{zeros}
 use Rattle.wire.specs.Settings.{settingOf, settingIn, settingBytes, Valid}
 use Rattle.wire.proofs.Settings.{setting-names, setting-written, setting-kept}
-use Rattle.decoder.specs.Receiver as decoder
-use Rattle.decoder.proofs.Bytes.{laws}
-use Rattle.decoder.proofs.History as history
 use Rattle.elimination.specs.Place.{Emptied}
-use Rattle.starts.specs.Starts.{zeroth}
-use Rattle.starts.specs.Marks as marks
-use Rattle.starts.specs.Contracts.{Begun}
-use Rattle.starts.proofs.Settling.{unseen-settled}
-use Rattle.starts.proofs.Gaining.{unseen-empty}
+use Rattle.starts.specs.Starts.{nowhere}
+use Rattle.starts.specs.Contracts.{Cleared}
 use Rattle.receiver.specs.declared.Answer.the-variants.{Done, Refused}
 use Rattle.receiver.specs.History.{memorySize}
 use Rattle.receiver.specs.Model.{opened}
-use Rattle.receiver.specs.Header.{headerIn}
+use Rattle.receiver.specs.Header.{rowIn, headerIn}
 use Rattle.receiver.specs.Promises.{Contained, Opened}
 use Rattle.receiver.specs.Layout.{headerOf, Holds, Marks, receiverLayout}
 use Rattle.receiver.specs.Inner.{freshHeader}
@@ -78,7 +72,7 @@ module _ (s : Setting) (v : Valid s) (m m′ : List ℕ) (room : memorySize s �
   unfolding freshHeader splice settingBytes
   setting-is = setting-kept 2 m′ (splice 0 (settingBytes 2 s) m) (front 8 (omega arith)) ∙ setting-written 2 s m (omega arith) v
 
-  row-zero : number (part 8 2 m′) ≡ 0
+  row-zero : rowIn m′ ≡ 0
   unfolding freshHeader splice settingBytes part
   row-zero = ap number (part-front 8 2 (omega arith))
 
@@ -90,19 +84,10 @@ module _ (s : Setting) (v : Valid s) (m m′ : List ℕ) (room : memorySize s �
   length-is = k .kept .size ∙ length-fresh
 
   header-is : headerIn m′ ≡ some (headerOf s (opened s))
-  unfolding decoder.fresh
-  header-is =
-      let none-yet : 0 % s .width ≡ 0 = mod-eq-of-lt (omega (arith, v .width-least)) in
-      found m′ s setting-is (omega (arith, length-is)) (omega (arith, row-zero, v .width-least))
-      ∙ ap₂ (λ r b. some (record { setting = s; row = r; base = record { 0 = b } })) (row-zero ∙ sym none-yet) base-zero
+  header-is = found m′ s setting-is (omega (arith, length-is)) (omega (arith, row-zero)) ∙ rw (row-zero, base-zero)
 
   held : Holds m′ s (opened s)
-  unfolding decoder.fresh
-  held = record {
-    header = header-is;
-    reduced = history.empty-rref (laws (s .size) (omega (arith, v .size-least))) (s .width);
-    rows = k .free 0;
-  }
+  held = record { header = header-is; rows = k .free }
 
   past-is : drop (memorySize s) m′ ≡ drop (memorySize s) m
   unfolding freshHeader settingBytes
@@ -111,14 +96,7 @@ module _ (s : Setting) (v : Valid s) (m m′ : List ℕ) (room : memorySize s �
       k .kept .past ∙ past-splice (memorySize s) 8 (zeros 56) x (omega arith) (omega (arith, length-splice 0 (settingBytes 2 s) m (omega arith)))
       ∙ past-splice (memorySize s) 0 (settingBytes 2 s) m (omega arith) (omega arith)
 
-  module _ (m″ : List ℕ) (f : Begun (s .width) (s .size) 0 m′ m″) where
-    marked : Marks m″ s (opened s) zeroth
-    unfolding decoder.fresh
-    marked = record {
-      bytes = subst (λ b. marks.Marks (s .width) (s .size) b m″ zeroth) (sym (mod-eq-of-lt (omega (arith, v .width-least)))) (f .marks);
-      settled = unseen-settled (s .size) (s .width) _ _ zeroth (λ i _. unseen-empty (s .size) (s .width) i);
-    }
-
+  module _ (m″ : List ℕ) (f : Cleared (s .width) (s .size) m′ m″) where
     left : (n E w : ℕ) → settingOf n E w ≡ some s → Opened receiverLayout n E w m m″ (Done 0)
     left n E w e = record {
       answer = rw (e, le-ltb (length m) (memorySize s) room);
@@ -127,10 +105,10 @@ module _ (s : Setting) (v : Valid s) (m m′ : List ℕ) (room : memorySize s �
           subst (λ x. Contained (memorySize x) m m″) (Option·some-injective s t (sym e ∙ q))
           (contained-more (record { same = length-is; past = past-is }) (only-contained s m′ m″ (f .only)));
       holds = λ t q r. subst (λ x. Holds m″ x (opened x)) (Option·some-injective s t (sym e ∙ q)) (only-holds s (opened s) m′ m″ held (f .only));
-      starts = λ t q r. subst (λ x. Marks m″ x (opened x) zeroth) (Option·some-injective s t (sym e ∙ q)) marked;
+      starts = λ t q r. subst (λ x. Marks m″ x (opened x) nowhere) (Option·some-injective s t (sym e ∙ q)) (f .marks);
     }
 
 pub opening-done : (n E w : ℕ) (s : Setting) → settingOf n E w ≡ some s → (m m₁ m₂ m′ : List ℕ) → memorySize s ≤ length m → m₁ ≡ freshHeader s m
-    → Emptied (s .width) (s .size) m₁ m₂ → Begun (s .width) (s .size) 0 m₂ m′ → Opened receiverLayout n E w m m′ (Done 0)
+    → Emptied (s .width) (s .size) m₁ m₂ → Cleared (s .width) (s .size) m₂ m′ → Opened receiverLayout n E w m m′ (Done 0)
 opening-done n E w s e m m₁ m₂ m′ room f k b =
     left s (setting-names n E w s e .valid) m m₂ room (subst (λ x. Emptied (s .width) (s .size) x m₂) f k) m′ b n E w e

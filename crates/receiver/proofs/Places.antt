@@ -1,5 +1,6 @@
 -- Where the ESI of the position base + d lies.
 use mathlib.Core.Path.{_≡_}
+use mathlib.Core.Option.{some}
 use Prim.Native.Nat.{ℕ, _+_, _%_, _^_, _≤_, _<_}
 use native.Mathlib.Omega.{arith}
 use borrow.Author.Tests.{lt-ltb, le-ltb, le-leb, lt-leb}
@@ -9,7 +10,7 @@ use Rattle.decoder.specs.Model.{known}
 use Rattle.receiver.specs.History.{behind, ahead, placeOf, Reading, fails, check, placed}
 use Rattle.starts.specs.Adu.{withholds, need, handing}
 use Rattle.starts.specs.Starts.{Starts, seen}
-use Rattle.receiver.specs.Model.{State, hides, shown, finding, aduAt}
+use Rattle.receiver.specs.Model.{Joined, hides, shown, finding, aduAt}
 
 pub distance-is : (base d : ℕ) → d < 2 ^ 32 → distanceOf ((base + d) % 2 ^ 32) (base % 2 ^ 32) ≡ d
 distance-is base d h = omega arith
@@ -37,30 +38,30 @@ module _ (base d : ℕ) (small : d < 2 ^ 32) where
   placed-far n next h k = rw (place-ahead h, lt-leb (d + n) 65536 k)
 
 -- The symbol call.
-module _ (s : Setting) (t : State s) (d : ℕ) (small : d < 2 ^ 32) where
-  pub found-inside : d < 2 ^ 31 → d < s .width → finding s t ((t .base + d) % 2 ^ 32) ≡ shown s (t .base + d) (known (t .window) d)
+module _ (s : Setting) (t : Joined s) (d : ℕ) (small : d < 2 ^ 32) where
+  pub found-inside : d < 2 ^ 31 → d < s .width → finding s (some t) ((t .base + d) % 2 ^ 32) ≡ shown s (t .base + d) (known (t .window) d)
   unfolding finding
   found-inside h k = rw (place-ahead (t .base) d small h, lt-ltb d (s .width) k)
 
-  pub found-past : d < 2 ^ 31 → s .width ≤ d → finding s t ((t .base + d) % 2 ^ 32) ≡ hides 12
+  pub found-past : d < 2 ^ 31 → s .width ≤ d → finding s (some t) ((t .base + d) % 2 ^ 32) ≡ hides 12
   unfolding finding
   found-past h k = rw (place-ahead (t .base) d small h, le-ltb d (s .width) k)
 
-  pub found-behind : 2 ^ 31 ≤ d → finding s t ((t .base + d) % 2 ^ 32) ≡ hides 8
+  pub found-behind : 2 ^ 31 ≤ d → finding s (some t) ((t .base + d) % 2 ^ 32) ≡ hides 8
   unfolding finding
   found-behind h = rw (place-behind (t .base) d small h)
 
 -- The ADU call.
-module _ (s : Setting) (t : State s) (M : Starts) (room d : ℕ) (small : d < 2 ^ 32) where
+module _ (s : Setting) (t : Joined s) (M : Starts) (room d : ℕ) (small : d < 2 ^ 32) where
   pub adu-inside : d < 2 ^ 31 → d < s .width
-      → aduAt s t M room ((t .base + d) % 2 ^ 32) ≡ handing (s .size) (s .width) room M (seen (s .size) (s .width) (t .window)) d
+      → aduAt s (some t) M room ((t .base + d) % 2 ^ 32) ≡ handing (s .size) (s .width) room M (seen (s .size) (s .width) (t .window)) d
   unfolding aduAt need
   adu-inside h k = rw (place-ahead (t .base) d small h, lt-ltb d (s .width) k)
 
-  pub adu-past : d < 2 ^ 31 → s .width ≤ d → aduAt s t M room ((t .base + d) % 2 ^ 32) ≡ withholds 12
+  pub adu-past : d < 2 ^ 31 → s .width ≤ d → aduAt s (some t) M room ((t .base + d) % 2 ^ 32) ≡ withholds 12
   unfolding aduAt need
   adu-past h k = rw (place-ahead (t .base) d small h, le-ltb d (s .width) k)
 
-  pub adu-behind : 2 ^ 31 ≤ d → aduAt s t M room ((t .base + d) % 2 ^ 32) ≡ withholds 8
+  pub adu-behind : 2 ^ 31 ≤ d → aduAt s (some t) M room ((t .base + d) % 2 ^ 32) ≡ withholds 8
   unfolding aduAt
   adu-behind h = rw (place-behind (t .base) d small h)

@@ -1,6 +1,7 @@
 -- What the checks before 11 leave of a packet: where it lies, what it says, and that it fits the window.
-use mathlib.Core.Path.{_≡_, refl, sym, _∙_, subst}
-use mathlib.Core.Bool.{Bool, true, false}
+use mathlib.Core.Path.{_≡_, refl, sym, ap, _∙_, subst}
+use mathlib.Core.Bool.{Bool, true, false, _&&_}
+use mathlib.Core.Option.{Option, none, some}
 use mathlib.Core.List.{List, [], _∷_, _++_}
 use Prim.Native.Nat.{ℕ, zero, suc, _+_, _-_, _*_, _%_, _^_, _≤_, _<_}
 use native.Mathlib.Nat.{mod-lt, suc-mul}
@@ -10,20 +11,23 @@ use lib.Seq.{getD-drop}
 use lib.Dec.{ltb, leb, lit<}
 use borrow.Author.Tests.{ltb-true, leb-true, eqb-true}
 use Rattle.memory.specs.Part.{part}
-use Rattle.memory.specs.Number.{bytes, Bytes}
-use Rattle.memory.proofs.Number.{bytes-part}
+use Rattle.memory.specs.Number.{number, bytes, Bytes}
+use Rattle.memory.proofs.Parts.{length-part}
+use Rattle.memory.proofs.Number.{number-lt, bytes-part}
 use Rattle.wire.specs.declared.Scheme.{Scheme}
 use Rattle.wire.specs.declared.Setting.{Setting}
 use Rattle.wire.specs.Numbers.{within, distanceOf}
 use Rattle.wire.specs.Packets.{zeros, chunks, symbolCount, adui, sourceSymbols, sourceForm, sourceAdu, sourceEsi, repairCount, repairForm, repairKey}
 use Rattle.wire.specs.Packets.{densityThreshold, protectedCount, firstEsi, repairSymbols}
+use Rattle.wire.specs.Settings.{Valid}
 use Rattle.wire.proofs.Settings.{both, within-bounds}
 use Rattle.wire.proofs.Adui.{length-adui, symbols-count}
 use Rattle.coefficients.specs.Coefficients.{keys, listsOf}
 use Rattle.coefficients.proofs.Lists.{length-keys, list-bytes}
-use Rattle.receiver.specs.History.{Located, source, repair, ahead, placeOf, Call, source-call, repair-call}
-use Rattle.receiver.specs.History.{OfBytes, Reading, located, check, placed, readSource, readRepair, workingSize, readPacket, reading}
-use Rattle.receiver.proofs.Cases.{IsLocated, packet-path}
+use Rattle.receiver.specs.History.{Located, source, repair, first, ahead, placeOf, Call, source-call, repair-call, baseFor, Log, baseOf, readAfter}
+use Rattle.receiver.specs.History.{OfBytes, esiOf, Reading, fails, located, check, placed, readSource, readRepair, workingSize, readPacket, reading}
+use Rattle.receiver.proofs.Cases.{IsLocated, packet-path, number-in}
+use Rattle.receiver.proofs.Places.{placed-taken}
 use Rattle.receiver.proofs.Says.{Wholes, AllBytes}
 use Rattle.receiver.proofs.Answers.{Fits}
 
@@ -167,3 +171,74 @@ module _ (s : Setting) where
   -- Whatever passes the checks lies ahead of the base, is no longer than the window, and has symbols of E bytes.
   pub reading-fits : 0 < E → (base room : ℕ) (c : Call) (q : Located) → OfBytes c → reading s base room c ≡ located q → Fits s base q
   reading-fits z base room c q b h = read-fits z base c q b (reading-passed base room c q h)
+
+-- ---- Joining
+
+-- A number of four bytes is below 2^32.
+four-bytes : (a : ℕ) (p : List ℕ) → a + 4 ≤ length p → Bytes p → number (part a 4 p) < 2 ^ 32
+four-bytes a p h b = rw (length-part a 4 p h) at (number-lt (part a 4 p) (bytes-part a 4 p b))
+
+source-small : (p : List ℕ) → sourceForm p ≡ true → Bytes p → sourceEsi p < 2 ^ 32
+unfolding sourceForm sourceEsi
+source-small p f b = four-bytes (length p - 4) p (omega (arith, leb-true 4 (length p) f)) b
+
+repair-small : (E : ℕ) (p : List ℕ) → repairForm E p ≡ true → Bytes p → firstEsi p < 2 ^ 32
+unfolding repairForm firstEsi
+repair-small E p f b =
+    let l : length p ≡ 8 + repairCount E p * E = eqb-true (length p) (8 + repairCount E p * E) (both (within 1 16 (repairCount E p)) _ f .1) in
+    four-bytes 4 p (omega (arith, l)) b
+
+-- An ESI lies at its own position.
+at-itself : (e : ℕ) → e < 2 ^ 32 → e + distanceOf e (e % 2 ^ 32) ≡ e
+at-itself e h = omega arith
+
+-- A packet that finds no base begins at its own first ESI.
+pub joins-at : (s : Setting) (room : ℕ) (c : Call) (q : Located) → OfBytes c → reading s (esiOf c) room c ≡ located q → first q ≡ esiOf c
+joins-at s room (source-call flow p) q (f, b) h =
+    let r = source-read s (sourceEsi p) flow p q (reading-passed s (sourceEsi p) room (source-call flow p) q h) in
+    ap first (sym (r .says)) ∙ at-itself (sourceEsi p) (source-small p (r .form) b)
+joins-at s room (repair-call p) q b h =
+    let r = repair-read s (firstEsi p) p q (reading-passed s (firstEsi p) room (repair-call p) q h) in
+    ap first (sym (r .says)) ∙ at-itself (firstEsi p) (repair-small (s .size) p (r .form) b)
+
+-- A check that does not fail with a number, nor what comes after it.
+not-check : (k : ℕ) (t : Bool) (n : ℕ) (r : Reading) → (n ≡ k → ⊥) → (t ≡ true → r ≡ fails k → ⊥) → check t n r ≡ fails k → ⊥
+unfolding check
+not-check k true n r a b e = b refl e
+not-check k false n r a b e = a (ap number-in e)
+
+-- n symbols at the base itself.
+placed-here : (n e : ℕ) (next : ℕ → Reading) → e < 2 ^ 32 → n ≤ 65536 → placed n (placeOf e e) next ≡ next 0
+placed-here n e next small h =
+    let z : e ≡ (e + 0) % 2 ^ 32 = omega arith in
+    ap (λ x. placed n (placeOf e x) next) z ∙ placed-taken e 0 (omega arith) n next (omega arith) (omega arith)
+
+-- Neither 8 nor 9 can stop it.
+pub joins-near : (s : Setting) → Valid s → (room : ℕ) (c : Call) → OfBytes c → (k : ℕ) → 8 ≤ k → k ≤ 9 → reading s (esiOf c) room c ≡ fails k → ⊥
+unfolding reading readSource readRepair
+joins-near s v room (source-call flow p) (f, b) k lo hi =
+    let n = symbolCount (s .size) (length (sourceAdu p)) in
+    not-check k _ 2 _ (λ e. omega (arith, e))
+    (λ _. not-check k (sourceForm p) 5 _ (λ e. omega (arith, e))
+    (λ form. not-check k (leb (length (sourceAdu p)) 65535 && leb n (s .width)) 4 _ (λ e. omega (arith, e))
+    (λ fits h.
+    let few = leb-true n (s .width) (both (leb (length (sourceAdu p)) 65535) _ fits .1) in
+    subst IsLocated (sym (placed-here n (sourceEsi p) _ (source-small p form b) (omega (arith, few, v .width-most))) ∙ h) tt)))
+joins-near s v room (repair-call p) b k lo hi =
+    not-check k _ 2 _ (λ e. omega (arith, e))
+    (λ _. not-check k (repairForm (s .size) p) 5 _ (λ e. omega (arith, e))
+    (λ form. not-check k (within 1 (s .width) (protectedCount p)) 6 _ (λ e. omega (arith, e))
+    (λ fits h.
+    let few = within-bounds 1 (s .width) (protectedCount p) fits .1 in
+    not-check k _ 10 _ (λ e. omega (arith, e)) (λ _ g. subst IsLocated g tt)
+    (sym (placed-here (protectedCount p) (firstEsi p) _ (repair-small (s .size) p form b) (omega (arith, few, v .width-most))) ∙ h))))
+
+-- What a call's packet has passed after a history.
+pub reading-passes : (s : Setting) → 0 < s .size → (l : Log) (room : ℕ) (c : Call) (q : Located) → OfBytes c → readAfter s l room c ≡ located q
+    → Fits s (baseFor (baseOf s l) (esiOf c)) q × (baseFor (baseOf s l) (first q) ≡ baseFor (baseOf s l) (esiOf c))
+reading-passes s z l room c q b h =
+    (reading-fits s z (baseFor (baseOf s l) (esiOf c)) room c q b h, go (baseOf s l) h)
+  where
+    go : (o : Option ℕ) → reading s (baseFor o (esiOf c)) room c ≡ located q → baseFor o (first q) ≡ baseFor o (esiOf c)
+    go none k = joins-at s room c q b k
+    go (some x) k = refl

@@ -20,6 +20,8 @@ use Rattle.elimination.specs.Window.{place, Fits}
 use Rattle.elimination.specs.Packet as packet
 use Rattle.starts.specs.Starts.{Starts, moved, pass, seen}
 use Rattle.starts.specs.MarkSteps.{owning}
+use Rattle.starts.proofs.Settling.{unseen-settled}
+use Rattle.starts.proofs.Gaining.{unseen-empty}
 use Rattle.receiver.specs.declared.Answer.{Answer}
 use Rattle.receiver.specs.declared.Answer.the-variants.{Done, Refused}
 use Rattle.receiver.specs.declared.Header.{Header}
@@ -27,17 +29,17 @@ use Rattle.receiver.specs.declared.packet.PacketPlace.{PacketPlace}
 use Rattle.receiver.specs.declared.packet.PlaceFound.the-variants.{PlaceIs, Out}
 use Rattle.receiver.specs.declared.packet.Gathered.{Gathered}
 use Rattle.receiver.specs.declared.packet.Gathered.the-variants.{All, Contradiction}
-use Rattle.receiver.specs.History.{Located, source, repair, first, named, placeOf, placed, Call, Reading, fails, located, check, memorySize, workingSize, reading}
+use Rattle.receiver.specs.History.{Located, source, repair, first, named, placeOf, placed, Call, esiOf, Reading, fails, located, check, memorySize, workingSize, reading}
 use Rattle.receiver.specs.History.{value}
-use Rattle.receiver.specs.Model.{State, Outcome, packetOf, added, responds, receiving, stateAfter, naming, startsAfter, marking}
+use Rattle.receiver.specs.Model.{Joined, State, foundBy, Outcome, packetOf, added, responds, answering, stateAfter, naming, startsAfter, marking}
 use Rattle.receiver.specs.Header.{headerIn}
 use Rattle.receiver.specs.Promises.{Contained, Follows, Received}
-use Rattle.receiver.specs.Layout.{headerOf, Holds, Marks, receiverLayout}
+use Rattle.receiver.specs.Layout.{headerFrom, headerOf, Stands, Holds, MarksFrom, Marks, receiverLayout}
+use Rattle.receiver.specs.Inner.{headerFor, Based}
 use Rattle.receiver.specs.Steps.{placeAt, placeFound, Comes, WorksOn, firsts, Lies, Gathers, PlacedBy, Accepted}
 use Rattle.receiver.proofs.Cases.{IsRefusal, numeral}
-use Rattle.receiver.proofs.Headers.{header-fits}
+use Rattle.receiver.proofs.Headers.{header-fits, based-fits, setting-held, found-header, found-stands}
 use Rattle.receiver.proofs.Locating.{distance, found-at, at-placed, out-placed, out-other}
-use Rattle.receiver.proofs.Finishing.{header-held}
 use Rattle.receiver.proofs.Gathering.{contained-none}
 
 pub received-unopened : (c : Call) (m v : List ℕ) → headerIn m ≡ none → Received receiverLayout c m m v v (Refused refusals.Unopened)
@@ -50,9 +52,17 @@ received-unopened c m v e = record {
   starts = λ s t M k _. absurd (Option·none-ne-some (headerOf s t) (sym e ∙ k .header));
 }
 
--- The marks after a call, by what was read of it and what it came to.
-abbrev MarksBy : (s : Setting) (t : State s) (M : Starts) (m′ : List ℕ) → Reading → Outcome s → Type 0
-MarksBy s t M m′ x y = Marks m′ s (stateAfter t y) (marking s t M x y)
+-- The marks after a call that finds the receiver as j, by what was read of it and what it came to.
+abbrev MarksBy : (s : Setting) (t : State s) (j : Joined s) (M : Starts) (m′ : List ℕ) → Reading → Outcome s → Type 0
+MarksBy s t j M m′ x y = Marks m′ s (stateAfter t y) (marking s j M x y)
+
+-- Before any base they are marks wherever it will be.
+found-marks : (m : List ℕ) (s : Setting) (t : State s) (e : ℕ) (M : Starts) → Marks m s t M → MarksFrom m s (foundBy s t e) M
+found-marks m s none e M k = record {
+  bytes = k (e % s .width);
+  settled = unseen-settled (s .size) (s .width) _ _ M (λ i _. unseen-empty (s .size) (s .width) i);
+}
+found-marks m s (some t) e M k = k
 
 -- ---- What a place asks of the memories
 
@@ -61,7 +71,7 @@ pub record Ready (at : PacketPlace) (m v : List ℕ) : Type 0 where
   pub works : packet.Works (at .shape .width) (at .shape .size) 0 v
   pub base : at .shape .base < at .shape .width
   pub first : at .first < at .shape .width
-  pub small : at .shape .base < 65536
+  pub small : at .shape .base < 65535
   pub rise : at .rise ≤ 65536
 
 module _ (h : Header) (e n : ℕ) (at : PacketPlace) (q : PlaceIs at ≡ placeFound h e n) where
@@ -74,11 +84,11 @@ module _ (h : Header) (e n : ℕ) (at : PacketPlace) (q : PlaceIs at ≡ placeFo
   pub place-size : at .shape .size ≡ h .setting .size
   place-size = ap (λ p. p .shape .size) place-is
 
-  module _ (m v : List ℕ) (has : headerIn m ≡ some h) (room : workingSize (h .setting) ≤ length v) where
+  module _ (m v : List ℕ) (has : Based m h) (room : workingSize (h .setting) ≤ length v) where
     pub ready : Ready at m v
     ready =
         let f = found-at h e n at q in
-        let g = header-fits m h has in
+        let g = based-fits m h has in
         let d : ℕ = distance h e n in
         let b = mod-lt (h .row + (d + n - h .setting .width)) (g .some-width) in
         subst (λ x. Ready x m v) (sym (f .at))
@@ -107,7 +117,7 @@ module _ (h : Header) (e n : ℕ) (at : PacketPlace) (q : PlaceIs at ≡ placeFo
     -- What accepting asks, once the equations are gathered.
     pub accept-asks : (v′ : List ℕ) (r : Gathered) (kept own : ℕ) → r ≡ All kept
         → WorksOn (at .shape .width) (at .shape .size) v′ r → own ≤ n → n ≤ h .setting .width
-        → (headerIn m ≡ some h) × packet.Works (h .setting .width) (h .setting .size) kept v′ × (at .shape .base < 65536) × (at .rise ≤ 65536)
+        → Based m h × packet.Works (h .setting .width) (h .setting .size) kept v′ × (at .shape .base < 65535) × (at .rise ≤ 65536)
         × PlacedBy h at own
     accept-asks v′ r kept own z g l f =
         let k = subst (WorksOn (at .shape .width) (at .shape .size) v′) z g in
@@ -127,7 +137,7 @@ named-of E (source p vs) = refl
 named-of E (repair p n cs vs) = refl
 
 -- By a packet's rise and equations.
-received-by : (s : Setting) (t : State s) (p : decoder.Packet (Coded (s .size))) (rise : ℕ) → decoder.rise t p ≡ rise
+received-by : (s : Setting) (t : Joined s) (p : decoder.Packet (Coded (s .size))) (rise : ℕ) → decoder.rise t p ≡ rise
     → (o : Option (model.State (Coded (s .size)) (s .width)))
     → decoder.insert-all (decoder.over (Coded (s .size)) (s .width) (t .base + rise) p) (decoder.advance-by rise (t .window)) ≡ o
     → decoder.receive t p ≡ decoder.and-then o (λ S. some (record { base = t .base + rise; window = S }))
@@ -141,8 +151,8 @@ received-by s t p rise e o f =
     ∙ ap (λ x. decoder.and-then x (λ S. some (record { base = t .base + rise; window = S }))) f
 
 -- By the state's base, the place is where the packet lies in the window.
-lies-at : (s : Setting) (t : State s) (d n : ℕ) → 0 < n → n ≤ s .width
-    → Lies (placeAt (headerOf s t) d n) (placeAt (headerOf s t) d n .first) n (t .base) (d - (d + n - s .width))
+lies-at : (s : Setting) (t : Joined s) (d n : ℕ) → 0 < n → n ≤ s .width
+    → Lies (placeAt (headerFrom s t) d n) (placeAt (headerFrom s t) d n .first) n (t .base) (d - (d + n - s .width))
 lies-at s t d n pos fits =
     let w : ℕ = s .width in
     let e : t .base + (d + n - w) + (d - (d + n - w)) ≡ t .base + d = omega arith in
@@ -157,152 +167,192 @@ lies-at s t d n pos fits =
 -- ---- A call on memory with a header
 
 module _ (c : Call) (m v : List ℕ) (h : Header) (has : headerIn m ≡ some h) where
-  -- A state that the memory holds has the header's setting, and a base with its ESI.
-  reads : (x : ℕ → Reading) → ((b : ℕ) → b % 2 ^ 32 ≡ h .base .0 → reading (h .setting) b (length v) c ≡ x b)
-      → (s : Setting) (t : State s) → h ≡ headerOf s t → reading s (t .base) (length v) c ≡ x (t .base)
-  reads x f s t e =
-      subst (λ (y : Header). reading (y .setting) (t .base) (length v) c ≡ x (t .base)) e (f (t .base) (sym (ap (λ (y : Header). y .base .0) e)))
-
-  -- A check fails.
-  pub received-refused : (r : Refusal) → numberOf r ≢ 3
-      → ((b : ℕ) → b % 2 ^ 32 ≡ h .base .0 → reading (h .setting) b (length v) c ≡ fails (numberOf r)) → Received receiverLayout c m m v v (Refused r)
-  unfolding receiving
-  received-refused r other says = record {
+  -- A check fails, whatever state the memory holds.
+  refused-by : (r : Refusal) → numberOf r ≢ 3
+      → ((s : Setting) (t : State s) → Holds m s t → reading s (foundBy s t (esiOf c) .base) (length v) c ≡ fails (numberOf r))
+      → Received receiverLayout c m m v v (Refused r)
+  unfolding answering
+  refused-by r other says = record {
     unopened = ((λ q. absurd (other (ap numeral q))), (λ q. absurd (Option·none-ne-some h (sym q ∙ has))));
     untouched = λ _. refl;
     refused = λ n q. refl;
     contained = λ h′ q. (contained-none, contained-none);
     follows = λ s t k.
-        subst (λ x. Follows receiverLayout s (responds s t x) m m (Refused r)) (sym (reads (λ b. fails (numberOf r)) says s t (header-held m h s t has k)))
-        (refl, refl);
+        subst (λ x. Follows receiverLayout s (responds s (foundBy s t (esiOf c)) x) m m (Refused r)) (sym (says s t k)) (refl, refl);
     starts = λ s t M k g.
-        subst (λ x. MarksBy s t M m x (responds s t x)) (sym (reads (λ b. fails (numberOf r)) says s t (header-held m h s t has k))) g;
+        let j = foundBy s t (esiOf c) in
+        subst (λ x. MarksBy s t j M m x (responds s j x)) (sym (says s t k)) g;
   }
+
+  -- A check fails, wherever the base is.
+  pub received-refused : (r : Refusal) → numberOf r ≢ 3 → ((b : ℕ) → reading (h .setting) b (length v) c ≡ fails (numberOf r))
+      → Received receiverLayout c m m v v (Refused r)
+  received-refused r other says =
+      refused-by r other
+      (λ s t k.
+      subst (λ x. (b : ℕ) → reading x b (length v) c ≡ fails (numberOf r)) (setting-held m h s t has k) says (foundBy s t (esiOf c) .base))
 
   -- Working memory is too short.
   pub received-short : length v < workingSize (h .setting) → Received receiverLayout c m m v v (Refused refusals.Short)
   unfolding reading check
-  received-short l = received-refused refusals.Short (λ z. omega arith) (λ b e. rw (lt-leb (workingSize (h .setting)) (length v) l))
+  received-short l = received-refused refusals.Short (λ z. omega arith) (λ b. rw (lt-leb (workingSize (h .setting)) (length v) l))
 
-  -- The checks before the packet's place have passed.
-  module _ (e n : ℕ) (next : ℕ → ℕ → Reading) (says : (b : ℕ) → reading (h .setting) b (length v) c ≡ placed n (placeOf b e) (next b)) where
-    pub received-out : (r : Refusal) → Out r ≡ placeFound h e n → Received receiverLayout c m m v v (Refused r)
-    received-out r q = received-refused r (out-other h e n r q) (λ b esi. says b ∙ out-placed h e n b esi (next b) r q)
+  -- The packet's first ESI is e; the header for it is g.
+  module _ (e : ℕ) (begins : e ≡ esiOf c) where
+    abbrev g : Header
+    g = headerFor h e
 
-    pub reading-at : (at : PacketPlace) → PlaceIs at ≡ placeFound h e n → (b : ℕ) → b % 2 ^ 32 ≡ h .base .0
-        → reading (h .setting) b (length v) c ≡ next b (distance h e n)
-    reading-at at q b esi = says b ∙ at-placed h e n b esi (next b) at (found-at h e n at q)
+    -- The receiver as the packet finds it has that header.
+    header-found : (s : Setting) (t : State s) → Holds m s t → g ≡ headerFrom s (foundBy s t (esiOf c))
+    header-found s t k = subst (λ x. headerFor h e ≡ headerFrom s (foundBy s t x)) begins (found-header m h s t e has k)
 
-  -- All checks have passed: the packet is q p, where p is its first position, and its equations g have been gathered at its place.
-  module _ (n d count : ℕ) (at : PacketPlace) (is : at ≡ placeAt h d n) (pos : 0 < n) (fits : n ≤ h .setting .width) (q : ℕ → Located)
-      (from : (p : ℕ) → first (q p) ≡ p) (names : (p : ℕ) → named (q p) ≡ n)
-      (says : (b : ℕ) → b % 2 ^ 32 ≡ h .base .0 → reading (h .setting) b (length v) c ≡ located (q (b + d)))
-      (g : (w E : ℕ) → ℕ → ℕ → model.Row (Coded E) w)
-      (spell : (b i : ℕ) → decoder.over (Coded (h .setting .size)) (h .setting .width) b (packetOf (h .setting .size) (q (b + i)))
-      ≡ firsts (g (h .setting .width) (h .setting .size) i) count)
-      (v′ : List ℕ) (r : Gathered) (f : Gathers at n (g (at .shape .width) (at .shape .size)) count r m v v′) where
-    work-kept : Contained (workingSize (h .setting)) v v′
-    work-kept = subst (λ (p : PacketPlace). Contained (place (p .shape .width) (p .shape .size) (p .shape .width + 1)) v v′) is (f .contained)
+    -- So it has the header's setting, and a base with its ESI.
+    reads : (x : ℕ → Reading) → ((b : ℕ) → b % 2 ^ 32 ≡ g .base .0 → reading (h .setting) b (length v) c ≡ x b)
+        → (s : Setting) (j : Joined s) → g ≡ headerFrom s j → reading s (j .base) (length v) c ≡ x (j .base)
+    reads x f s j q =
+        subst (λ (y : Header). reading (y .setting) (j .base) (length v) c ≡ x (j .base)) q (f (j .base) (sym (ap (λ (y : Header). y .base .0) q)))
 
-    module _ (s : Setting) (t : State s) (k : Holds m s t) where
-      e : h ≡ headerOf s t
-      e = header-held m h s t has k
+    -- A check fails, by the place of the base.
+    pub received-stopped : (r : Refusal) → numberOf r ≢ 3
+        → ((b : ℕ) → b % 2 ^ 32 ≡ g .base .0 → reading (h .setting) b (length v) c ≡ fails (numberOf r)) → Received receiverLayout c m m v v (Refused r)
+    received-stopped r other says =
+        refused-by r other (λ s t k. reads (λ b. fails (numberOf r)) says s (foundBy s t (esiOf c)) (header-found s t k))
 
-      here : at ≡ placeAt (headerOf s t) d n
-      here = is ∙ ap (λ x. placeAt x d n) e
+    -- The checks before the packet's place have passed.
+    module _ (n : ℕ) (next : ℕ → ℕ → Reading) (says : (b : ℕ) → reading (h .setting) b (length v) c ≡ placed n (placeOf b e) (next b)) where
+      pub received-out : (r : Refusal) → Out r ≡ placeFound g e n → Received receiverLayout c m m v v (Refused r)
+      received-out r q = received-stopped r (out-other g e n r q) (λ b esi. says b ∙ out-placed g e n b esi (next b) r q)
 
-      -- The model's packet, and what its equations come to.
-      abbrev p : decoder.Packet (Coded (s .size))
-      p = packetOf (s .size) (q (t .base + d))
+      pub reading-at : (at : PacketPlace) → PlaceIs at ≡ placeFound g e n → (b : ℕ) → b % 2 ^ 32 ≡ g .base .0
+          → reading (h .setting) b (length v) c ≡ next b (distance g e n)
+      reading-at at q b esi = says b ∙ at-placed g e n b esi (next b) at (found-at g e n at q)
 
-      abbrev ComesAt : PacketPlace → Type 0
-      ComesAt at =
-          Comes (s .width) (s .size) (t .base + at .rise) (decoder.advance-by (at .rise) (t .window)) v′
-          (decoder.over (Coded (s .size)) (s .width) (t .base + at .rise) p) r
+    -- All checks have passed: the packet is q p, where p is its first position, and its equations `rows` have been gathered at its place.
+    module _ (n d count : ℕ) (at : PacketPlace) (is : at ≡ placeAt g d n) (pos : 0 < n) (fits : n ≤ h .setting .width) (q : ℕ → Located)
+        (from : (p : ℕ) → first (q p) ≡ p) (names : (p : ℕ) → named (q p) ≡ n)
+        (says : (b : ℕ) → b % 2 ^ 32 ≡ g .base .0 → reading (h .setting) b (length v) c ≡ located (q (b + d)))
+        (rows : (w E : ℕ) → ℕ → ℕ → model.Row (Coded E) w)
+        (spell : (b i : ℕ) → decoder.over (Coded (h .setting .size)) (h .setting .width) b (packetOf (h .setting .size) (q (b + i)))
+        ≡ firsts (rows (h .setting .width) (h .setting .size) i) count)
+        (v′ : List ℕ) (r : Gathered) (f : Gathers at n (rows (at .shape .width) (at .shape .size)) count r m v v′) where
+      work-kept : Contained (workingSize (h .setting)) v v′
+      work-kept = subst (λ (p : PacketPlace). Contained (place (p .shape .width) (p .shape .size) (p .shape .width + 1)) v v′) is (f .contained)
 
-      comes : ComesAt at
-      comes =
-          let i : ℕ = d + n - s .width in
-          let b : ℕ = t .base + i in
-          let w : h .setting .width ≡ s .width = ap (λ (y : Header). y .setting .width) e in
-          let x : b + (d - i) ≡ t .base + d = omega (arith, w) in
-          let spelt = subst (λ (y : Header). (b i : ℕ) → decoder.over (Coded (y .setting .size)) (y .setting .width) b (packetOf (y .setting .size) (q (b + i)))
-          ≡ firsts (g (y .setting .width) (y .setting .size) i) count) e spell in
-          let f′ = subst (λ (y : PacketPlace). Gathers y n (g (y .shape .width) (y .shape .size)) count r m v v′) here f in
-          subst ComesAt (sym here)
-          (subst (λ es. Comes (s .width) (s .size) b (decoder.advance-by i (t .window)) v′ es r)
-          (sym (spelt b (d - i)) ∙ ap (λ (y : ℕ). decoder.over (Coded (s .size)) (s .width) b (packetOf (s .size) (q y))) x)
-          (f′ .outcome (t .base) (d - i) (t .window) (lies-at s t d n pos (omega (arith, w))) (k .rows) (k .reduced)))
+      module _ (s : Setting) (t : Joined s) (is-header : g ≡ headerFrom s t) (k : Stands m s t) where
+        here : at ≡ placeAt (headerFrom s t) d n
+        here = is ∙ ap (λ x. placeAt x d n) is-header
 
-      rises : decoder.rise t p ≡ at .rise
-      unfolding decoder.rise
-      rises =
-          let x : at .rise ≡ d + n - s .width = ap (λ y. y .rise) here in
-          omega (arith, x, first-of (s .size) (q (t .base + d)), named-of (s .size) (q (t .base + d)), from (t .base + d), names (t .base + d))
+        -- The model's packet, and what its equations come to.
+        abbrev p : decoder.Packet (Coded (s .size))
+        p = packetOf (s .size) (q (t .base + d))
 
-      -- What the call does is what the model says of the packet.
-      does-by : (m′ : List ℕ) (a : Answer) (o : Option (model.State (Coded (s .size)) (s .width)))
-          → decoder.insert-all (decoder.over (Coded (s .size)) (s .width) (t .base + at .rise) p) (decoder.advance-by (at .rise) (t .window)) ≡ o
-          → Follows receiverLayout s (added s t (decoder.and-then o (λ S. some (record { base = t .base + at .rise; window = S })))) m m′ a
-          → Follows receiverLayout s (receiving s t (length v) c) m m′ a
-      unfolding receiving
-      does-by m′ a o i x =
-          subst (λ y. Follows receiverLayout s (responds s t y) m m′ a) (sym (reads (λ b. located (q (b + d))) says s t e))
-          (subst (λ y. Follows receiverLayout s (added s t y) m m′ a) (sym (received-by s t p (at .rise) rises o i)) x)
+        abbrev ComesAt : PacketPlace → Type 0
+        ComesAt at =
+            Comes (s .width) (s .size) (t .base + at .rise) (decoder.advance-by (at .rise) (t .window)) v′
+            (decoder.over (Coded (s .size)) (s .width) (t .base + at .rise) p) r
 
-      -- And so are the marks.
-      marks-by : (M : Starts) (m′ : List ℕ) (o : Option (model.State (Coded (s .size)) (s .width)))
-          → decoder.insert-all (decoder.over (Coded (s .size)) (s .width) (t .base + at .rise) p) (decoder.advance-by (at .rise) (t .window)) ≡ o
-          → MarksBy s t M m′ (located (q (t .base + d))) (added s t (decoder.and-then o (λ S. some (record { base = t .base + at .rise; window = S }))))
-          → MarksBy s t M m′ (reading s (t .base) (length v) c) (receiving s t (length v) c)
-      unfolding receiving
-      marks-by M m′ o i x =
-          subst (λ y. MarksBy s t M m′ y (responds s t y)) (sym (reads (λ b. located (q (b + d))) says s t e))
-          (subst (λ y. MarksBy s t M m′ (located (q (t .base + d))) (added s t y)) (sym (received-by s t p (at .rise) rises o i)) x)
+        comes : ComesAt at
+        comes =
+            let i : ℕ = d + n - s .width in
+            let b : ℕ = t .base + i in
+            let w : h .setting .width ≡ s .width = ap (λ (y : Header). y .setting .width) is-header in
+            let x : b + (d - i) ≡ t .base + d = omega (arith, w) in
+            let spelt = subst (λ (y : Header). (b i : ℕ) → decoder.over (Coded (y .setting .size)) (y .setting .width) b (packetOf (y .setting .size) (q (b + i)))
+            ≡ firsts (rows (y .setting .width) (y .setting .size) i) count) is-header spell in
+            let f′ = subst (λ (y : PacketPlace). Gathers y n (rows (y .shape .width) (y .shape .size)) count r m v v′) here f in
+            subst ComesAt (sym here)
+            (subst (λ es. Comes (s .width) (s .size) b (decoder.advance-by i (t .window)) v′ es r)
+            (sym (spelt b (d - i)) ∙ ap (λ (y : ℕ). decoder.over (Coded (s .size)) (s .width) b (packetOf (s .size) (q y))) x)
+            (f′ .outcome (t .base) (d - i) (t .window) (lies-at s t d n pos (omega (arith, w))) (k .rows) (k .reduced)))
 
-      -- The marks that the model makes of the packet.
-      models : (M : Starts) (T : model.State (Coded (s .size)) (s .width)) (own : ℕ)
-          → ((N : Starts) → naming s (t .base + at .rise) (q (t .base + d)) N ≡ owning (at .offset) own N)
-          → pass (s .size) (seen (s .size) (s .width) T) (s .width) (owning (at .offset) own (moved (s .width) (at .rise) M))
-          ≡ startsAfter s t (record { base = t .base + at .rise; window = T }) (q (t .base + d)) M
-      unfolding startsAfter
-      models M T own owns =
-          let rose : t .base + at .rise - t .base ≡ at .rise = omega arith in
-          ap (λ N. pass (s .size) (seen (s .size) (s .width) T) (s .width) N)
-          (sym (owns (moved (s .width) (at .rise) M))
-          ∙ ap (λ x. naming s (t .base + at .rise) (q (t .base + d)) (moved (s .width) x M)) (sym rose))
+        rises : decoder.rise t p ≡ at .rise
+        unfolding decoder.rise
+        rises =
+            let x : at .rise ≡ d + n - s .width = ap (λ y. y .rise) here in
+            omega (arith, x, first-of (s .size) (q (t .base + d)), named-of (s .size) (q (t .base + d)), from (t .base + d), names (t .base + d))
 
-    pub received-contradiction : r ≡ Contradiction → Received receiverLayout c m m v v′ (Refused refusals.Contradiction)
-    received-contradiction z = record {
-      unopened = ((λ x. let y = ap numeral x in absurd (omega (arith, y))), (λ x. absurd (Option·none-ne-some h (sym x ∙ has))));
-      untouched = λ x. absurd (Option·none-ne-some h (sym x ∙ has));
-      refused = λ n x. refl;
-      contained = λ h′ x.
-          subst (λ (y : Header). Contained (memorySize (y .setting)) m m × Contained (workingSize (y .setting)) v v′)
-          (Option·some-injective h h′ (sym has ∙ x)) (contained-none, work-kept);
-      follows = λ s t k. does-by s t k m (Refused refusals.Contradiction) none (subst (Comes _ _ _ _ v′ _) z (comes s t k)) (refl, refl);
-      starts = λ s t M k g. marks-by s t k M m none (subst (Comes _ _ _ _ v′ _) z (comes s t k)) g;
-    }
+        -- What the call does is what the model says of the packet.
+        does-by : (m′ : List ℕ) (a : Answer) (o : Option (model.State (Coded (s .size)) (s .width)))
+            → decoder.insert-all (decoder.over (Coded (s .size)) (s .width) (t .base + at .rise) p) (decoder.advance-by (at .rise) (t .window)) ≡ o
+            → Follows receiverLayout s (added s t (decoder.and-then o (λ S. some (record { base = t .base + at .rise; window = S })))) m m′ a
+            → Follows receiverLayout s (answering s t (length v) c) m m′ a
+        unfolding answering
+        does-by m′ a o i x =
+            subst (λ y. Follows receiverLayout s (responds s t y) m m′ a) (sym (reads (λ b. located (q (b + d))) says s t is-header))
+            (subst (λ y. Follows receiverLayout s (added s t y) m m′ a) (sym (received-by s t p (at .rise) rises o i)) x)
 
-    row-is : (s : Setting) (t : State s) → Holds m s t → at .shape .base ≡ (t .base + at .rise) % s .width
-    row-is s t k =
-        subst (λ (y : PacketPlace). y .shape .base ≡ (t .base + y .rise) % s .width) (sym (here s t k)) (mod-add-mod (t .base) (s .width) (d + n - s .width))
+        -- And so are the marks, after the state u.
+        marks-by : (u : State s) (M : Starts) (m′ : List ℕ) (o : Option (model.State (Coded (s .size)) (s .width)))
+            → decoder.insert-all (decoder.over (Coded (s .size)) (s .width) (t .base + at .rise) p) (decoder.advance-by (at .rise) (t .window)) ≡ o
+            → MarksBy s u t M m′ (located (q (t .base + d))) (added s t (decoder.and-then o (λ S. some (record { base = t .base + at .rise; window = S }))))
+            → MarksBy s u t M m′ (reading s (t .base) (length v) c) (answering s t (length v) c)
+        unfolding answering
+        marks-by u M m′ o i x =
+            subst (λ y. MarksBy s u t M m′ y (responds s t y)) (sym (reads (λ b. located (q (b + d))) says s t is-header))
+            (subst (λ y. MarksBy s u t M m′ (located (q (t .base + d))) (added s t y)) (sym (received-by s t p (at .rise) rises o i)) x)
 
-    -- It has `own` symbols of its own.
-    pub received-done : (own : ℕ) → ((s : Setting) (b : ℕ) (N : Starts) → naming s (b + at .rise) (q (b + d)) N ≡ owning (at .offset) own N)
-        → (kept known : ℕ) (m′ : List ℕ) → r ≡ All kept → Accepted h at kept own known v′ m m′ → Received receiverLayout c m m′ v v′ (Done known)
-    received-done own owns kept known m′ z done = record {
-      unopened = ((λ x. absurd (subst IsRefusal (sym x) tt)), (λ x. absurd (Option·none-ne-some h (sym x ∙ has))));
-      untouched = λ x. absurd (Option·none-ne-some h (sym x ∙ has));
-      refused = λ n x. absurd (subst IsRefusal (sym x) tt);
-      contained = λ h′ x.
-          subst (λ (y : Header). Contained (memorySize (y .setting)) m m′ × Contained (workingSize (y .setting)) v v′)
-          (Option·some-injective h h′ (sym has ∙ x)) (done .contained, work-kept);
-      follows = λ s t k.
-          let (T, i, held, counted, marks) = done .outcome s t _ k (row-is s t k) (subst (Comes _ _ _ _ v′ _) z (comes s t k)) in
-          does-by s t k m′ (Done known) (some T) i (ap value counted, held);
-      starts = λ s t M k g.
-          let (T, i, held, counted, marks) = done .outcome s t _ k (row-is s t k) (subst (Comes _ _ _ _ v′ _) z (comes s t k)) in
-          marks-by s t k M m′ (some T) i
-          (subst (λ N. Marks m′ s (record { base = t .base + at .rise; window = T }) N) (models s t k M T own (owns s (t .base))) (marks M g));
-    }
+        -- The marks that the model makes of the packet.
+        models : (M : Starts) (T : model.State (Coded (s .size)) (s .width)) (own : ℕ)
+            → ((N : Starts) → naming s (t .base + at .rise) (q (t .base + d)) N ≡ owning (at .offset) own N)
+            → pass (s .size) (seen (s .size) (s .width) T) (s .width) (owning (at .offset) own (moved (s .width) (at .rise) M))
+            ≡ startsAfter s t (record { base = t .base + at .rise; window = T }) (q (t .base + d)) M
+        unfolding startsAfter
+        models M T own owns =
+            let rose : t .base + at .rise - t .base ≡ at .rise = omega arith in
+            ap (λ N. pass (s .size) (seen (s .size) (s .width) T) (s .width) N)
+            (sym (owns (moved (s .width) (at .rise) M))
+            ∙ ap (λ x. naming s (t .base + at .rise) (q (t .base + d)) (moved (s .width) x M)) (sym rose))
+
+        row-is : at .shape .base ≡ (t .base + at .rise) % s .width
+        row-is = subst (λ (y : PacketPlace). y .shape .base ≡ (t .base + y .rise) % s .width) (sym here) (mod-add-mod (t .base) (s .width) (d + n - s .width))
+
+      -- The rows of the receiver as the packet finds it.
+      stands-found : (s : Setting) (t : State s) → Holds m s t → Stands m s (foundBy s t (esiOf c))
+      stands-found s t k =
+          found-stands m s t (esiOf c)
+          (subst (λ (x : Setting). 0 < x .size) (setting-held m h s t has k) (omega (arith, header-fits m h has .some-symbol))) k
+
+      comes-found : (s : Setting) (t : State s) (k : Holds m s t) → ComesAt s (foundBy s t (esiOf c)) (header-found s t k) (stands-found s t k) at
+      comes-found s t k = comes s (foundBy s t (esiOf c)) (header-found s t k) (stands-found s t k)
+
+      pub received-contradiction : r ≡ Contradiction → Received receiverLayout c m m v v′ (Refused refusals.Contradiction)
+      received-contradiction z = record {
+        unopened = ((λ x. let y = ap numeral x in absurd (omega (arith, y))), (λ x. absurd (Option·none-ne-some h (sym x ∙ has))));
+        untouched = λ x. absurd (Option·none-ne-some h (sym x ∙ has));
+        refused = λ n x. refl;
+        contained = λ h′ x.
+            subst (λ (y : Header). Contained (memorySize (y .setting)) m m × Contained (workingSize (y .setting)) v v′)
+            (Option·some-injective h h′ (sym has ∙ x)) (contained-none, work-kept);
+        follows = λ s t k.
+            does-by s (foundBy s t (esiOf c)) (header-found s t k) (stands-found s t k) m (Refused refusals.Contradiction) none
+            (subst (Comes _ _ _ _ v′ _) z (comes-found s t k)) (refl, refl);
+        starts = λ s t M k i.
+            marks-by s (foundBy s t (esiOf c)) (header-found s t k) (stands-found s t k) t M m none
+            (subst (Comes _ _ _ _ v′ _) z (comes-found s t k)) i;
+      }
+
+      -- It has `own` symbols of its own.
+      pub received-done : (own : ℕ) → ((s : Setting) (b : ℕ) (N : Starts) → naming s (b + at .rise) (q (b + d)) N ≡ owning (at .offset) own N)
+          → (kept known : ℕ) (m′ : List ℕ) → r ≡ All kept → Accepted g at kept own known v′ m m′ → Received receiverLayout c m m′ v v′ (Done known)
+      received-done own owns kept known m′ z done = record {
+        unopened = ((λ x. absurd (subst IsRefusal (sym x) tt)), (λ x. absurd (Option·none-ne-some h (sym x ∙ has))));
+        untouched = λ x. absurd (Option·none-ne-some h (sym x ∙ has));
+        refused = λ n x. absurd (subst IsRefusal (sym x) tt);
+        contained = λ h′ x.
+            subst (λ (y : Header). Contained (memorySize (y .setting)) m m′ × Contained (workingSize (y .setting)) v v′)
+            (Option·some-injective h h′ (sym has ∙ x)) (done .contained, work-kept);
+        follows = λ s t k.
+            let j = foundBy s t (esiOf c) in
+            let e = header-found s t k in
+            let l = stands-found s t k in
+            let (T, i, held, counted, marks) = done .outcome s j _ e l (row-is s j e l) (subst (Comes _ _ _ _ v′ _) z (comes-found s t k)) in
+            does-by s j e l m′ (Done known) (some T) i (ap value counted, held);
+        starts = λ s t M k b.
+            let j = foundBy s t (esiOf c) in
+            let e = header-found s t k in
+            let l = stands-found s t k in
+            let (T, i, held, counted, marks) = done .outcome s j _ e l (row-is s j e l) (subst (Comes _ _ _ _ v′ _) z (comes-found s t k)) in
+            marks-by s j e l t M m′ (some T) i
+            (subst (λ N. MarksFrom m′ s (record { base = j .base + at .rise; window = T }) N) (models s j e l M T own (owns s (j .base)))
+            (marks M (found-marks m s t (esiOf c) M b)));
+      }

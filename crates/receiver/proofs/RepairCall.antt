@@ -30,16 +30,18 @@ use Rattle.receiver.specs.declared.packet.PacketPlace.{PacketPlace}
 use Rattle.receiver.specs.declared.packet.Gathered.{Gathered}
 use Rattle.receiver.specs.declared.packet.Gathered.the-variants.{All, Contradiction}
 use Rattle.receiver.specs.declared.packet.PlaceFound.the-variants.{PlaceIs, Out}
-use Rattle.receiver.specs.History.{Located, repair, named, Call, repair-call, Reading, located, check, placeOf, placed, workingSize, readRepair, reading}
+use Rattle.receiver.specs.History.{Located, repair, named, Call, repair-call, esiOf, Reading, located, check, placeOf, placed, workingSize, readRepair, reading}
 use Rattle.receiver.specs.Model.{packetOf}
 use Rattle.receiver.specs.Header.{headerIn}
 use Rattle.receiver.specs.Promises.{drawsFor, Received}
 use Rattle.receiver.specs.Layout.{receiverLayout}
+use Rattle.receiver.specs.Inner.{headerFor}
 use Rattle.receiver.specs.Steps.{placeFound, firsts, Gathers, Accepted}
 use Rattle.receiver.specs.RepairSteps.{equationAt}
+use Rattle.receiver.proofs.Headers.{based}
 use Rattle.receiver.proofs.Locating.{distance}
 use Rattle.receiver.proofs.Repairing.{repair-equations}
-use Rattle.receiver.proofs.Receiving.{place-is, place-width, place-size, ready, received-refused, received-out, reading-at, received-contradiction, received-done}
+use Rattle.receiver.proofs.Receiving.{place-is, place-width, place-size, ready, received-refused, received-stopped, received-out, reading-at, received-contradiction, received-done}
 
 -- ---- What reading the packet found
 
@@ -99,7 +101,7 @@ module _ (p m v : List ℕ) (h : Header) (has : headerIn m ≡ some h) (lent : w
 
   pub call-form : (x : Refusal) → NoRepair x ≡ repairHeaderOf E p → Received receiverLayout c m m v v (Refused refusals.Form)
   unfolding reading check readRepair
-  call-form x q = received-refused c m v h has refusals.Form (λ z. omega arith) (λ b e. rw (enough, no-form (repairForm E p) E p refl x q))
+  call-form x q = received-refused c m v h has refusals.Form (λ z. omega arith) (λ b. rw (enough, no-form (repairForm E p) E p refl x q))
 
   module _ (f : RepairFields) (read : Repair f ≡ repairHeaderOf E p) where
     is : f ≡ repairFields E p
@@ -112,34 +114,41 @@ module _ (p m v : List ℕ) (h : Header) (has : headerIn m ≡ some h) (lent : w
 
     pub call-range : within 1 width (f .nss) ≡ false → Received receiverLayout c m m v v (Refused refusals.Range)
     unfolding reading check readRepair
-    call-range e = received-refused c m v h has refusals.Range (λ z. omega arith) (λ b q. rw (enough, formed E p f read, rw is at e))
+    call-range e = received-refused c m v h has refusals.Range (λ z. omega arith) (λ b. rw (enough, formed E p f read, rw is at e))
 
     module _ (fits : within 1 width (f .nss) ≡ true) where
       says : (b : ℕ) → reading (h .setting) b (length v) c ≡ placed (f .nss) (placeOf b (f .first .0)) (next b)
       unfolding reading check readRepair
       says b = rw is (rw (enough, formed E p f read, rw is at fits))
 
-      pub call-out : (r : Refusal) → Out r ≡ placeFound h (f .first .0) (f .nss) → Received receiverLayout c m m v v (Refused r)
-      call-out r q = received-out c m v h has (f .first .0) (f .nss) next says r q
+      -- The header for the packet, whose first ESI is this.
+      abbrev g : Header
+      g = headerFor h (f .first .0)
 
-      module _ (at : PacketPlace) (found : PlaceIs at ≡ placeFound h (f .first .0) (f .nss)) where
+      begins : f .first .0 ≡ esiOf c
+      begins = ap (λ y. y .first .0) is
+
+      pub call-out : (r : Refusal) → Out r ≡ placeFound g (f .first .0) (f .nss) → Received receiverLayout c m m v v (Refused r)
+      call-out r q = received-out c m v h has (f .first .0) begins (f .nss) next says r q
+
+      module _ (at : PacketPlace) (found : PlaceIs at ≡ placeFound g (f .first .0) (f .nss)) where
         -- What gathering asks.
         pub gather-asks : (lists : List ℕ) → f .count * f .nss ≤ length lists
             → Fits (at .shape .width) (at .shape .size) m × Works (at .shape .width) (at .shape .size) 0 v × (at .shape .base < at .shape .width)
             × (at .first < at .shape .width) × (f .nss ≤ at .shape .width) × (f .count * f .nss ≤ length lists)
             × (8 + f .count * at .shape .size ≤ length p) × (f .count ≤ 16)
         gather-asks lists room =
-            let g = ready h (f .first .0) (f .nss) at found m v has lent in
-            let n : f .nss ≤ at .shape .width = rw (place-width h (f .first .0) (f .nss) at found) (within-bounds 1 width (f .nss) fits .1) in
+            let k = ready g (f .first .0) (f .nss) at found m v (based m h (f .first .0) has) lent in
+            let n : f .nss ≤ at .shape .width = rw (place-width g (f .first .0) (f .nss) at found) (within-bounds 1 width (f .nss) fits .1) in
             let l : 8 + f .count * at .shape .size ≤ length p =
-            rw (place-size h (f .first .0) (f .nss) at found, sized E p f read .1) (omega arith) in
-            (g .fits, g .works, g .base, g .first, n, room, l, sized E p f read .0)
+            rw (place-size g (f .first .0) (f .nss) at found, sized E p f read .1) (omega arith) in
+            (k .fits, k .works, k .base, k .first, n, room, l, sized E p f read .0)
 
         abbrev d : ℕ
-        d = distance h (f .first .0) (f .nss)
+        d = distance g (f .first .0) (f .nss)
 
-        drawn-next : (b : ℕ) → b % 2 ^ 32 ≡ h .base .0 → reading (h .setting) b (length v) c ≡ next b d
-        drawn-next = reading-at c m v h has (f .first .0) (f .nss) next says at found
+        drawn-next : (b : ℕ) → b % 2 ^ 32 ≡ g .base .0 → reading (h .setting) b (length v) c ≡ next b d
+        drawn-next = reading-at c m v h has (f .first .0) begins (f .nss) next says at found
 
         ok-of : (t : Bool) → allOk scheme (f .dt) (f .nss) (keys (f .key .0) (f .count)) ≡ t
             → allOk scheme (densityThreshold p) n ks ≡ t
@@ -148,10 +157,10 @@ module _ (p m v : List ℕ) (h : Header) (has : headerIn m ≡ some h) (lent : w
         pub call-draws : allOk scheme (f .dt) (f .nss) (keys (f .key .0) (f .count)) ≡ false
             → Received receiverLayout c m m v v (Refused refusals.Draws)
         unfolding check
-        call-draws e = received-refused c m v h has refusals.Draws (λ z. omega arith) (λ b q. drawn-next b q ∙ rw (ok-of false e))
+        call-draws e = received-stopped c m v h has (f .first .0) begins refusals.Draws (λ z. omega arith) (λ b q. drawn-next b q ∙ rw (ok-of false e))
 
         module _ (drawn : allOk scheme (f .dt) (f .nss) (keys (f .key .0) (f .count)) ≡ true) where
-          located-next : (b : ℕ) → b % 2 ^ 32 ≡ h .base .0 → reading (h .setting) b (length v) c ≡ located (packetAt (b + d))
+          located-next : (b : ℕ) → b % 2 ^ 32 ≡ g .base .0 → reading (h .setting) b (length v) c ≡ located (packetAt (b + d))
           unfolding check
           located-next b q = drawn-next b q ∙ rw (ok-of true drawn)
 
@@ -180,13 +189,13 @@ module _ (p m v : List ℕ) (h : Header) (has : headerIn m ≡ some h) (lent : w
 
             pub call-contradicts : r ≡ Contradiction → Received receiverLayout c m m v v′ (Refused refusals.Contradiction)
             call-contradicts =
-                received-contradiction c m v h has (f .nss) d (f .count) at (place-is h (f .first .0) (f .nss) at found)
+                received-contradiction c m v h has (f .first .0) begins (f .nss) d (f .count) at (place-is g (f .first .0) (f .nss) at found)
                 (within-bounds 1 width (f .nss) fits .0) (within-bounds 1 width (f .nss) fits .1) (packetAt) (λ x. refl) named-nss
                 located-next (λ w E. equationAt w E (f .nss) lists p) spelt v′ r gathered
 
-            pub call-done : (kept known : ℕ) (m′ : List ℕ) → r ≡ All kept → Accepted h at kept 0 known v′ m m′
+            pub call-done : (kept known : ℕ) (m′ : List ℕ) → r ≡ All kept → Accepted g at kept 0 known v′ m m′
                 → Received receiverLayout c m m′ v v′ (Done known)
             call-done =
-                received-done c m v h has (f .nss) d (f .count) at (place-is h (f .first .0) (f .nss) at found)
+                received-done c m v h has (f .first .0) begins (f .nss) d (f .count) at (place-is g (f .first .0) (f .nss) at found)
                 (within-bounds 1 width (f .nss) fits .0) (within-bounds 1 width (f .nss) fits .1) (packetAt) (λ x. refl) named-nss
                 located-next (λ w E. equationAt w E (f .nss) lists p) spelt v′ r gathered 0 (λ s b N. refl)

@@ -35,6 +35,7 @@ use Rattle.receiver.specs.Model.{packetOf, naming}
 use Rattle.receiver.specs.Header.{headerIn}
 use Rattle.receiver.specs.Promises.{Received}
 use Rattle.receiver.specs.Layout.{receiverLayout}
+use Rattle.receiver.specs.Inner.{headerFor}
 use Rattle.receiver.specs.Steps.{placeFound, firsts, Gathers, Accepted}
 use Rattle.receiver.specs.SourceSteps.{equationOf}
 use Rattle.receiver.proofs.Headers.{headed}
@@ -103,14 +104,14 @@ module _ (flow : ℕ) (p m v : List ℕ) (h : Header) (has : headerIn m ≡ some
 
   pub call-form : sourceForm p ≡ false → Received receiverLayout c m m v v (Refused refusals.Form)
   unfolding reading check readSource
-  call-form l = received-refused c m v h has refusals.Form (λ z. omega arith) (λ b e. rw (enough, l))
+  call-form l = received-refused c m v h has refusals.Form (λ z. omega arith) (λ b. rw (enough, l))
 
   module _ (f : SourceFields) (reads : Fields p f) where
     pub call-long : 65535 < f .len → Received receiverLayout c m m v v (Refused refusals.Long)
     unfolding reading check readSource
     call-long l =
         received-refused c m v h has refusals.Long (λ z. omega arith)
-        (λ b e. rw (enough, reads .form, lt-leb (length (sourceAdu p)) 65535 (omega (arith, reads .len))))
+        (λ b. rw (enough, reads .form, lt-leb (length (sourceAdu p)) 65535 (omega (arith, reads .len))))
 
     module _ (short : f .len ≤ 65535) (count : ℕ) (counts : count ≡ symbolCount E (f .len)) where
       short-adu : leb (length (sourceAdu p)) 65535 ≡ true
@@ -123,7 +124,7 @@ module _ (flow : ℕ) (p m v : List ℕ) (h : Header) (has : headerIn m ≡ some
       unfolding reading check readSource
       call-many l =
           received-refused c m v h has refusals.Long (λ z. omega arith)
-          (λ b e. rw (enough, reads .form, short-adu, lt-leb n width (omega (arith, counted))))
+          (λ b. rw (enough, reads .form, short-adu, lt-leb n width (omega (arith, counted))))
 
       module _ (fits : count ≤ width) where
         -- The packet with its first symbol at a position.
@@ -140,10 +141,14 @@ module _ (flow : ℕ) (p m v : List ℕ) (h : Header) (has : headerIn m ≡ some
         spelt : (b i : ℕ) → decoder.over (Coded E) width b (packetOf E (q (b + i))) ≡ firsts (equationOf width E flow (sourceAdu p) i) count
         spelt b i = source-equations width E b i flow (sourceAdu p) ∙ ap (firsts (equationOf width E flow (sourceAdu p) i)) counted
 
-        pub call-out : (r : Refusal) → Out r ≡ placeFound h (f .first .0) count → Received receiverLayout c m m v v (Refused r)
-        call-out r o = received-out c m v h has (f .first .0) count (λ b d. located (q (b + d))) says r o
+        -- The header for the packet.
+        abbrev g : Header
+        g = headerFor h (f .first .0)
 
-        module _ (at : PacketPlace) (found : PlaceIs at ≡ placeFound h (f .first .0) count) (adu v′ : List ℕ) (is : adu ≡ part 0 (f .len) p) (r : Gathered)
+        pub call-out : (r : Refusal) → Out r ≡ placeFound g (f .first .0) count → Received receiverLayout c m m v v (Refused r)
+        call-out r o = received-out c m v h has (f .first .0) (reads .esi) count (λ b d. located (q (b + d))) says r o
+
+        module _ (at : PacketPlace) (found : PlaceIs at ≡ placeFound g (f .first .0) count) (adu v′ : List ℕ) (is : adu ≡ part 0 (f .len) p) (r : Gathered)
             (gathered : Gathers at (symbolCount (at .shape .size) (length adu)) (equationOf (at .shape .width) (at .shape .size) flow adu) count r m v v′) where
           abbrev packet-is : PacketPlace → List ℕ → ℕ → Type 0
           packet-is y x k = Gathers y k (equationOf (y .shape .width) (y .shape .size) flow x) count r m v v′
@@ -151,7 +156,7 @@ module _ (flow : ℕ) (p m v : List ℕ) (h : Header) (has : headerIn m ≡ some
           -- The equations are those of the packet's ADU, as many as it has symbols.
           all-gathered : packet-is at (sourceAdu p) count
           all-gathered =
-              subst (packet-is at (sourceAdu p)) (ap (λ (x : ℕ). symbolCount x (length (sourceAdu p))) (place-size h (f .first .0) count at found) ∙ counted)
+              subst (packet-is at (sourceAdu p)) (ap (λ (x : ℕ). symbolCount x (length (sourceAdu p))) (place-size g (f .first .0) count at found) ∙ counted)
               (subst (λ (x : List ℕ). packet-is at x (symbolCount (at .shape .size) (length x))) (is ∙ reads .adu) gathered)
 
           some-symbol : 0 < count
@@ -159,27 +164,29 @@ module _ (flow : ℕ) (p m v : List ℕ) (h : Header) (has : headerIn m ≡ some
 
           pub call-contradicts : r ≡ Contradiction → Received receiverLayout c m m v v′ (Refused refusals.Contradiction)
           call-contradicts =
-              received-contradiction c m v h has count (distance h (f .first .0) count) count at (place-is h (f .first .0) count at found) some-symbol fits q
+              received-contradiction c m v h has (f .first .0) (reads .esi) count (distance g (f .first .0) count) count at
+              (place-is g (f .first .0) count at found) some-symbol fits q
               (λ x. refl) (λ x. adui.symbols-count flow (sourceAdu p) E ∙ counted)
-              (reading-at c m v h has (f .first .0) count (λ b d. located (q (b + d))) says at found)
+              (reading-at c m v h has (f .first .0) (reads .esi) count (λ b d. located (q (b + d))) says at found)
               (λ w E. equationOf w E flow (sourceAdu p)) spelt v′ r all-gathered
 
           -- Its symbols are its own.
-          owns : (s : Setting) (b : ℕ) (N : Starts) → naming s (b + at .rise) (q (b + distance h (f .first .0) count)) N ≡ owning (at .offset) count N
+          owns : (s : Setting) (b : ℕ) (N : Starts) → naming s (b + at .rise) (q (b + distance g (f .first .0) count)) N ≡ owning (at .offset) count N
           owns s b N =
-              let d : ℕ = distance h (f .first .0) count in
+              let d : ℕ = distance g (f .first .0) count in
               let l : length (sourceSymbols flow (sourceAdu p) E) ≡ count = adui.symbols-count flow (sourceAdu p) E ∙ counted in
-              let i = place-is h (f .first .0) count at found in
+              let i = place-is g (f .first .0) count at found in
               let o : at .offset ≡ d - (d + count - width) = ap (λ y. y .offset) i in
               let z : at .rise ≡ d + count - width = ap (λ y. y .rise) i in
               let x : b + d - (b + at .rise) ≡ at .offset = omega (arith, z, o) in
               let y : b + d + length (sourceSymbols flow (sourceAdu p) E) - (b + at .rise) ≡ at .offset + count = omega (arith, z, o, l, fits) in
               ap₂ (λ (j k : ℕ). also j (also k N)) x y ∙ sym (ap (λ t. cond t (also (at .offset) (also (at .offset + count) N)) N) (lt-ltb 0 count some-symbol))
 
-          pub call-done : (kept known : ℕ) (m′ : List ℕ) → r ≡ All kept → Accepted h at kept count known v′ m m′
+          pub call-done : (kept known : ℕ) (m′ : List ℕ) → r ≡ All kept → Accepted g at kept count known v′ m m′
               → Received receiverLayout c m m′ v v′ (Done known)
           call-done =
-              received-done c m v h has count (distance h (f .first .0) count) count at (place-is h (f .first .0) count at found) some-symbol fits q
+              received-done c m v h has (f .first .0) (reads .esi) count (distance g (f .first .0) count) count at
+              (place-is g (f .first .0) count at found) some-symbol fits q
               (λ x. refl) (λ x. adui.symbols-count flow (sourceAdu p) E ∙ counted)
-              (reading-at c m v h has (f .first .0) count (λ b d. located (q (b + d))) says at found)
+              (reading-at c m v h has (f .first .0) (reads .esi) count (λ b d. located (q (b + d))) says at found)
               (λ w E. equationOf w E flow (sourceAdu p)) spelt v′ r all-gathered count owns

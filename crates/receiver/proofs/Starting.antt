@@ -1,7 +1,7 @@
 -- The model's marks are the history's starts.
 use mathlib.Core.Path.{_≡_, refl, sym, ap, _∙_, subst}
 use mathlib.Core.Logic.{_↔_, _⊎_, inl, inr}
-use mathlib.Core.Bool.{true}
+use mathlib.Core.Bool.{true, true≢false}
 use mathlib.Core.Option.{Option, none, some, Option·none-ne-some, Option·some-injective}
 use mathlib.Core.List.{List, [], _∷_}
 use Prim.Native.Nat.{ℕ, suc, _+_, _-_, _≤_, _<_}
@@ -9,7 +9,6 @@ use native.Mathlib.Nat.{add-assoc, add-suc}
 use native.Mathlib.Decide.{decLt}
 use native.Mathlib.Omega.{arith}
 use lib.ListN.{length}
-use borrow.Author.Tests.{eqb-true, eq-eqb}
 use Rattle.wire.specs.declared.Setting.{Setting}
 use Rattle.memory.specs.Number.{Bytes}
 use Rattle.memory.proofs.Parts.{cons-eq}
@@ -18,7 +17,7 @@ use Rattle.decoder.specs.Model as model
 use Rattle.decoder.specs.Model.{known}
 use Rattle.decoder.specs.Receiver as decoder
 use Rattle.starts.specs.Adu.{View, needs}
-use Rattle.starts.specs.Starts.{Starts, zeroth, also, moved, pass, shown, seen}
+use Rattle.starts.specs.Starts.{Starts, nowhere, also, moved, pass, shown, seen}
 use Rattle.starts.proofs.Tests.{also-true, moved-true}
 use Rattle.starts.specs.Settled.{Reaches, seed, next}
 use Rattle.starts.proofs.Chaining.{pass-reaches}
@@ -26,10 +25,10 @@ use Rattle.starts.proofs.Giving.{known-past}
 use Rattle.starts.proofs.Handing.{Shows}
 use Rattle.receiver.specs.Symbol.{Symbol, bytesOf, symbolOf}
 use Rattle.receiver.specs.History.{Filling, symbolsAt, Located, source, repair, first, named, All, Consistent, Known, Reading, fails, located}
-use Rattle.receiver.specs.History.{Log, fresh, baseOf, raised, accept, logged, baseAfter, Spanned, MarkedBy, Reached, already, later, Start}
-use Rattle.receiver.specs.Model.{State, Outcome, refused, done, saidOf, stateAfter, responds, naming, startsAfter, marking}
+use Rattle.receiver.specs.History.{baseFor, Log, fresh, raised, baseOf, logged, Spanned, MarkedBy, Reached, already, later, Start}
+use Rattle.receiver.specs.Model.{Joined, State, foundBy, Outcome, refused, done, saidOf, stateAfter, responds, naming, startsAfter, marking}
 use Rattle.receiver.proofs.Says.{Whole, symbol-bytes, bytes-whole, head, rest}
-use Rattle.receiver.proofs.Answers.{Fits, Tracks, known-exactly, known-value, tracks-consistent, judged}
+use Rattle.receiver.proofs.Answers.{Tracks, TracksFrom, Passes, known-exactly, known-value, tracks-consistent, judged}
 
 -- What is seen from the base on is what is known there, with the bytes of every filling.
 pub record Sees (E : ℕ) (qs : List Located) (base : ℕ) (see : View) : Type 0 where
@@ -90,21 +89,21 @@ module _ (s : Setting) where
   open Setting s using (size as E, width)
 
   -- A start lies in the span.
-  reached-spanned : (qs : List Located) (A : ℕ → Type 0) {p : ℕ} → Reached s qs A p → Spanned s (baseAfter s qs) p
-  reached-spanned qs A (already a h) = h
-  reached-spanned qs A (later r l k f a h) = h
+  reached-spanned : (qs : List Located) (b : ℕ) (A : ℕ → Type 0) {p : ℕ} → Reached s qs b A p → Spanned s b p
+  reached-spanned qs b A (already a h) = h
+  reached-spanned qs b A (later r l k f a h) = h
 
-  pub start-spanned : (qs : List Located) (p : ℕ) → Start s qs p → Spanned s (baseAfter s qs) p
-  start-spanned [] p h = record { low = omega arith; high = omega arith }
-  start-spanned (q ∷ qs) p h = reached-spanned (q ∷ qs) _ h
+  pub start-spanned : (qs : List Located) (e p : ℕ) → Start s qs p → Spanned s (baseFor (baseOf s qs) e) p
+  start-spanned [] e p h = absurd h
+  start-spanned (q ∷ qs) e p h = reached-spanned (q ∷ qs) _ _ h
 
   -- The marks M are the starts after the packets qs.
   abbrev pub AreStarts : List Located → (base : ℕ) → Starts → Type 0
   AreStarts qs base M = (i : ℕ) → i ≤ width → (M i ≡ true) ↔ Start s qs (base + i)
 
   -- A packet q that fits is accepted after the packets qs, and the base rises from b to b′.
-  module _ (some-bytes : 0 < E) (q : Located) (qs : List Located) (b b′ : ℕ) (eb : b ≡ baseAfter s qs) (eb′ : b′ ≡ baseAfter s (q ∷ qs))
-      (ahead : b ≤ first q) (short : named q ≤ width) (M : Starts) (starts : AreStarts qs b M) (see : View) (sees : Sees E (q ∷ qs) b′ see) where
+  module _ (some-bytes : 0 < E) (q : Located) (qs : List Located) (b b′ : ℕ) (eb : b ≡ baseFor (baseOf s qs) (first q))
+      (eb′ : b′ ≡ raised s (baseOf s qs) q) (ahead : b ≤ first q) (short : named q ≤ width) (M : Starts) (starts : AreStarts qs b M) (see : View) (sees : Sees E (q ∷ qs) b′ see) where
     abbrev A : ℕ → Type 0
     A x = Start s qs x ⊎ MarkedBy s q x
 
@@ -120,7 +119,7 @@ module _ (s : Setting) where
 
     stayed : (p : ℕ) → Spanned s b′ p → Start s qs p → moved width (b′ - b) M (p - b′) ≡ true
     stayed p sp h =
-        let sq = start-spanned qs p h in
+        let sq = start-spanned qs (first q) p h in
         let l : b′ - b + (p - b′) ≤ width = omega (arith, eb, eb′, sp .low, sq .high) in
         let e : p ≡ b + (b′ - b + (p - b′)) = omega (arith, eb, eb′, sp .low, sq .low) in
         moved-true width (b′ - b) M (p - b′) .1 (l, starts (b′ - b + (p - b′)) l .1 (subst (Start s qs) e h))
@@ -150,7 +149,7 @@ module _ (s : Setting) where
     marked (repair x n cs vs) p sp (inl h) = stayed p sp h
     marked (repair x n cs vs) p sp (inr e) = absurd e
 
-    spanned : (j : ℕ) → j ≤ width → Spanned s (baseAfter s (q ∷ qs)) (b′ + j)
+    spanned : (j : ℕ) → j ≤ width → Spanned s (raised s (baseOf s qs) q) (b′ + j)
     spanned j h = record { low = omega (arith, eb′); high = omega (arith, eb′) }
 
     -- What the marks reach is what the starts reach.
@@ -162,12 +161,12 @@ module _ (s : Setting) where
         let e : bytesOf E (f (b′ + i)) ≡ v = Option·some-injective _ _ (sym (sees .shown i n f a) ∙ h) in
         let on : b′ + i + needs E (bytesOf E (f (b′ + i))) ≡ b′ + (i + needs E v) = add-assoc b′ i _ ∙ ap (λ x. b′ + (i + needs E x)) e in
         subst (Start s (q ∷ qs)) on
-        (later (reaches c (omega arith)) (omega (arith, eb′)) n f a (subst (Spanned s (baseAfter s (q ∷ qs))) (sym on) (spanned (i + needs E v) l)))
+        (later (reaches c (omega arith)) (omega (arith, eb′)) n f a (subst (Spanned s (raised s (baseOf s qs) q)) (sym on) (spanned (i + needs E v) l)))
 
-    reached : {p : ℕ} → Reached s (q ∷ qs) A p → Reaches E width see N (p - b′)
+    reached : {p : ℕ} → Reached s (q ∷ qs) (raised s (baseOf s qs) q) A p → Reaches E width see N (p - b′)
     reached {p} (already a sp) = seed (marked q p (subst (λ x. Spanned s x p) (sym eb′) sp) a)
     reached (later {p} r l k f a sp) =
-        let sr = reached-spanned (q ∷ qs) A r in
+        let sr = reached-spanned (q ∷ qs) _ A r in
         let e : b′ + (p - b′) ≡ p = omega (arith, eb′, sr .low) in
         let h : see (p - b′) ≡ some (bytesOf E (f p)) =
         sees .shown (p - b′) (subst (Known E (q ∷ qs)) (sym e) k) f a ∙ ap (λ x. some (bytesOf E (f x))) e in
@@ -187,50 +186,50 @@ module _ (s : Setting) where
 module _ (s : Setting) (some-bytes : 0 < s .size) where
   open Setting s using (size as E, width)
 
-  -- The marks follow the history.
-  pub record MarksTrack (l : Log) (M : Starts) : Type 0 where
-    pub base-is : baseOf l ≡ baseAfter s (l .accepted)
-    pub starts : AreStarts s (l .accepted) (baseOf l) M
+  -- The marks follow the history; before any base, wherever it will be.
+  abbrev pub MarksTrack : Log → Starts → Type 0
+  MarksTrack l M = (e : ℕ) → AreStarts s l (baseFor (baseOf s l) e) M
 
-  pub fresh-marks : MarksTrack fresh zeroth
-  fresh-marks = record { base-is = refl; starts = λ i h. ((λ e. omega (arith, eqb-true i 0 e)), (λ e. eq-eqb i 0 (omega arith))) }
+  pub fresh-marks : MarksTrack fresh nowhere
+  fresh-marks = λ e i h. ((λ n. absurd (true≢false (sym n))), (λ n. absurd n))
 
-  -- A state that follows the history sees what is known.
-  pub tracks-sees : (l : Log) (t : State s) → Tracks s some-bytes l t → Sees E (l .accepted) (baseOf l) (seen E width (t .window))
-  tracks-sees l t k = record {
-    filling = tracks-consistent s some-bytes l t k;
-    shown = λ i n f a. value i (known (t .window) i) refl (known-exactly s some-bytes l t k i .1 n) f a;
-    is-known = λ i v h. known-exactly s some-bytes l t k i .0 (there (known (t .window) i) v h);
+  -- A window that says what the packets say sees what is known.
+  pub tracks-sees : (qs : List Located) (t : Joined s) → TracksFrom s some-bytes qs t → Sees E qs (t .base) (seen E width (t .window))
+  tracks-sees qs t k = record {
+    filling = tracks-consistent s some-bytes qs t k;
+    shown = λ i n f a. value i (known (t .window) i) refl (known-exactly s some-bytes qs t k i .1 n) f a;
+    is-known = λ i v h. known-exactly s some-bytes qs t k i .0 (there (known (t .window) i) v h);
   }
     where
-      value : (i : ℕ) (o : Option (Symbol E)) → known (t .window) i ≡ o → decoder.Accepted o → (f : Filling E) → All E (l .accepted) f
-          → shown E o ≡ some (bytesOf E (f (baseOf l + i)))
+      value : (i : ℕ) (o : Option (Symbol E)) → known (t .window) i ≡ o → decoder.Accepted o → (f : Filling E) → All E qs f
+          → shown E o ≡ some (bytesOf E (f (t .base + i)))
       value i none e n f a = absurd n
-      value i (some v) e n f a = ap (λ x. some (bytesOf E x)) (sym (known-value s some-bytes l t k i v e f a))
+      value i (some v) e n f a = ap (λ x. some (bytesOf E x)) (sym (known-value s some-bytes qs t k i v e f a))
 
       there : (o : Option (Symbol E)) (v : List ℕ) → shown E o ≡ some v → decoder.Accepted o
       there none v h = absurd (Option·none-ne-some v h)
       there (some x) v h = tt
 
-  -- A packet that fits is accepted.
-  accepted : (l : Log) (t t′ : State s) (q : Located) (M : Starts) → Tracks s some-bytes l t → Fits s (baseOf l) q → Tracks s some-bytes (accept s l q) t′
-      → MarksTrack l M → MarksTrack (accept s l q) (startsAfter s t t′ q M)
+  -- A packet that passes, and finds the receiver as t, is accepted.
+  accepted : (l : Log) (t t′ : Joined s) (q : Located) (M : Starts) → Passes s some-bytes l (t .base) q → baseOf s (q ∷ l) ≡ some (t′ .base)
+      → TracksFrom s some-bytes (q ∷ l) t′ → MarksTrack l M → MarksTrack (q ∷ l) (startsAfter s t t′ q M)
   unfolding startsAfter
-  accepted l t t′ q M k g k′ h =
-      let e : baseOf (accept s l q) ≡ baseAfter s (q ∷ l .accepted) = ap (λ b. raised s b q) (h .base-is) in
-      let there : AreStarts s (q ∷ l .accepted) (t′ .base) (startsAfter s t t′ q M) =
-      starts-after s some-bytes q (l .accepted) (t .base) (t′ .base) (k .base-is ∙ h .base-is) (k′ .base-is ∙ e) (omega (arith, g .ahead, k .base-is))
-      (g .short) M (subst (λ b. AreStarts s (l .accepted) b M) (sym (k .base-is)) (h .starts)) (seen E width (t′ .window))
-      (subst (λ b. Sees E (q ∷ l .accepted) b (seen E width (t′ .window))) (sym (k′ .base-is)) (tracks-sees (accept s l q) t′ k′)) in
-      record { base-is = e; starts = subst (λ b. AreStarts s (q ∷ l .accepted) b (startsAfter s t t′ q M)) (k′ .base-is) there }
+  accepted l t t′ q M (g, at) rose k′ h =
+      let b : raised s (baseOf s l) q ≡ t′ .base = Option·some-injective _ _ rose in
+      let there : AreStarts s (q ∷ l) (t′ .base) (startsAfter s t t′ q M) =
+      starts-after s some-bytes q l (t .base) (t′ .base) (sym at) (sym b) (g .ahead) (g .short) M (subst (λ b. AreStarts s l b M) at (h (first q)))
+      (seen E width (t′ .window)) (tracks-sees (q ∷ l) t′ k′) in
+      λ _. subst (λ b. AreStarts s (q ∷ l) b (startsAfter s t t′ q M)) (sym b) there
 
-  -- The marks after a call follow the history after it.
-  pub marking-tracks : (l : Log) (t : State s) (r : Reading) (M : Starts) → Tracks s some-bytes l t → ((q : Located) → r ≡ located q → Fits s (baseOf l) q)
-      → MarksTrack l M → MarksTrack (logged s l r (saidOf (responds s t r))) (marking s t M r (responds s t r))
-  marking-tracks l t (fails m) M k fit h = h
-  marking-tracks l t (located q) M k fit h = go (responds s t (located q)) (judged s some-bytes l t (located q) k fit .1)
+  -- The marks after a call, whose packet begins at e, follow the history after it.
+  pub marking-tracks : (l : Log) (t : State s) (e : ℕ) (r : Reading) (M : Starts) → Tracks s some-bytes l t
+      → let j = foundBy s t e in
+      ((q : Located) → r ≡ located q → Passes s some-bytes l (j .base) q)
+      → MarksTrack l M → MarksTrack (logged s l r (saidOf (responds s j r))) (marking s j M r (responds s j r))
+  marking-tracks l t e (fails m) M k fit h = h
+  marking-tracks l t e (located q) M k fit h = go (responds s (foundBy s t e) (located q)) (judged s some-bytes l t e (located q) k fit .1)
     where
       go : (o : Outcome s) → Tracks s some-bytes (logged s l (located q) (saidOf o)) (stateAfter t o)
-          → MarksTrack (logged s l (located q) (saidOf o)) (marking s t M (located q) o)
+          → MarksTrack (logged s l (located q) (saidOf o)) (marking s (foundBy s t e) M (located q) o)
       go (refused n) k′ = h
-      go (done n t′) k′ = accepted l t t′ q M k (fit q refl) k′ h
+      go (done n t′) k′ = accepted l (foundBy s t e) t′ q M (fit q refl) (k′ .base-is) (k′ .from e) h

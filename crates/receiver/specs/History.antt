@@ -1,8 +1,9 @@
--- The receiver as a plain history (document 01, "Receiver, as a plain history"): what a packet says where it lies, which packets a list of
--- calls has accepted, where that has brought the base, and what the next call has to answer. No memory and no elimination stands here.
+-- The receiver as a plain history (document 01, "Receiver, as a plain history", and document 02, No. 2): what a packet says where it lies, which
+-- packets a list of calls has accepted, where that has brought the base, and what the next call has to answer. No memory and no elimination stands here.
 use mathlib.Core.Path.{_≡_}
 use mathlib.Core.Logic.{_↔_, _⊎_}
 use mathlib.Core.Bool.{Bool, true, false, cond, _&&_}
+use mathlib.Core.Option.{Option, none, some}
 use mathlib.Core.List.{List, [], _∷_, map}
 use Prim.Native.Nat.{ℕ, zero, suc, _+_, _-_, _*_, _%_, _^_, _≤_, _<_, max}
 use lib.ListN.{length}
@@ -34,7 +35,7 @@ abbrev pub named : Located → ℕ
 named (source p symbols) = length symbols
 named (repair p n coefficients symbols) = n
 
--- A filling gives E bytes to every position.
+-- A filling gives E bytes to every position. Positions count from the joining one on: whatever it gives to smaller numbers binds nothing.
 abbrev pub Filling : ℕ → Type 0
 Filling E = ℕ → Symbol E
 
@@ -83,6 +84,11 @@ pub data Call : Type 0 where
 abbrev pub OfBytes : Call → Type 0
 OfBytes (source-call flow packet) = (flow < 256) × Bytes packet
 OfBytes (repair-call packet) = Bytes packet
+
+-- The ESI of the first symbol that its packet names.
+abbrev pub esiOf : Call → ℕ
+esiOf (source-call flow packet) = sourceEsi packet
+esiOf (repair-call packet) = firstEsi packet
 
 -- What the checks that stand before 11 make of a call: the number of the first that fails, or the packet at its place.
 pub data Reading : Type 0 where
@@ -140,17 +146,22 @@ module _ (s : Setting) where
 
 -- ---- The history
 
--- What the calls so far have come to: the base, and the packets accepted, the last first.
-pub record Log : Type 0 where
-  pub base : ℕ
-  pub accepted : List Located
+-- What the calls so far have come to: the packets accepted, the last first.
+abbrev pub Log : Type 0
+Log = List Located
 
 abbrev pub fresh : Log
-fresh = record { base = 0; accepted = [] }
+fresh = []
 
--- The base. What is said of it is said through this.
-abbrev pub baseOf : Log → ℕ
-baseOf l = l .base
+-- The base for a packet that begins at a position: where there is none yet, that position.
+abbrev pub baseFor : Option ℕ → (first : ℕ) → ℕ
+baseFor none p = p
+baseFor (some b) p = b
+
+-- The position at which the packets joined: the first position of the first of them.
+abbrev pub joinedAt : Log → Option ℕ
+joinedAt [] = none
+joinedAt (q ∷ qs) = some (baseFor (joinedAt qs) (first q))
 
 -- What a call answers: a number, or the number of a refusal.
 pub data Said : Type 0 where
@@ -170,43 +181,44 @@ pub data Counted (P : ℕ → Type 0) : ℕ → ℕ → Type 0 where
 module _ (s : Setting) where
   open Setting s using (size as E, width)
 
-  -- Base rises, by the least needed, until the packet's last position fits.
-  abbrev pub raised : ℕ → Located → ℕ
-  raised base q = max base (first q + named q - width)
+  -- Base rises, by the least needed, until the packet's last position fits. The first packet sets it to its own first position.
+  abbrev pub raised : Option ℕ → Located → ℕ
+  raised base q = max (baseFor base (first q)) (first q + named q - width)
 
-  -- A packet is accepted.
-  abbrev pub accept : Log → Located → Log
-  accept l q = record { base = raised (baseOf l) q; accepted = q ∷ l .accepted }
+  -- The base after the packets; a fresh receiver has none.
+  abbrev pub baseOf : Log → Option ℕ
+  baseOf [] = none
+  baseOf (q ∷ l) = some (raised (baseOf l) q)
+
+  -- What the checks before 11 make of a call that is lent `room` bytes of working memory: where there is no base yet, the packet's first ESI is taken
+  -- for it.
+  abbrev pub readAfter : Log → (room : ℕ) → Call → Reading
+  readAfter l room c = reading s (baseFor (baseOf l) (esiOf c)) room c
 
   -- The log after a call that answered so: a packet is accepted when its call answers a count and no refusal.
   abbrev pub logged : Log → Reading → Said → Log
-  logged l (located q) (value n) = accept l q
+  logged l (located q) (value n) = q ∷ l
   logged l (located q) (refusal n) = l
   logged l (fails m) a = l
 
   -- A position that is known after a packet and was not before it.
   abbrev pub New : Log → Located → ℕ → Type 0
-  New l q p = Known E (q ∷ l .accepted) p × ¬ Known E (l .accepted) p
+  New l q p = Known E (q ∷ l) p × ¬ Known E l p
 
   -- What the next call has to answer.
   pub record Judged (l : Log) (r : Reading) (a : Said) : Type 0 where
     -- It is accepted exactly when it passes the checks and some filling satisfies it and all accepted before.
-    pub accepted : IsValue a ↔ ((q : Located) × (r ≡ located q) × Consistent E (q ∷ l .accepted))
+    pub accepted : IsValue a ↔ ((q : Located) × (r ≡ located q) × Consistent E (q ∷ l))
     -- The answer counts the positions of the new window that are known now and were not before.
-    pub counted : (q : Located) (k : ℕ) → r ≡ located q → a ≡ value k → Counted (λ i. New l q (baseOf (accept l q) + i)) width k
+    pub counted : (q : Located) (k : ℕ) → r ≡ located q → a ≡ value k → Counted (λ i. New l q (raised (baseOf l) q + i)) width k
     -- Where a check fails, the number is that of the first; where none does, 11 says that no filling satisfies it and all accepted before.
     pub failed : (m : ℕ) → r ≡ fails m → a ≡ refusal m
-    pub contradicts : (q : Located) → r ≡ located q → (a ≡ refusal 11) ↔ ¬ Consistent E (q ∷ l .accepted)
+    pub contradicts : (q : Located) → r ≡ located q → (a ≡ refusal 11) ↔ ¬ Consistent E (q ∷ l)
 
 -- ---- Starts
 
 module _ (s : Setting) where
   open Setting s using (size as E, width)
-
-  -- The base after packets, the last first.
-  abbrev pub baseAfter : List Located → ℕ
-  baseAfter [] = 0
-  baseAfter (q ∷ qs) = raised s (baseAfter qs) q
 
   -- A mark is kept from the base on up to base + width, that one included.
   pub record Spanned (base p : ℕ) : Type 0 where
@@ -218,15 +230,15 @@ module _ (s : Setting) where
   MarkedBy (source p symbols) x = (x ≡ p) ⊎ (x ≡ p + length symbols)
   MarkedBy (repair p n coefficients symbols) x = ⊥
 
-  -- After the packets qs, from the positions that are marked already: a marked known position of the window, whose L needs n symbols in what the
-  -- fillings hold there, marks the position n later.
-  pub data Reached (qs : List Located) (Already : ℕ → Type 0) : ℕ → Type 0 where
-    already : {p : ℕ} → Already p → Spanned (baseAfter qs) p → Reached qs Already p
-    later : {p : ℕ} → Reached qs Already p → p < baseAfter qs + width → Known E qs p → (f : Filling E) → All E qs f
-        → Spanned (baseAfter qs) (p + needs E (bytesOf E (f p))) → Reached qs Already (p + needs E (bytesOf E (f p)))
+  -- After the packets qs, with the base where they have brought it, from the positions that are marked already: a marked known position of the window,
+  -- whose L needs n symbols in what the fillings hold there, marks the position n later.
+  pub data Reached (qs : List Located) (base : ℕ) (Already : ℕ → Type 0) : ℕ → Type 0 where
+    already : {p : ℕ} → Already p → Spanned base p → Reached qs base Already p
+    later : {p : ℕ} → Reached qs base Already p → p < base + width → Known E qs p → (f : Filling E) → All E qs f
+        → Spanned base (p + needs E (bytesOf E (f p))) → Reached qs base Already (p + needs E (bytesOf E (f p)))
 
-  -- The positions that are marked as starts after the packets qs, the last first: position 0; and after every packet those marked before it, those
+  -- The positions that are marked as starts after the packets qs, the last first: none at first; and after every packet those marked before it, those
   -- that it marks, and those that they reach.
-  abbrev pub Start : List Located → ℕ → Type 0
-  Start [] p = p ≡ 0
-  Start (q ∷ qs) p = Reached (q ∷ qs) (λ x. Start qs x ⊎ MarkedBy q x) p
+  abbrev pub Start : Log → ℕ → Type 0
+  Start [] p = ⊥
+  Start (q ∷ qs) p = Reached (q ∷ qs) (raised s (baseOf s qs) q) (λ x. Start qs x ⊎ MarkedBy q x) p

@@ -1,22 +1,24 @@
 -- Contracts of inner functions: a reader need not believe these.
 use mathlib.Core.Path.{_≡_}
 use mathlib.Core.Logic.{_≢_}
+use mathlib.Core.Bool.{true, cond}
 use mathlib.Core.Option.{Option, none, some}
 use mathlib.Core.List.{List}
-use Prim.Native.Nat.{ℕ, _+_, _%_, _≤_, _<_}
+use Prim.Native.Nat.{ℕ, _+_, _%_, _^_, _≤_, _<_}
 use lib.ListN.{length}
 use Rattle.memory.specs.Part.{part, splice}
 use Rattle.wire.specs.declared.Setting.{Setting}
 use Rattle.wire.specs.declared.Refusal.the-variants.{Unopened}
 use Rattle.wire.specs.Numbers.{numberOf}
 use Rattle.wire.specs.Packets.{zeros}
-use Rattle.wire.specs.Settings.{settingBytes}
+use Rattle.wire.specs.Settings.{settingIn, settingBytes, Valid}
 use Rattle.receiver.specs.declared.Header.{Header}
 use Rattle.receiver.specs.declared.Found.{Found}
 use Rattle.receiver.specs.declared.Found.the-variants.{HeaderIs, NoHeader}
 use Rattle.receiver.specs.declared.Spot.{Spot}
 use Rattle.receiver.specs.declared.Spot.the-variants.{At, Nowhere}
 use Rattle.receiver.specs.Symbol.{Symbol, bytesOf}
+use Rattle.receiver.specs.History.{memorySize}
 use Rattle.receiver.specs.Model.{State, shows, hides, finding}
 use Rattle.receiver.specs.Header.{headerIn}
 use Rattle.receiver.specs.Layout.{Holds, symbolStart}
@@ -25,9 +27,25 @@ abbrev pub foundOf : Option Header → Found
 foundOf none = NoHeader
 foundOf (some h) = HeaderIs h
 
--- The memory with the header of a receiver whose base is 0.
+-- The memory with the header of a receiver that has no base.
 unfoldable pub freshHeader : Setting → List ℕ → List ℕ
 freshHeader s m = splice 8 (zeros 56) (splice 0 (settingBytes 2 s) m)
+
+-- The header for a packet whose first ESI is e: where there is no base yet, e is taken for it.
+abbrev pub headerFor : Header → (e : ℕ) → Header
+headerFor h e = record {
+  setting = h .setting;
+  joined = true;
+  row = cond (h .joined) (h .row) (e % h .setting .width);
+  base = cond (h .joined) (h .base) (record { 0 = e % 2 ^ 32 });
+}
+
+-- The memory has the setting of a header with a base, and room for its rows.
+pub record Based (m : List ℕ) (h : Header) : Type 0 where
+  pub setting : settingIn 2 m ≡ some (h .setting)
+  pub valid : Valid (h .setting)
+  pub room : memorySize (h .setting) ≤ length m
+  pub row-lt : h .row < h .setting .width
 
 -- The row of the position d after that of a row.
 pub record RowOf (row d width r : ℕ) : Type 0 where

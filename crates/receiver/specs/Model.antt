@@ -14,7 +14,7 @@ use Rattle.decoder.specs.Packets as packets
 use Rattle.starts.specs.Adu.{Handing, withholds, need, handing}
 use Rattle.starts.specs.Starts.{Starts, also, moved, pass, seen}
 use Rattle.receiver.specs.Symbol.{Symbol, symbolOf}
-use Rattle.receiver.specs.History.{Located, source, repair, Place, behind, ahead, placeOf, Call, Reading, fails, located, reading, Said, value}
+use Rattle.receiver.specs.History.{Located, source, repair, Place, behind, ahead, placeOf, Call, esiOf, Reading, fails, located, reading, Said, value}
 use Rattle.receiver.specs.History.{refusal}
 
 module _ (E : ℕ) where
@@ -29,18 +29,27 @@ module _ (E : ℕ) where
   packetOf (source p symbols) = packets.source (Coded E) p (length symbols) (λ i. symbolOf E (getD symbols i []))
   packetOf (repair p n coefficients symbols) = packets.repair (Coded E) p n (equations coefficients symbols)
 
--- The state of a receiver: the base, and the equations of the window from there on.
+-- A receiver that has a base: the base, and the equations of the window from there on.
+abbrev pub Joined : Setting → Type 0
+Joined s = decoder.Receiver (Coded (s .size)) (s .width)
+
+-- The state of a receiver: none before any base.
 abbrev pub State : Setting → Type 0
-State s = decoder.Receiver (Coded (s .size)) (s .width)
+State s = Option (Joined s)
 
--- Just opened: base 0, no equation.
+-- Just opened: no base.
 abbrev pub opened : (s : Setting) → State s
-opened s = decoder.fresh (Coded (s .size)) (s .width)
+opened s = none
 
--- What a packet call comes to: the number of a refusal; or how many positions have become known, and the state after it.
+-- As a packet that begins at a position finds it: where there is no base yet, that position is taken for it, and there is no equation.
+abbrev pub foundBy : (s : Setting) → State s → (first : ℕ) → Joined s
+foundBy s none p = decoder.fresh (Coded (s .size)) (s .width) p
+foundBy s (some t) p = t
+
+-- What a packet call comes to: the number of a refusal; or how many positions have become known, and the receiver after it.
 pub data Outcome (s : Setting) : Type 0 where
   refused : ℕ → Outcome s
-  done : ℕ → State s → Outcome s
+  done : ℕ → Joined s → Outcome s
 
 -- What it answers, and the state after it.
 module _ {s : Setting} where
@@ -50,7 +59,7 @@ module _ {s : Setting} where
 
   abbrev pub stateAfter : State s → Outcome s → State s
   stateAfter t (refused n) = t
-  stateAfter t (done n t′) = t′
+  stateAfter t (done n t′) = some t′
 
 -- What the symbol call comes to: a known symbol and its position, or the number of a refusal.
 pub data Finding (E : ℕ) : Type 0 where
@@ -60,31 +69,35 @@ pub data Finding (E : ℕ) : Type 0 where
 module _ (s : Setting) where
   open Setting s using (size as E, width)
 
-  abbrev pub added : State s → Option (State s) → Outcome s
+  abbrev pub added : Joined s → Option (Joined s) → Outcome s
   added t none = refused 11
   added t (some t′) = done (decoder.newly t t′) t′
 
   -- A call of which the checks before 11 have made this.
-  abbrev pub responds : State s → Reading → Outcome s
+  abbrev pub responds : Joined s → Reading → Outcome s
   responds t (fails n) = refused n
   responds t (located q) = added t (decoder.receive t (packetOf E q))
 
-  -- A packet call that is lent `room` bytes of working memory.
-  unfoldable pub receiving : State s → (room : ℕ) → Call → Outcome s
-  receiving t room c = responds t (reading s (t .base) room c)
+  -- A packet call that is lent `room` bytes of working memory, at a receiver that has a base; and at any.
+  unfoldable pub answering : Joined s → (room : ℕ) → Call → Outcome s
+  answering t room c = responds t (reading s (t .base) room c)
+
+  abbrev pub receiving : State s → (room : ℕ) → Call → Outcome s
+  receiving t room c = answering (foundBy s t (esiOf c)) room c
 
   abbrev pub shown : (position : ℕ) → Option (Symbol E) → Finding E
   shown p none = hides 12
   shown p (some v) = shows p v
 
   -- The symbol at a place: 8 behind the base; 12 past the window, or where it is not known.
-  abbrev pub symbolIn : State s → Place → Finding E
+  abbrev pub symbolIn : Joined s → Place → Finding E
   symbolIn t behind = hides 8
   symbolIn t (ahead d) = cond (ltb d width) (shown (t .base + d) (known (t .window) d)) (hides 12)
 
-  -- The symbol call for the ESI e.
+  -- The symbol call for the ESI e: before any base 12.
   unfoldable pub finding : State s → (e : ℕ) → Finding E
-  finding t e = symbolIn t (placeOf (t .base) e)
+  finding none e = hides 12
+  finding (some t) e = symbolIn t (placeOf (t .base) e)
 
 -- ---- Starts
 
@@ -97,20 +110,21 @@ module _ (s : Setting) where
   naming base (repair p n coefficients symbols) M = M
 
   -- The marks after a packet was accepted: those that stay, those that it makes, and those of the pass.
-  unfoldable pub startsAfter : (t t′ : State s) → Located → Starts → Starts
+  unfoldable pub startsAfter : (t t′ : Joined s) → Located → Starts → Starts
   startsAfter t t′ q M = pass E (seen E width (t′ .window)) width (naming (t′ .base) q (moved width (t′ .base - t .base) M))
 
   -- The marks after a call of which the checks before 11 have made this, and which has come to that.
-  abbrev pub marking : State s → Starts → Reading → Outcome s → Starts
+  abbrev pub marking : Joined s → Starts → Reading → Outcome s → Starts
   marking t M (located q) (done n t′) = startsAfter t t′ q M
   marking t M (located q) (refused n) = M
   marking t M (fails m) o = M
 
   -- The ADU call at a place: 8 behind the base, 12 past the window, else what the window hands out there.
-  abbrev pub aduIn : State s → Starts → (room : ℕ) → Place → Handing
+  abbrev pub aduIn : Joined s → Starts → (room : ℕ) → Place → Handing
   aduIn t M room behind = withholds 8
   aduIn t M room (ahead d) = need (ltb d width) 12 (handing E width room M (seen E width (t .window)) d)
 
-  -- The ADU call for the ESI e, with `room` bytes of output.
+  -- The ADU call for the ESI e, with `room` bytes of output: before any base 12.
   unfoldable pub aduAt : State s → Starts → (room e : ℕ) → Handing
-  aduAt t M room e = aduIn t M room (placeOf (t .base) e)
+  aduAt none M room e = withholds 12
+  aduAt (some t) M room e = aduIn t M room (placeOf (t .base) e)

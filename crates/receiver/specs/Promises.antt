@@ -17,15 +17,15 @@ use Rattle.coefficients.specs.Coefficients.{packetDraws}
 use Rattle.starts.specs.declared.Handed.{Handed}
 use Rattle.starts.specs.declared.Handed.the-variants.{Adu, Withheld}
 use Rattle.starts.specs.Adu.{HandedAs, Leaves}
-use Rattle.starts.specs.Starts.{Starts, zeroth}
+use Rattle.starts.specs.Starts.{Starts, nowhere}
 use Rattle.receiver.specs.declared.Answer.{Answer}
 use Rattle.receiver.specs.declared.Answer.the-variants.{Done, Refused}
 use Rattle.receiver.specs.declared.PacketAnswer.{PacketAnswer}
 use Rattle.receiver.specs.declared.PacketAnswer.the-variants.{Accepted, NotAccepted}
 use Rattle.receiver.specs.declared.Header.{Header}
 use Rattle.receiver.specs.Symbol.{bytesOf}
-use Rattle.receiver.specs.History.{Call, source-call, repair-call, reading, memorySize, workingSize, Said, value, refusal}
-use Rattle.receiver.specs.Model.{State, opened, Outcome, refused, done, stateAfter, receiving, marking, Finding, shows, hides, finding, aduAt}
+use Rattle.receiver.specs.History.{Call, source-call, repair-call, esiOf, reading, memorySize, workingSize, Said, value, refusal}
+use Rattle.receiver.specs.Model.{State, opened, foundBy, Outcome, refused, done, stateAfter, receiving, marking, Finding, shows, hides, finding, aduAt}
 use Rattle.receiver.specs.Header.{headerIn}
 
 -- Document 01's number of an answer.
@@ -86,13 +86,13 @@ module _ (L : Layout) where
     pub refused : (n : ℕ) → said a ≡ refusal n → m′ ≡ m
     pub contained : (s : Setting) → settingOf scheme E w ≡ some s → Contained (memorySize s) m m′
     pub holds : (s : Setting) → settingOf scheme E w ≡ some s → said a ≡ value 0 → Holds m′ s (opened s)
-    -- Position 0 is marked.
-    pub starts : (s : Setting) → settingOf scheme E w ≡ some s → said a ≡ value 0 → Marks m′ s (opened s) zeroth
+    -- No position is marked.
+    pub starts : (s : Setting) → settingOf scheme E w ≡ some s → said a ≡ value 0 → Marks m′ s (opened s) nowhere
 
   -- A packet call did what it comes to.
   abbrev pub Follows : (s : Setting) → Outcome s → (m m′ : List ℕ) → Answer → Type 0
   Follows s (refused n) m m′ a = (said a ≡ refusal n) × (m′ ≡ m)
-  Follows s (done n t) m m′ a = (said a ≡ value n) × Holds m′ s t
+  Follows s (done n t) m m′ a = (said a ≡ value n) × Holds m′ s (some t)
 
   -- A packet call, on any memory: refusal 3 exactly where it has no receiver's header, and then working memory too is as it was; a refusal changes
   -- nothing but working memory; lengths, and bytes past the sizes, are kept. Where the memory holds a state, the call does what it comes to.
@@ -104,7 +104,9 @@ module _ (L : Layout) where
     pub follows : (s : Setting) (t : State s) → Holds m s t → Follows s (receiving s t (length v) c) m m′ a
     -- And the marks are those that it comes to.
     pub starts : (s : Setting) (t : State s) (M : Starts) → Holds m s t → Marks m s t M
-        → let o = receiving s t (length v) c in Marks m′ s (stateAfter t o) (marking s t M (reading s (t .base) (length v) c) o)
+        → let j = foundBy s t (esiOf c) in
+        let o = receiving s t (length v) c in
+        Marks m′ s (stateAfter t o) (marking s j M (reading s (j .base) (length v) c) o)
 
   -- A packet call, with the draws beside the count.
   pub record PacketAnswered (c : Call) (m m′ v v′ : List ℕ) (a : PacketAnswer) : Type 0 where

@@ -30,9 +30,9 @@ use Rattle.receiver.specs.declared.packet.Gathered.{Gathered}
 use Rattle.receiver.specs.declared.packet.Gathered.the-variants.{All, Contradiction}
 use Rattle.receiver.specs.Symbol.{Symbol}
 use Rattle.receiver.specs.History.{memorySize}
-use Rattle.receiver.specs.Model.{State}
+use Rattle.receiver.specs.Model.{Joined}
 use Rattle.receiver.specs.Promises.{Contained}
-use Rattle.receiver.specs.Layout.{Holds, Marks}
+use Rattle.receiver.specs.Layout.{headerFrom, Stands, Holds, MarksFrom}
 
 -- ---- The packet's place
 
@@ -142,22 +142,22 @@ pub record Finished (h : Header) (at : PacketPlace) (kept count : ℕ) (work m m
   pub contained : Contained (memorySize (h .setting)) m m′
   pub marks : SameMarks (h .setting .width) (h .setting .size) m m′
   pub most : count ≤ kept * 256
-  pub outcome : (s : Setting) (t : State s) (es : List (model.Row (Coded (s .size)) (s .width))) → Holds m s t
+  pub outcome : (s : Setting) (t : Joined s) (es : List (model.Row (Coded (s .size)) (s .width))) → h ≡ headerFrom s t → Stands m s t
       → at .shape .base ≡ (t .base + at .rise) % s .width
       → packet.Gathered (s .width) (s .size) (t .base + at .rise) (decoder.advance-by (at .rise) (t .window)) work kept es
       → (T : model.State (Coded (s .size)) (s .width)) × (decoder.insert-all es (decoder.advance-by (at .rise) (t .window)) ≡ some T)
-      × Holds m′ s (record { base = t .base + at .rise; window = T })
+      × Holds m′ s (some (record { base = t .base + at .rise; window = T }))
       × (count ≡ decoder.newly t (record { base = t .base + at .rise; window = T }))
 
 -- And the marks are those that the packet with `own` symbols of its own makes.
 pub record Accepted (h : Header) (at : PacketPlace) (kept own count : ℕ) (work m m′ : List ℕ) : Type 0 where
   pub contained : Contained (memorySize (h .setting)) m m′
   pub most : count ≤ kept * 256
-  pub outcome : (s : Setting) (t : State s) (es : List (model.Row (Coded (s .size)) (s .width))) → Holds m s t
+  pub outcome : (s : Setting) (t : Joined s) (es : List (model.Row (Coded (s .size)) (s .width))) → h ≡ headerFrom s t → Stands m s t
       → at .shape .base ≡ (t .base + at .rise) % s .width
       → packet.Gathered (s .width) (s .size) (t .base + at .rise) (decoder.advance-by (at .rise) (t .window)) work kept es
       → (T : model.State (Coded (s .size)) (s .width)) × (decoder.insert-all es (decoder.advance-by (at .rise) (t .window)) ≡ some T)
-      × Holds m′ s (record { base = t .base + at .rise; window = T })
+      × Holds m′ s (some (record { base = t .base + at .rise; window = T }))
       × (count ≡ decoder.newly t (record { base = t .base + at .rise; window = T }))
-      × ((M : Starts) → Marks m s t M → Marks m′ s (record { base = t .base + at .rise; window = T })
+      × ((M : Starts) → MarksFrom m s t M → MarksFrom m′ s (record { base = t .base + at .rise; window = T })
       (pass (s .size) (seen (s .size) (s .width) T) (s .width) (owning (at .offset) own (moved (s .width) (at .rise) M))))

@@ -34,6 +34,9 @@ pub fn find(mem: &[u8], esi: Esi) -> Spot
     let Found::HeaderIs(header) = front::read_header(mem) else {
         return Spot::Nowhere(Refusal::Unopened);
     };
+    if !header.joined {
+        return Spot::Nowhere(Refusal::Unknown);
+    }
     let width = header.setting.width;
     let size = header.setting.size;
     let d = esi.distance(header.base) as usize;

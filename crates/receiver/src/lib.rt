@@ -33,9 +33,10 @@ pub enum PacketAnswer {
     NotAccepted(Refusal),
 }
 
-// A receiver's header: its setting, and the row and the ESI of the window's base.
+// A receiver's header: its setting, whether it has a base, and the row and the ESI of that.
 pub struct Header {
     pub setting: Setting,
+    pub joined: bool,
     pub row: usize,
     pub base: Esi,
 }
@@ -69,7 +70,7 @@ pub fn open(mem: &mut [u8], scheme: usize, size: usize, width: usize) -> Answer
         base: 0,
     };
     elimination::place::clear(mem, shape);
-    starts::marks::begin(mem, shape);
+    starts::marks::clear(mem, shape);
     Answer::Done(0)
 }
 
@@ -110,6 +111,9 @@ pub fn adu(mem: &[u8], esi: Esi, out: &mut [u8]) -> Handed
     let Found::HeaderIs(header) = front::read_header(mem) else {
         return Handed::Withheld(Refusal::Unopened);
     };
+    if !header.joined {
+        return Handed::Withheld(Refusal::Unknown);
+    }
     let width = header.setting.width;
     let d = esi.distance(header.base) as usize;
     if d >= 2147483648 {
@@ -149,7 +153,8 @@ pub fn receive_source(mem: &mut [u8], work: &mut [u8], flow: u8, packet: &[u8]) 
     if setting.width < count {
         return PacketAnswer::NotAccepted(Refusal::Long);
     }
-    let place = match packet::locate(header, fields.first, count) {
+    let based = packet::join(header, fields.first);
+    let place = match packet::locate(based, fields.first, count) {
         PlaceFound::PlaceIs(at) => at,
         PlaceFound::Out(refusal) => return PacketAnswer::NotAccepted(refusal),
     };
@@ -157,7 +162,7 @@ pub fn receive_source(mem: &mut [u8], work: &mut [u8], flow: u8, packet: &[u8]) 
     let Gathered::All(kept) = source::gather_source(mem, work, place, flow, adu, count) else {
         return PacketAnswer::NotAccepted(Refusal::Contradiction);
     };
-    PacketAnswer::Accepted(packet::accept(mem, work, header, place, kept, count), 0)
+    PacketAnswer::Accepted(packet::accept(mem, work, based, place, kept, count), 0)
 }
 
 // Receives a repair packet. The state is only read until all its symbols are known to agree with it. Gives how many positions of the window
@@ -181,7 +186,8 @@ pub fn receive_repair(mem: &mut [u8], work: &mut [u8], packet: &[u8]) -> PacketA
     if !wire::between(1, setting.width, n) {
         return PacketAnswer::NotAccepted(Refusal::Range);
     }
-    let place = match packet::locate(header, fields.first, n) {
+    let based = packet::join(header, fields.first);
+    let place = match packet::locate(based, fields.first, n) {
         PlaceFound::PlaceIs(at) => at,
         PlaceFound::Out(refusal) => return PacketAnswer::NotAccepted(refusal),
     };
@@ -201,5 +207,5 @@ pub fn receive_repair(mem: &mut [u8], work: &mut [u8], packet: &[u8]) -> PacketA
     else {
         return PacketAnswer::NotAccepted(Refusal::Contradiction);
     };
-    PacketAnswer::Accepted(packet::accept(mem, work, header, place, kept, 0), draws)
+    PacketAnswer::Accepted(packet::accept(mem, work, based, place, kept, 0), draws)
 }

@@ -1,14 +1,14 @@
 // The steps that both packet calls share: where the packet lies, what one more equation makes of it, and the state after it.
 ghost use mathlib.Core.Path.{_≡_};
-ghost use mathlib.Core.Option.{some};
-ghost use Prim.Native.Nat.{_-_, _≤_, _<_};
+ghost use Prim.Native.Nat.{_≤_, _<_};
 ghost use lib.ListN.{length};
 ghost use Rattle.wire.specs.Settings.{Valid};
 ghost use Rattle.elimination.specs.Window.{Fits};
 ghost use Rattle.elimination.specs.Packet.{Works};
-ghost use Rattle.receiver.specs.Header.{headerIn};
+ghost use Rattle.receiver.specs.Inner.{headerFor, Based};
 ghost use Rattle.receiver.specs.Steps.{placeFound, gatheredBy, EquationAdmitted, PlacedBy, Finished, Accepted};
 use super::Header;
+use super::front;
 use elimination::Shape;
 use elimination::gather;
 use elimination::gather::Verdict;
@@ -38,11 +38,22 @@ pub enum Gathered {
     Contradiction,
 }
 
-// By how much `a` is more than `b`.
-fn excess(a: usize, b: usize) -> usize
-    ensures { λ r. ⌜ r ≡ a - b ⌝ }
+// The header for a packet whose first ESI is `first`: where there is no base yet, that is taken for it.
+pub fn join(header: Header, first: Esi) -> Header
+    requires { ⌜ Valid (header .setting) ⌝ }
+    ensures { λ r. ⌜ r ≡ headerFor header (first .0) ⌝ }
 {
-    if a < b { 0 } else { a - b }
+    if header.joined {
+        return header;
+    }
+    let setting = header.setting;
+    let row = first.0 as usize % setting.width;
+    Header {
+        setting,
+        joined: true,
+        row,
+        base: first,
+    }
 }
 
 // Where `n` symbols from the ESI `first` on lie.
@@ -58,7 +69,7 @@ pub fn locate(header: Header, first: Esi, n: usize) -> PlaceFound
         return PlaceFound::Out(Refusal::Ahead);
     }
     let width = header.setting.width;
-    let rise = excess(d + n, width);
+    let rise = front::excess(d + n, width);
     let shape = Shape {
         width,
         size: header.setting.size,
@@ -67,7 +78,7 @@ pub fn locate(header: Header, first: Esi, n: usize) -> PlaceFound
     PlaceFound::PlaceIs(PacketPlace {
         shape,
         rise,
-        stay: excess(width, rise),
+        stay: front::excess(width, rise),
         first: (header.row + d) % width,
         offset: d - rise,
     })
@@ -108,8 +119,8 @@ pub fn admit_equation(
 
 // The packet's rows, `kept` in working memory, join the state's, and the base rises. Gives how many positions have become known.
 fn finish(mem: &mut [u8], work: &[u8], header: Header, place: PacketPlace, kept: usize) -> usize
-    requires { ⌜ (headerIn (now mem) ≡ some header) × Works (header .setting .width) (header .setting .size) kept (now work)
-        × (place .shape .base < 65536) × (place .rise ≤ 65536) ⌝ }
+    requires { ⌜ Based (now mem) header × Works (header .setting .width) (header .setting .size) kept (now work)
+        × (place .shape .base < 65535) × (place .rise ≤ 65536) ⌝ }
     ensures { λ n. ⌜ Finished header place kept n (now (work .entry)) (now (mem .entry)) (now (mem .exit)) ⌝ }
 {
     let shape = Shape {
@@ -120,7 +131,7 @@ fn finish(mem: &mut [u8], work: &[u8], header: Header, place: PacketPlace, kept:
     let count = elimination::place::commit(mem, work, shape, place.rise, kept);
     let base = header.base;
     let next = base.plus(place.rise as u32);
-    memory::store_u16(mem, 8, place.shape.base as u16);
+    memory::store_u16(mem, 8, (place.shape.base + 1) as u16);
     memory::store_u32(mem, 12, next.0);
     count
 }
@@ -135,8 +146,8 @@ pub fn accept(
     kept: usize,
     own: usize,
 ) -> usize
-    requires { ⌜ (headerIn (now mem) ≡ some header) × Works (header .setting .width) (header .setting .size) kept (now work)
-        × (place .shape .base < 65536) × (place .rise ≤ 65536) × PlacedBy header place own ⌝ }
+    requires { ⌜ Based (now mem) header × Works (header .setting .width) (header .setting .size) kept (now work)
+        × (place .shape .base < 65535) × (place .rise ≤ 65536) × PlacedBy header place own ⌝ }
     ensures { λ n. ⌜ Accepted header place kept own n (now (work .entry)) (now (mem .entry)) (now (mem .exit)) ⌝ }
 {
     let before = Shape {
@@ -147,7 +158,7 @@ pub fn accept(
     let had = marks::known_among(mem, before, place.rise + place.offset, own);
     let known = finish(mem, work, header, place, kept);
     let has = marks::known_among(mem, place.shape, place.offset, own);
-    let others = known != excess(has, had);
+    let others = known != front::excess(has, had);
     marks::update(
         mem,
         place.shape,

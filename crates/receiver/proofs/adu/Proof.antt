@@ -1,10 +1,12 @@
 -- `receiver::adu` meets its contract.
 use mathlib.Core.Path.{_≡_}
+use mathlib.Core.Bool.{true}
 use mathlib.Core.Option.{some}
+use borrow.Author.Tests.{not-true, not-false}
 use Rattle.receiver.specs.declared.Header.{Header}
 use Rattle.receiver.specs.Header.{headerIn}
 use Rattle.receiver.proofs.Headers.{header-is, header-none, headed, header-fits}
-use Rattle.receiver.proofs.Giving.{adu-unopened, adu-behind, adu-past, adu-inside}
+use Rattle.receiver.proofs.Giving.{adu-unopened, adu-fresh, adu-behind, adu-past, adu-inside}
 use borrow.Author.Needs.{needs}
 use Rattle.receiver.proofs.adu.Statement.{statement}
 use Rattle.receiver.proofs.adu.Tie as tie
@@ -22,24 +24,36 @@ returns c = adu-unopened _ _ _ (header-none _ (c .before .before .read-header .e
 returns-2 : tie.Need-returns-2
 returns-2 c =
     let p = c .before .before .before in
-    adu-behind _ _ _ (header p) (has p) (rw (c .before .distance .ensures) at (c .if1 .taken))
+    adu-fresh _ _ _ (header p) (has p) (not-true (header p .joined) (c .if1 .taken))
+
+-- It has a base.
+joined : (c : tie.Else1) → header (c .before .before .before) .joined ≡ true
+joined c = not-false (header (c .before .before .before) .joined) (c .if1 .left)
 
 returns-3 : tie.Need-returns-3
 returns-3 c =
-    let p = c .before .before .before .before in
-    let d = c .before .before .distance .ensures in
-    adu-past _ _ _ (header p) (has p) (rw d at (c .before .if1 .left)) (rw d at (c .if2 .taken))
-
-hand-out-requires : tie.Need-hand-out-requires
-hand-out-requires c κs =
-    let p = c .before .before .before .before .before in
-    (header-fits _ (header p) (has p), headed _ (header p) (has p) .row-lt, c .before .if2 .left)
+    let e = c .before .before in
+    let p = e .before .before .before in
+    adu-behind _ _ _ (header p) (has p) (joined e) (rw (c .before .distance .ensures) at (c .if2 .taken))
 
 returns-4 : tie.Need-returns-4
 returns-4 c =
-    let p = c .before .before .before .before .before .before .before .before in
+    let e = c .before .before .before in
+    let p = e .before .before .before in
+    let d = c .before .before .distance .ensures in
+    adu-past _ _ _ (header p) (has p) (joined e) (rw d at (c .before .if2 .left)) (rw d at (c .if3 .taken))
+
+hand-out-requires : tie.Need-hand-out-requires
+hand-out-requires c κs =
+    let p = c .before .before .before .before .before .before .before in
+    (header-fits _ (header p) (has p), headed _ (header p) (has p) .row-lt, c .before .if3 .left)
+
+returns-5 : tie.Need-returns-5
+returns-5 c =
     let inside = c .before .before .before .before in
-    adu-inside _ _ _ (header p) (has p) _ (inside .before .before .distance .ensures) (inside .before .if1 .left) (inside .if2 .left) _ _
+    let e = inside .before .before .before in
+    let p = e .before .before .before in
+    adu-inside _ _ _ (header p) (has p) (joined e) _ (inside .before .before .distance .ensures) (inside .before .if2 .left) (inside .if3 .left) _ _
     (c .before .before .hand-out .ensures)
 
 pub adu-spec : {M : Type 1} → statement M
@@ -50,10 +64,11 @@ adu-spec =
     (λ c. search needs)
     (λ c. search needs)
     returns
+    returns-2
     (λ c κs. search needs)
     (λ c. search needs)
-    returns-2
     returns-3
+    returns-4
     hand-out-requires
     (λ c. search needs)
-    returns-4)
+    returns-5)

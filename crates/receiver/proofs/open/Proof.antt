@@ -43,8 +43,8 @@ clear-requires c κs =
     setting-fits (setting p) _ (valid p)
     (omega (arith, c .before .before .before .write-header .kept .0, c .before .before .before .before .before .before .memory-size .ensures, c .before .before .before .before .before .if1 .left))
 
-begin-requires : tie.Need-begin-requires
-begin-requires c κs =
+clear-requires-2 : tie.Need-clear-requires-2
+clear-requires-2 c κs =
     let p3 = c .before .before .before in
     let p7 = p3 .before .before .before .before in
     let p9 = p7 .before .before in
@@ -64,7 +64,7 @@ returns-3 c =
     let p13 = p12 .before in
     let p15 = p13 .before .before in
     opening-done _ _ _ (setting p15) (has p15) _ _ _ _ (rw (p13 .memory-size .ensures) at (p12 .if1 .left)) (p10 .write-header .ensures)
-    (p6 .clear .ensures) (p2 .begin .ensures)
+    (p6 .clear .ensures) (p2 .clear2 .ensures)
 
 pub open-spec : {M : Type 1} → statement M
 open-spec =
@@ -78,6 +78,6 @@ open-spec =
     returns-2
     write-header-requires
     clear-requires
-    begin-requires
+    clear-requires-2
     (λ c. search needs)
     returns-3)

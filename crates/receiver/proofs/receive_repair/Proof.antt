@@ -1,8 +1,8 @@
 -- `receiver::receive_repair` meets its contract.
-use mathlib.Core.Path.{_≡_, sym, _∙_}
+use mathlib.Core.Path.{_≡_, ap, sym, _∙_}
 use mathlib.Core.Bool.{true}
 use mathlib.Core.Option.{some}
-use Prim.Native.Nat.{ℕ, _*_, _≤_}
+use Prim.Native.Nat.{_*_, _≤_}
 use native.Mathlib.Nat.{mul-le-mul}
 use native.Mathlib.Omega.{arith}
 use lib.ListN.{length}
@@ -20,8 +20,9 @@ use Rattle.receiver.specs.declared.packet.PacketPlace.{PacketPlace}
 use Rattle.receiver.specs.declared.packet.PlaceFound.the-variants.{PlaceIs}
 use Rattle.receiver.specs.History.{workingSize}
 use Rattle.receiver.specs.Header.{headerIn}
+use Rattle.receiver.specs.Inner.{headerFor, Based}
 use Rattle.receiver.specs.Steps.{placeFound}
-use Rattle.receiver.proofs.Headers.{header-is, header-none, headed}
+use Rattle.receiver.proofs.Headers.{header-is, header-none, headed, based}
 use Rattle.receiver.proofs.Receiving.{received-unopened, received-short, accept-asks}
 use Rattle.receiver.proofs.Drawing.{answered-refused, answered-done}
 use Rattle.receiver.proofs.RepairCall.{sized, draws-are, call-form, call-range, call-out, call-draws, gather-asks, call-contradicts, call-done}
@@ -62,19 +63,28 @@ abbrev place : tie.After-at → PacketPlace
 place p = p .at .given .0 .0
 
 abbrev ranged : tie.After-at → tie.Else2
-ranged p = p .before .before .before
+ranged p = p .before .before .before .before
 
 abbrev read-fields : tie.After-at → tie.After-fields
-read-fields p = p .before .before .before .before .before .before
+read-fields p = p .before .before .before .before .before .before .before
 
 abbrev roomy : tie.After-at → tie.Else1
-roomy p = p .before .before .before .before .before .before .before .before .before
+roomy p = p .before .before .before .before .before .before .before .before .before .before
 
 abbrev read-header : tie.After-at → tie.After-header
-read-header p = p .before .before .before .before .before .before .before .before .before .before .before .before .before
+read-header p = p .before .before .before .before .before .before .before .before .before .before .before .before .before .before
 
-found : (p : tie.After-at) → PlaceIs (place p) ≡ placeFound (header (read-header p)) (fields (read-fields p) .first .0) (fields (read-fields p) .nss)
-found p = sym (p .at .given .1) ∙ p .before .before .locate .ensures
+-- The header for the packet.
+abbrev base : tie.After-at → Header
+base p = headerFor (header (read-header p)) (fields (read-fields p) .first .0)
+
+bases : (p : tie.After-at) → Based (read-header p .before .before .before .before .before .before .before .args .mem .now) (base p)
+bases p = based _ (header (read-header p)) (fields (read-fields p) .first .0) (has (read-header p))
+
+found : (p : tie.After-at) → PlaceIs (place p) ≡ placeFound (base p) (fields (read-fields p) .first .0) (fields (read-fields p) .nss)
+found p =
+    sym (p .at .given .1) ∙ p .before .before .locate .ensures
+    ∙ ap (λ (x : Header). placeFound x (fields (read-fields p) .first .0) (fields (read-fields p) .nss)) (p .before .before .before .join .ensures)
 
 -- The lists that were drawn, at that place.
 abbrev place-of : tie.After-draws → tie.After-at
@@ -108,24 +118,30 @@ returns-4 c =
     (call-range _ _ _ (header p) (has p) (lent (c .before .before .before .before .before .before)) (fields q) (read q)
     (sym (c .before .between .ensures) ∙ not-true (c .before .between .result) (c .if2 .taken)))
 
+join-requires : tie.Need-join-requires
+join-requires c κs = let p = c .before .before .before .before .before .before .before .before .before .before in headed _ (header p) (has p) .valid
+
 locate-requires : tie.Need-locate-requires
 locate-requires c κs =
-    let p = c .before .before .before .before .before .before .before .before .before .before in
-    let k = headed _ (header p) (has p) in
-    (k .valid, k .row-lt, within-bounds 1 (header p .setting .width) (fields (c .before .before .before) .nss) (fits c) .1)
+    let e = c .before in
+    let q = e .before .before .before in
+    let p = q .before .before .before .before .before .before .before in
+    rw (c .join .ensures)
+    (headed _ (header p) (has p) .valid, based _ (header p) (fields q .first .0) (has p) .row-lt, within-bounds 1 (header p .setting .width) (fields q .nss) (fits e) .1)
 
 returns-5 : tie.Need-returns-5
 returns-5 c =
-    let p = c .before .before .before .before in
+    let joined = c .before .before .before .before in
+    let p = joined .before in
     let h = p .before .before .before .before .before .before .before .before .before .before in
     let q = p .before .before .before in
     answered-refused
     (call-out _ _ _ (header h) (has h) (lent (p .before .before .before .before .before .before)) (fields q) (read q) (fits p) _
-    (sym (c .before .refusal .given .1) ∙ c .before .before .before .locate .ensures))
+    (sym (c .before .refusal .given .1) ∙ c .before .before .before .locate .ensures ∙ ap (λ (x : Header). placeFound x (fields q .first .0) (fields q .nss)) (joined .join .ensures)))
 
 fill-lists-requires : tie.Need-fill-lists-requires
 fill-lists-requires c κs =
-    let p = c .before .before .before .before .before .before in
+    let p = ranged (c .before .before .before) in
     let q = p .before .before .before in
     (omega (arith, lists-fit p, c .before .room-for-lists .ensures), few p, sized _ _ (fields q) (read q) .0)
 
@@ -163,23 +179,24 @@ accept-requires c κs =
     let gathered = c .before .before .before .before .before .before .before .gather-repair in
     let p = place-of (c .before .before .before .before .before .before .before .before .before .before .before .before) in
     let h = read-header p in
-    accept-asks (header h) _ _ (place p) (found p) _ (h .before .before .before .before .before .before .before .args .work .now) (has h) (lent (roomy p))
+    rw (p .before .before .before .join .ensures)
+    (accept-asks (base p) _ _ (place p) (found p) _ (h .before .before .before .before .before .before .before .args .work .now) (bases p) (lent (roomy p))
     _ (gathered .result) _ _ (c .before .before .before .kept .given .1) (gathered .ensures .works) (omega arith)
-    (within-bounds 1 (header h .setting .width) (fields (read-fields p) .nss) (fits (ranged p)) .1)
+    (within-bounds 1 (header h .setting .width) (fields (read-fields p) .nss) (fits (ranged p)) .1))
 
 returns-8 : tie.Need-returns-8
 returns-8 c =
     let kept = c .before .before .before .before .before .before .kept .given .1 in
     let gathered = c .before .before .before .before .before .before .before .before .before .before .gather-repair in
-    let accepted = c .before .before .accept .ensures in
     let d = c .before .before .before .before .before .before .before .before .before .before .before .before .before .before .before in
     let p = place-of d in
     let h = read-header p in
     let f = fields (read-fields p) in
     let r = read (read-fields p) in
     let done = lists-were-done (drawn d .fill-lists .ensures) (d .draws .given .1) in
+    let accepted = rw (p .before .before .before .join .ensures) at (c .before .before .accept .ensures) in
     let lists : length (keys (f .key .0) (f .count)) ≤ 16 = rw (length-keys (f .key .0) (f .count)) (sized _ _ f r .0) in
-    answered-done (header h) _ _ _ (gathered .result) _ _ _ _ (has h) kept (gathered .ensures .works) accepted
+    answered-done (header h) (base p) _ _ _ (gathered .result) _ _ _ _ (has h) kept (gathered .ensures .works) accepted
     (done .1 ∙ draws-are _ _ (h .before .before .before .before .before .before .before .args .work .now) (header h) (has h) (lent (roomy p)) f r)
     (rw (done .1) (packet-draws-most (header h .setting .scheme) (f .dt) (f .nss) (few (ranged p)) (keys (f .key .0) (f .count)) lists))
     (call-done _ _ _ (header h) (has h) (lent (roomy p)) f r (fits (ranged p)) (place p) (found p) (done .0) _ _
@@ -205,6 +222,7 @@ receive-repair-spec =
     (λ c κs. search needs)
     (λ c. search needs)
     returns-4
+    join-requires
     locate-requires
     (λ c. search needs)
     (λ c. search needs)

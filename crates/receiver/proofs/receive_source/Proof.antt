@@ -11,8 +11,9 @@ use Rattle.receiver.specs.declared.packet.PacketPlace.{PacketPlace}
 use Rattle.receiver.specs.declared.packet.PlaceFound.the-variants.{PlaceIs}
 use Rattle.receiver.specs.History.{workingSize}
 use Rattle.receiver.specs.Header.{headerIn}
+use Rattle.receiver.specs.Inner.{headerFor, Based}
 use Rattle.receiver.specs.Steps.{placeFound}
-use Rattle.receiver.proofs.Headers.{header-is, header-none, Headed, headed}
+use Rattle.receiver.proofs.Headers.{header-is, header-none, Headed, headed, based}
 use Rattle.receiver.proofs.Receiving.{received-unopened, received-short, place-width, place-size, ready, accept-asks}
 use Rattle.receiver.proofs.Drawing.{answered-refused, answered-done}
 use Rattle.receiver.proofs.SourceCall.{Fields, source-fields, adu-length, source-none}
@@ -47,16 +48,25 @@ abbrev place : tie.After-at → PacketPlace
 place p = p .at .given .0 .0
 
 abbrev read-header : tie.After-at → tie.After-header
-read-header p = p .before .before .before .before .before .before .before .before .before .before .before .before .before .before .before .before
+read-header p = p .before .before .before .before .before .before .before .before .before .before .before .before .before .before .before .before .before
 
 abbrev read-fields : tie.After-at → tie.After-fields
-read-fields p = p .before .before .before .before .before .before .before .before .before
+read-fields p = p .before .before .before .before .before .before .before .before .before .before
 
-long-enough : (p : tie.After-at) → workingSize (header (read-header p) .setting) ≤ length (p .before .before .before .before .before .before .before .before .before .before .before .before .before .before .before .before .before .before .before .before .before .before .before .args .work .now)
-long-enough p = room (p .before .before .before .before .before .before .before .before .before .before .before .before)
+long-enough : (p : tie.After-at) → workingSize (header (read-header p) .setting) ≤ length (read-header p .before .before .before .before .before .before .before .args .work .now)
+long-enough p = room (read-fields p .before .before .before)
 
-found : (p : tie.After-at) → PlaceIs (place p) ≡ placeFound (header (read-header p)) (fields (read-fields p) .first .0) (p .before .before .before .before .before .symbol-count .result)
-found p = sym (p .at .given .1) ∙ p .before .before .locate .ensures
+-- the header for the packet
+abbrev base : tie.After-at → Header
+base p = headerFor (header (read-header p)) (fields (read-fields p) .first .0)
+
+bases : (p : tie.After-at) → Based (read-header p .before .before .before .before .before .before .before .args .mem .now) (base p)
+bases p = based _ (header (read-header p)) (fields (read-fields p) .first .0) (has (read-header p))
+
+found : (p : tie.After-at) → PlaceIs (place p) ≡ placeFound (base p) (fields (read-fields p) .first .0) (p .before .before .before .before .before .before .symbol-count .result)
+found p =
+    sym (p .at .given .1) ∙ p .before .before .locate .ensures
+    ∙ ap (λ (x : Header). placeFound x (fields (read-fields p) .first .0) (p .before .before .before .before .before .before .symbol-count .result)) (p .before .before .before .join .ensures)
 
 returns : tie.Need-returns
 returns c = answered-refused (received-unopened _ _ _ (header-none _ (c .before .before .read-header .ensures) (c .enum-told .given .1)))
@@ -93,34 +103,42 @@ returns-5 c =
     (call-many _ _ _ _ (header p) (has p) (room (q .before .before .before)) (fields q) (reads q) (c .before .before .before .if2 .left) _ (c .before .before .symbol-count .ensures)
     (c .if3 .taken))
 
+join-requires : tie.Need-join-requires
+join-requires c κs = says (c .before .before .before .before .before .before .before .before .before .before .before .before .before) .valid
+
 locate-requires : tie.Need-locate-requires
-locate-requires c κs = let k = says (c .before .before .before .before .before .before .before .before .before .before .before .before .before) in (k .valid, k .row-lt, c .if3 .left)
+locate-requires c κs =
+    let p = c .before .before .before .before .before .before .before .before .before .before .before .before .before .before in
+    let q = c .before .before .before .before .before .before .before in
+    rw (c .join .ensures) (says p .valid, based _ (header p) (fields q .first .0) (has p) .row-lt, c .before .if3 .left)
 
 returns-6 : tie.Need-returns-6
 returns-6 c =
-    let q = c .before .before .before .before .before .before .before .before .before .before in
+    let j = c .before .before .before .before in
+    let q = j .before .before .before .before .before .before .before in
     let p = q .before .before .before .before .before .before .before in
     answered-refused
-    (call-out _ _ _ _ (header p) (has p) (room (q .before .before .before)) (fields q) (reads q) (c .before .before .before .before .before .before .before .if2 .left) _ (c .before .before .before .before .before .before .symbol-count .ensures)
-    (c .before .before .before .before .if3 .left) _ (sym (c .before .refusal .given .1) ∙ c .before .before .before .locate .ensures))
+    (call-out _ _ _ _ (header p) (has p) (room (q .before .before .before)) (fields q) (reads q) (j .before .before .before .before .if2 .left) _ (j .before .before .before .symbol-count .ensures)
+    (j .before .if3 .left) _
+    (sym (c .before .refusal .given .1) ∙ c .before .before .before .locate .ensures ∙ ap (λ (x : Header). placeFound x (fields q .first .0) (j .before .before .before .symbol-count .result)) (j .join .ensures)))
 
 part-requires : tie.Need-part-requires
-part-requires c κs = omega (arith, reads (c .before .before .before .before .before .before .before .before .before .before) .within)
+part-requires c κs = omega (arith, reads (read-fields (c .before)) .within)
 
 gather-source-requires : tie.Need-gather-source-requires
 gather-source-requires c κs =
     let p = c .before .before .before .before in
-    let g = ready _ _ _ (place p) (found p) _ _ (has (read-header p)) (long-enough p) in
+    let g = ready _ _ _ (place p) (found p) _ _ (bases p) (long-enough p) in
     let l = adu-length (reads (read-fields p)) (c .before .before .part .ensures .bytes) in
     let size = place-size _ _ _ (place p) (found p) in (
       g .fits,
       g .works,
       g .base,
       g .first,
-      omega (arith, l, p .before .before .before .before .before .before .if2 .left),
-      p .before .before .before .before .before .symbol-count .ensures ∙ ap (symbolCount (header (read-header p) .setting .size)) (sym l)
+      omega (arith, l, p .before .before .before .before .before .before .before .if2 .left),
+      p .before .before .before .before .before .before .symbol-count .ensures ∙ ap (symbolCount (header (read-header p) .setting .size)) (sym l)
           ∙ ap (λ (E : ℕ). symbolCount E (length (c .before .before .part .result .now))) (sym size),
-      omega (arith, p .before .before .before .if3 .left, place-width _ _ _ (place p) (found p)),
+      omega (arith, p .before .before .before .before .if3 .left, place-width _ _ _ (place p) (found p)),
     )
 
 returns-7 : tie.Need-returns-7
@@ -128,7 +146,7 @@ returns-7 c =
     let p = c .before .before .before .before .before .before .before .before .before in
     let gathered = c .before .before .before .before .gather-source in
     answered-refused (call-contradicts _ _ _ _ (header (read-header p)) (has (read-header p)) (long-enough p) (fields (read-fields p)) (reads (read-fields p))
-    (p .before .before .before .before .before .before .if2 .left) _ (p .before .before .before .before .before .symbol-count .ensures) (p .before .before .before .if3 .left) (place p) (found p) _ _ (c .before .before .before .before .before .before .before .part .ensures .bytes)
+    (p .before .before .before .before .before .before .before .if2 .left) _ (p .before .before .before .before .before .before .symbol-count .ensures) (p .before .before .before .before .if3 .left) (place p) (found p) _ _ (c .before .before .before .before .before .before .before .part .ensures .bytes)
     (gathered .result) (gathered .ensures) (c .enum-told3 .given .1))
 
 accept-requires : tie.Need-accept-requires
@@ -136,18 +154,20 @@ accept-requires c κs =
     let p = c .before .before .before .before .before .before .before .before .before .before .before .before in
     let start = read-header p .before .before .before .before .before .before .before in
     let gathered = c .before .before .before .before .before .before .before .gather-source in
-    accept-asks _ _ _ (place p) (found p) _ (start .args .work .now) (has (read-header p)) (long-enough p)
-    _ (gathered .result) _ _ (c .before .before .before .kept .given .1) (gathered .ensures .works) (omega arith) (p .before .before .before .if3 .left)
+    rw (p .before .before .before .join .ensures)
+    (accept-asks _ _ _ (place p) (found p) _ (start .args .work .now) (bases p) (long-enough p)
+    _ (gathered .result) _ _ (c .before .before .before .kept .given .1) (gathered .ensures .works) (omega arith) (p .before .before .before .before .if3 .left))
 
 returns-8 : tie.Need-returns-8
 returns-8 c =
     let p = c .before .before .before .before .before .before .before .before .before .before .before .before .before .before .before in
     let gathered = c .before .before .before .before .before .before .before .before .before .before .gather-source in
     let kept = c .before .before .before .before .before .before .kept .given .1 in
-    answered-done (header (read-header p)) _ _ _ (gathered .result) _ _ _ _ (has (read-header p)) kept (gathered .ensures .works) (c .before .before .accept .ensures) refl (omega arith)
+    let accepted = rw (p .before .before .before .join .ensures) at (c .before .before .accept .ensures) in
+    answered-done (header (read-header p)) (base p) _ _ _ (gathered .result) _ _ _ _ (has (read-header p)) kept (gathered .ensures .works) accepted refl (omega arith)
     (call-done _ _ _ _ (header (read-header p)) (has (read-header p)) (long-enough p) (fields (read-fields p)) (reads (read-fields p))
-    (p .before .before .before .before .before .before .if2 .left) _ (p .before .before .before .before .before .symbol-count .ensures) (p .before .before .before .if3 .left) (place p) (found p) _ _ (c .before .before .before .before .before .before .before .before .before .before .before .before .before .part .ensures .bytes)
-    (gathered .result) (gathered .ensures) _ _ _ kept (c .before .before .accept .ensures))
+    (p .before .before .before .before .before .before .before .if2 .left) _ (p .before .before .before .before .before .before .symbol-count .ensures) (p .before .before .before .before .if3 .left) (place p) (found p) _ _ (c .before .before .before .before .before .before .before .before .before .before .before .before .before .part .ensures .bytes)
+    (gathered .result) (gathered .ensures) _ _ _ kept accepted)
 
 pub receive-source-spec : {M : Type 1} → statement M
 receive-source-spec =
@@ -171,6 +191,7 @@ receive-source-spec =
     symbol-count-requires
     (λ c. search needs)
     returns-5
+    join-requires
     locate-requires
     (λ c. search needs)
     (λ c. search needs)

@@ -38,11 +38,13 @@ returns-3 c =
 
 returns-4 : tie.Need-returns-4
 returns-4 c =
-    let p = c .before .before .before .before .before .before .before in
-    let a = c .before .before .before .load-u16 in
+    let known = c .before .before .before in
+    let p = known .before .before .before .before .before in
+    let a = known .before .load-u16 in
     rw (
-      found _ (setting p) (has p) (rw (c .before .before .before .before .before .memory-size .ensures) at (c .before .before .before .before .if1 .left))
-          (rw (a .ensures) at (c .before .if2 .left)),
+      found _ (setting p) (has p) (rw (known .before .before .before .memory-size .ensures) at (known .before .before .if1 .left))
+          (rw (a .ensures) at (c .before .before .if2 .left)),
+      c .before .excess .ensures,
       ← a .ensures,
       ← c .load-u32 .ensures,
     )
@@ -60,5 +62,6 @@ read-header-spec =
     (λ c κs. search needs)
     (λ c. search needs)
     returns-3
+    (λ c κs. search needs)
     (λ c κs. search needs)
     returns-4)

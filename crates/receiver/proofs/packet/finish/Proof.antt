@@ -1,7 +1,7 @@
 -- `receiver::packet::finish` meets its contract.
 use native.Mathlib.Omega.{arith}
 use Rattle.elimination.specs.Window.{Fits}
-use Rattle.receiver.proofs.Headers.{headed, header-fits}
+use Rattle.receiver.proofs.Headers.{based-fits}
 use Rattle.receiver.proofs.Finishing.{finished}
 use borrow.Author.Needs.{needs}
 use Rattle.receiver.proofs.packet.finish.Statement.{statement}
@@ -9,12 +9,12 @@ use Rattle.receiver.proofs.packet.finish.Tie as tie
 
 -- the memory has room for the window's rows
 fits : (p : tie.Start) → Fits (p .args .header .setting .width) (p .args .header .setting .size) (p .args .mem .now)
-fits p = header-fits (p .args .mem .now) (p .args .header) (p .pre .0)
+fits p = based-fits (p .args .mem .now) (p .args .header) (p .pre .0)
 
 commit-requires : tie.Need-commit-requires
 commit-requires c κs =
     let p = c .before .before .before in
-    (fits p, headed _ _ (p .pre .0) .row-lt, p .pre .1)
+    (fits p, p .pre .0 .row-lt, p .pre .1)
 
 store-u16-requires : tie.Need-store-u16-requires
 store-u16-requires c κs =
@@ -46,6 +46,7 @@ finish-spec =
     commit-requires
     (λ c. search needs)
     (λ c κs. search needs)
+    (λ c. search needs)
     (λ c. search needs)
     store-u16-requires
     store-u32-requires
