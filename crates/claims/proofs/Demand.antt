@@ -1,7 +1,7 @@
 -- Demand 3 holds of every list of calls that the promises allow.
 use mathlib.Core.Path.{_≡_, refl, sym, ap, ap₂, _∙_, subst}
 use mathlib.Core.Logic.{_↔_, _⊎_, inl, inr, Iff·trans}
-use mathlib.Core.Option.{Option, none, some}
+use mathlib.Core.Option.{Option, none, some, Option·none-ne-some, Option·some-injective}
 use mathlib.Core.List.{List, [], _∷_, _++_, map}
 use denote.Ref.{RefT, now}
 use Prim.Native.Nat.{ℕ, _+_, _%_, _^_, _≤_, _<_}
@@ -15,18 +15,17 @@ use Rattle.decoder.specs.Model.{known}
 use Rattle.decoder.specs.Receiver as decoder
 use Rattle.receiver.specs.declared.Answer.{Answer}
 use Rattle.receiver.specs.Symbol.{Symbol, bytesOf}
-use Rattle.receiver.specs.History.{IsValue, Filling, All, Known, reading, Log, fresh, baseOf, OfBytes}
-use Rattle.receiver.specs.History.{value, refusal, logged, Judged}
-use Rattle.receiver.specs.Model.{State, opened, Outcome, refused, done, saidOf, stateAfter, responds, receiving, Finding, shows, hides, shown}
-use Rattle.receiver.specs.Model.{finding}
+use Rattle.receiver.specs.History.{IsValue, Located, Filling, All, Known, located, reading, Log, fresh, OfBytes, esiOf}
+use Rattle.receiver.specs.History.{value, refusal, baseOf, readAfter, logged, Judged}
+use Rattle.receiver.specs.Model.{Joined, State, opened, foundBy, Outcome, refused, done, saidOf, stateAfter, responds, answering, receiving}
+use Rattle.receiver.specs.Model.{Finding, shows, hides, shown, finding}
 use Rattle.receiver.specs.Promises.{Layout, said, opening, Opened, Follows, Received, Finds, SymbolAnswered, Shows, PartShown}
-use Rattle.receiver.proofs.Answers.{Tracks, judged, known-exactly, known-value, tracks-consistent, fresh-tracks}
+use Rattle.receiver.proofs.Answers.{Tracks, TracksFrom, Passes, baseIn, base-found, judged, known-exactly, known-value, tracks-consistent, fresh-tracks}
 use Rattle.receiver.proofs.Counting.{judged-once}
-use Rattle.receiver.proofs.Readings.{reading-fits}
+use Rattle.receiver.proofs.Readings.{reading-passes}
 use Rattle.receiver.proofs.Places.{found-inside, found-past, found-behind}
 use Rattle.claims.specs.Run.{Step, Run, final, read, goes-on, history}
-use Rattle.claims.specs.Demand.{esi, ShownExactly, HiddenOutside, Demand-3, Every-list, Alike, No-choice}
-use Rattle.claims.proofs.Carrying.{carried}
+use Rattle.claims.specs.Demand.{esi, ShownExactly, HiddenBefore, HiddenOutside, Demand-3, Every-list, Alike, No-choice}
 
 module _ (L : Layout) (s : Setting) (v : Valid s) where
   open Setting s using (size as E, width)
@@ -47,23 +46,35 @@ module _ (L : Layout) (s : Setting) (v : Valid s) where
   did m m′ a t (refused n) (e, q) h = (e, subst (λ x. L .Holds x s t) (sym q) h)
   did m m′ a t (done n t′) p h = p
 
+  -- What is read of a call by the history is what the state x makes of it, and what passes the checks.
+  pub read-found : (l : Log) (t : Step) (x : State s) → Tracks s some-bytes l x
+      → reading s (foundBy s x (esiOf (t .call)) .base) (length (t .working)) (t .call) ≡ read s l t
+  read-found l t x k = ap (λ y. reading s y (length (t .working)) (t .call)) (sym (base-found s some-bytes l x (esiOf (t .call)) k))
+
+  pub read-passes : (l : Log) (t : Step) (x : State s) → Tracks s some-bytes l x → OfBytes (t .call) → (q : Located)
+      → reading s (foundBy s x (esiOf (t .call)) .base) (length (t .working)) (t .call) ≡ located q
+      → Passes s some-bytes l (foundBy s x (esiOf (t .call)) .base) q
+  read-passes l t x k b q e =
+      subst (λ y. Passes s some-bytes l y q) (base-found s some-bytes l x (esiOf (t .call)) k)
+      (reading-passes s some-bytes l (length (t .working)) (t .call) q b (sym (read-found l t x k) ∙ e))
+
   -- A call on a memory that holds the state x.
   pub called : (m : List ℕ) (l : Log) (t : Step) (x : State s) → L .Holds m s x → Tracks s some-bytes l x → OfBytes (t .call)
       → Received L (t .call) m (t .memory) (t .working) (t .left) (t .answer)
       → let o = receiving s x (length (t .working)) (t .call) in
       (said (t .answer) ≡ saidOf o) × Judged s l (read s l t) (said (t .answer))
       × Tracks s some-bytes (logged s l (read s l t) (said (t .answer))) (stateAfter x o) × L .Holds (t .memory) s (stateAfter x o)
-  unfolding receiving
+  unfolding answering
   called m l t x held k b p =
-      let room = length (t .working) in
-      let r = reading s (x .base) room (t .call) in
-      let same : r ≡ read s l t = ap (λ y. reading s y room (t .call)) (k .base-is) in
-      let h = judged s some-bytes l x r k (λ q e. reading-fits s some-bytes (baseOf l) room (t .call) q b (sym same ∙ e)) in
-      let (e, z) = did m (t .memory) (t .answer) x (responds s x r) (p .follows s x held) held in
-      let i = subst (λ a. Judged s l r a × Tracks s some-bytes (logged s l r a) (stateAfter x (responds s x r))) (sym e) h in
-      let (j, n) =
-      subst (λ y. Judged s l y (said (t .answer)) × Tracks s some-bytes (logged s l y (said (t .answer))) (stateAfter x (responds s x r))) same i in
-      (e, j, n, z)
+      let j = foundBy s x (esiOf (t .call)) in
+      let r = reading s (j .base) (length (t .working)) (t .call) in
+      let same : r ≡ read s l t = read-found l t x k in
+      let h = judged s some-bytes l x (esiOf (t .call)) r k (read-passes l t x k b) in
+      let (e, z) = did m (t .memory) (t .answer) x (responds s j r) (p .follows s x held) held in
+      let i = subst (λ a. Judged s l r a × Tracks s some-bytes (logged s l r a) (stateAfter x (responds s j r))) (sym e) h in
+      let (g, n) =
+      subst (λ y. Judged s l y (said (t .answer)) × Tracks s some-bytes (logged s l y (said (t .answer))) (stateAfter x (responds s j r))) same i in
+      (e, g, n, z)
 
   step : (m : List ℕ) (l : Log) (t : Step) → Stands m l → OfBytes (t .call) → Received L (t .call) m (t .memory) (t .working) (t .left) (t .answer)
       → Judged s l (read s l t) (said (t .answer)) × Stands (t .memory) (logged s l (read s l t) (said (t .answer)))
@@ -82,75 +93,103 @@ module _ (L : Layout) (s : Setting) (v : Valid s) where
 
   -- ---- The symbol calls
 
-  module _ (m : List ℕ) (l : Log) (g : Stands m l) where
-    abbrev pub state : State s
-    state = g .state
+  -- Before any base the memory holds that; after it, a receiver with the base.
+  pub held-fresh : (m : List ℕ) (l : Log) → Stands m l → baseOf s l ≡ none → L .Holds m s none
+  held-fresh m l g e = go (g .state) (g .held) (sym (g .tracks .base-is) ∙ e)
+    where
+      go : (x : State s) → L .Holds m s x → baseIn s some-bytes x ≡ none → L .Holds m s none
+      go none h e = h
+      go (some t) h e = absurd (Option·none-ne-some (t .base) (sym e))
 
-    -- What the two calls find at the ESI of the position base + d.
-    pub at-base : (d : ℕ) (o : Finding E) → finding s state ((state .base + d) % 2 ^ 32) ≡ o → finding s state (esi (baseOf l + d)) ≡ o
-    at-base d o e = subst (λ b. finding s state ((b + d) % 2 ^ 32) ≡ o) (g .tracks .base-is) e
+  pub record From (m : List ℕ) (qs : List Located) (b : ℕ) : Type 0 where
+    pub state : Joined s
+    pub base-is : state .base ≡ b
+    pub held : L .Holds m s (some state)
+    pub tracks : TracksFrom s some-bytes qs state
 
-    answer-is : (d : ℕ) (o : Finding E) → finding s state (esi (baseOf l + d)) ≡ o → (a : Answer) → SymbolAnswered L m (esi (baseOf l + d)) a
+  pub held-from : (m : List ℕ) (l : Log) → Stands m l → (b : ℕ) → baseOf s l ≡ some b → From m l b
+  held-from m l g b e = go (g .state) (g .held) (sym (g .tracks .base-is) ∙ e) (g .tracks .from b)
+    where
+      go : (x : State s) → L .Holds m s x → baseIn s some-bytes x ≡ some b → TracksFrom s some-bytes l (foundBy s x b) → From m l b
+      go none h e k = absurd (Option·none-ne-some b e)
+      go (some t) h e k = record { state = t; base-is = Option·some-injective _ _ e; held = h; tracks = k }
+
+  hidden-before : (m : List ℕ) → L .Holds m s none → (e : ℕ) → HiddenBefore L s m e
+  unfolding finding
+  hidden-before m h e = record {
+    answer = λ a p. p .finds s none h;
+    nothing = λ memory part q p. p .shows s none (subst (λ x. L .Holds x s none) (sym q) h);
+  }
+
+  module _ (m : List ℕ) (qs : List Located) (b : ℕ) (g : From m qs b) where
+    -- What the two calls find at the ESI of the position b + d.
+    pub at-base : (d : ℕ) (o : Finding E) → finding s (some (g .state)) ((g .state .base + d) % 2 ^ 32) ≡ o → finding s (some (g .state)) (esi (b + d)) ≡ o
+    at-base d o e = subst (λ x. finding s (some (g .state)) ((x + d) % 2 ^ 32) ≡ o) (g .base-is) e
+
+    answer-is : (d : ℕ) (o : Finding E) → finding s (some (g .state)) (esi (b + d)) ≡ o → (a : Answer) → SymbolAnswered L m (esi (b + d)) a
         → Finds L o a
-    answer-is d o e a p = subst (λ x. Finds L x a) e (p .finds s state (g .held))
+    answer-is d o e a p = subst (λ x. Finds L x a) e (p .finds s (some (g .state)) (g .held))
 
-    part-is : (d : ℕ) (o : Finding E) → finding s state (esi (baseOf l + d)) ≡ o → (memory part : RefT (List ℕ)) → now memory ≡ m
-        → PartShown L memory part (esi (baseOf l + d)) → Shows L s o memory part
+    part-is : (d : ℕ) (o : Finding E) → finding s (some (g .state)) (esi (b + d)) ≡ o → (memory part : RefT (List ℕ)) → now memory ≡ m
+        → PartShown L memory part (esi (b + d)) → Shows L s o memory part
     part-is d o e memory part q p =
-        subst (λ x. Shows L s x memory part) e (p .shows s state (subst (λ x. L .Holds x s state) (sym q) (g .held)))
+        subst (λ x. Shows L s x memory part) e (p .shows s (some (g .state)) (subst (λ x. L .Holds x s (some (g .state))) (sym q) (g .held)))
 
-    outside : (d : ℕ) → width ≤ d → d < 2 ^ 32 → HiddenOutside L s m (baseOf l) d
+    outside : (d : ℕ) → width ≤ d → d < 2 ^ 32 → HiddenOutside L s m b d
     outside d w h = record {
-      past = λ n a p. answer-is d (hides 12) (at-base d (hides 12) (found-past s state d h n w)) a p;
-      behind = λ n a p. answer-is d (hides 8) (at-base d (hides 8) (found-behind s state d h n)) a p;
+      past = λ n a p. answer-is d (hides 12) (at-base d (hides 12) (found-past s (g .state) d h n w)) a p;
+      behind = λ n a p. answer-is d (hides 8) (at-base d (hides 8) (found-behind s (g .state) d h n)) a p;
       nothing = λ memory part q p. go (decLt d (2 ^ 31)) memory part q p;
     }
       where
-        go : Dec (d < 2 ^ 31) → (memory part : RefT (List ℕ)) → now memory ≡ m → PartShown L memory part (esi (baseOf l + d)) → now part ≡ []
-        go (yes n) memory part q p = part-is d (hides 12) (at-base d (hides 12) (found-past s state d h n w)) memory part q p
-        go (no n) memory part q p = part-is d (hides 8) (at-base d (hides 8) (found-behind s state d h (omega arith))) memory part q p
+        go : Dec (d < 2 ^ 31) → (memory part : RefT (List ℕ)) → now memory ≡ m → PartShown L memory part (esi (b + d)) → now part ≡ []
+        go (yes n) memory part q p = part-is d (hides 12) (at-base d (hides 12) (found-past s (g .state) d h n w)) memory part q p
+        go (no n) memory part q p = part-is d (hides 8) (at-base d (hides 8) (found-behind s (g .state) d h (omega arith))) memory part q p
 
     module _ (i : ℕ) (within : i < width) where
       abbrev pub symbol : Option (Symbol E)
-      symbol = known (state .window) i
+      symbol = known (g .state .window) i
 
-      pub here : finding s state (esi (baseOf l + i)) ≡ shown s (state .base + i) symbol
-      here = let n = v .width-most in at-base i (shown s (state .base + i) symbol) (found-inside s state i (omega arith) (omega arith) within)
+      abbrev pub found : Option (Symbol E) → Finding E
+      found o = shown s (g .state .base + i) o
 
-      pub exactly : decoder.Accepted symbol ↔ Known E (l .accepted) (baseOf l + i)
-      exactly = known-exactly s some-bytes l state (g .tracks) i
+      pub here : finding s (some (g .state)) (esi (b + i)) ≡ found symbol
+      here = let n = v .width-most in at-base i (found symbol) (found-inside s (g .state) i (omega arith) (omega arith) within)
 
-      zero-or-twelve : (o : Option (Symbol E)) (a : Answer) → Finds L (shown s (state .base + i) o) a → (said a ≡ value 0) ⊎ (said a ≡ refusal 12)
+      pub exactly : decoder.Accepted symbol ↔ Known E qs (b + i)
+      exactly = subst (λ x. decoder.Accepted symbol ↔ Known E qs (x + i)) (g .base-is) (known-exactly s some-bytes qs (g .state) (g .tracks) i)
+
+      pub value-is : (x : Symbol E) → symbol ≡ some x → (f : Filling E) → All E qs f → f (b + i) ≡ x
+      value-is x k f h = subst (λ y. f (y + i) ≡ x) (g .base-is) (known-value s some-bytes qs (g .state) (g .tracks) i x k f h)
+
+      zero-or-twelve : (o : Option (Symbol E)) (a : Answer) → Finds L (found o) a → (said a ≡ value 0) ⊎ (said a ≡ refusal 12)
       zero-or-twelve none a e = inr e
       zero-or-twelve (some x) a e = inl e
 
-      zero-exactly : (o : Option (Symbol E)) (a : Answer) → Finds L (shown s (state .base + i) o) a → (said a ≡ value 0) ↔ decoder.Accepted o
+      zero-exactly : (o : Option (Symbol E)) (a : Answer) → Finds L (found o) a → (said a ≡ value 0) ↔ decoder.Accepted o
       zero-exactly none a e = ((λ h. absurd (subst IsValue (sym h ∙ e) tt)), (λ h. absurd h))
       zero-exactly (some x) a e = ((λ _. tt), (λ _. e))
 
-      bytes-here : (memory part : RefT (List ℕ)) (o : Option (Symbol E)) → symbol ≡ o → Shows L s (shown s (state .base + i) o) memory part
-          → decoder.Accepted o → (f : Filling E) → All E (l .accepted) f → now part ≡ bytesOf E (f (baseOf l + i))
+      bytes-here : (memory part : RefT (List ℕ)) (o : Option (Symbol E)) → symbol ≡ o → Shows L s (found o) memory part
+          → decoder.Accepted o → (f : Filling E) → All E qs f → now part ≡ bytesOf E (f (b + i))
       bytes-here memory part none k p a f h = absurd a
-      bytes-here memory part (some x) k p a f h = p .0 ∙ ap (bytesOf E) (sym (known-value s some-bytes l state (g .tracks) i x k f h))
+      bytes-here memory part (some x) k p a f h = p .0 ∙ ap (bytesOf E) (sym (value-is x k f h))
 
-      nothing-here : (memory part : RefT (List ℕ)) (o : Option (Symbol E)) → Shows L s (shown s (state .base + i) o) memory part
-          → ¬ decoder.Accepted o → now part ≡ []
+      nothing-here : (memory part : RefT (List ℕ)) (o : Option (Symbol E)) → Shows L s (found o) memory part → ¬ decoder.Accepted o → now part ≡ []
       nothing-here memory part none p n = p
       nothing-here memory part (some x) p n = absurd (n tt)
 
-      bytes-shown : (memory part : RefT (List ℕ)) → now memory ≡ m → PartShown L memory part (esi (baseOf l + i))
-          → Known E (l .accepted) (baseOf l + i) → (f : Filling E) → All E (l .accepted) f → now part ≡ bytesOf E (f (baseOf l + i))
-      bytes-shown memory part q p k f h =
-          bytes-here memory part symbol refl (part-is i (shown s (state .base + i) symbol) here memory part q p) (exactly .1 k) f h
+      bytes-shown : (memory part : RefT (List ℕ)) → now memory ≡ m → PartShown L memory part (esi (b + i))
+          → Known E qs (b + i) → (f : Filling E) → All E qs f → now part ≡ bytesOf E (f (b + i))
+      bytes-shown memory part q p k f h = bytes-here memory part symbol refl (part-is i (found symbol) here memory part q p) (exactly .1 k) f h
 
-      shown-exactly : ShownExactly L s m (l .accepted) (baseOf l + i)
+      shown-exactly : ShownExactly L s m qs (b + i)
       shown-exactly = record {
-        answers = λ a p. zero-or-twelve symbol a (answer-is i (shown s (state .base + i) symbol) here a p);
-        shown = λ a p. Iff·trans (zero-exactly symbol a (answer-is i (shown s (state .base + i) symbol) here a p)) exactly;
+        answers = λ a p. zero-or-twelve symbol a (answer-is i (found symbol) here a p);
+        shown = λ a p. Iff·trans (zero-exactly symbol a (answer-is i (found symbol) here a p)) exactly;
         bytes = bytes-shown;
-        nothing = λ memory part q p n.
-            nothing-here memory part symbol (part-is i (shown s (state .base + i) symbol) here memory part q p) (λ a. n (exactly .0 a));
-        sender = λ memory part q p k all offset f h c n. bytes-shown memory part q p k f h ∙ carried E offset all f c (baseOf l + i) n;
+        nothing = λ memory part q p n. nothing-here memory part symbol (part-is i (found symbol) here memory part q p) (λ a. n (exactly .0 a));
+        sender = λ memory part q p k all join offset f h c l n. bytes-shown memory part q p k f h ∙ c (b + i) l n;
       }
 
   pub opened-stands : (scheme size w : ℕ) (m₀ m : List ℕ) (a : Answer) → Opened L scheme size w m₀ m a → said a ≡ value 0
@@ -162,9 +201,10 @@ module _ (L : Layout) (s : Setting) (v : Valid s) where
       let n = stands ts m fresh g p in
       record {
         calls = λ before t after e. each before t after m fresh g (subst (Run L m) e p);
-        consistent = tracks-consistent s some-bytes (history s ts) (n .state) (n .tracks);
-        window = λ i h. shown-exactly (final m ts) (history s ts) n i h;
-        outside = λ d h k. outside (final m ts) (history s ts) n d h k;
+        consistent = tracks-consistent s some-bytes (history s ts) (foundBy s (n .state) 0) (n .tracks .from 0);
+        before = λ e x. hidden-before (final m ts) (held-fresh (final m ts) (history s ts) n e) x;
+        window = λ b e i h. shown-exactly (final m ts) (history s ts) b (held-from (final m ts) (history s ts) n b e) i h;
+        outside = λ b e d h k. outside (final m ts) (history s ts) b (held-from (final m ts) (history s ts) n b e) d h k;
       }
 
 -- An opening that answers 0 had a setting.
@@ -192,7 +232,7 @@ alike s [] [] l e f g = refl
 alike s [] (u ∷ us) l e f g = absurd e
 alike s (t ∷ ts) [] l e f g = absurd e
 alike s (t ∷ ts) (u ∷ us) l e f g =
-    let same : read s l t ≡ read s l u = ap₂ (λ c n. reading s (baseOf l) n c) (e .0) (e .1) in
+    let same : read s l t ≡ read s l u = ap₂ (λ c n. readAfter s l n c) (e .0) (e .1) in
     let one : said (t .answer) ≡ said (u .answer) =
     judged-once s l (read s l u) _ _ (subst (λ r. Judged s l r (said (t .answer))) same (f [] t ts refl)) (g [] u us refl) in
     let on : logged s l (read s l t) (said (t .answer)) ≡ logged s l (read s l u) (said (u .answer)) = ap₂ (λ r a. logged s l r a) same one in

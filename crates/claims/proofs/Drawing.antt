@@ -1,5 +1,5 @@
 -- The draws that the calls give are those that the packets take: the headers of both ends keep the setting of the opening.
-use mathlib.Core.Path.{_≡_, sym, ap₂, _∙_}
+use mathlib.Core.Path.{sym, ap, ap₂, _∙_}
 use Prim.Native.Nat.{ℕ}
 use lib.ListN.{length, take}
 use Rattle.wire.specs.declared.Scheme.{Scheme}
@@ -8,7 +8,9 @@ use Rattle.wire.proofs.Settings.{setting-names}
 use Rattle.coefficients.specs.Coefficients.{packetDraws}
 use Rattle.sender.specs.State as sender
 use Rattle.receiver.specs.History.{fresh}
+use Rattle.receiver.specs.Promises.{drawsFor}
 use Rattle.receiver.specs.Layout.{headerOf, receiverLayout}
+use Rattle.receiver.proofs.Headers.{setting-of}
 use Rattle.claims.specs.SenderRun.{symbolsOf}
 use Rattle.claims.specs.Drawing.{Accepted-draws, Made-draws}
 use Rattle.claims.proofs.Demand.{opened-stands, stands, had-setting}
@@ -19,7 +21,7 @@ accepted-draws scheme E w m₀ m a p e ts r =
     let (s, h) = had-setting (settingOf scheme E w) (length m₀) (sym (p .answer) ∙ e) in
     let v = setting-names scheme E w s h .valid in
     let g = stands receiverLayout s v ts m fresh (opened-stands receiverLayout s v scheme E w m₀ m a p e h) r in
-    (s, h, λ c m′ v v′ n d q. q .draws .draws (headerOf s (g .state)) (g .held .header))
+    (s, h, λ c m′ v v′ n d q. q .draws .draws (headerOf s (g .state)) (g .held .header) ∙ ap (λ x. drawsFor x c) (setting-of s (g .state)))
 
 pub made-draws : Made-draws
 made-draws t s l peers key dt count n d out out′ q =

@@ -1,7 +1,7 @@
 -- The ADU call hands out what the history says, after every list of calls that the promises allow.
 use mathlib.Core.Path.{_≡_, sym, ap, ap₂, _∙_, subst}
 use mathlib.Core.Logic.{_↔_, Iff·trans}
-use mathlib.Core.Option.{none, some}
+use mathlib.Core.Option.{none, some, Option·none-ne-some, Option·some-injective}
 use mathlib.Core.List.{List, [], _∷_, _++_}
 use Prim.Native.Nat.{ℕ, _+_, _%_, _^_, _≤_, _<_}
 use native.Mathlib.Omega.{arith}
@@ -15,21 +15,20 @@ use Rattle.wire.proofs.Settings.{setting-names}
 use Rattle.starts.specs.declared.Handed.{Handed}
 use Rattle.starts.specs.declared.Handed.the-variants.{Adu, Withheld}
 use Rattle.starts.specs.Adu.{View, Handing, hands, withholds, handing, HandedAs}
-use Rattle.starts.specs.Starts.{Starts, zeroth, seen}
+use Rattle.starts.specs.Starts.{Starts, nowhere, seen}
 use Rattle.starts.proofs.Handing.{flow-of, adu-of, withheld, handing-exactly}
 use Rattle.receiver.specs.declared.Answer.{Answer}
-use Rattle.receiver.specs.History.{Located, reading, Log, fresh, baseOf, OfBytes, logged, value, Start, symbolsAt}
-use Rattle.receiver.specs.Model.{State, opened, stateAfter, responds, receiving, marking, aduAt}
+use Rattle.receiver.specs.History.{Located, reading, baseFor, Log, fresh, baseOf, OfBytes, esiOf, logged, value, Start, symbolsAt}
+use Rattle.receiver.specs.Model.{Joined, State, opened, foundBy, stateAfter, responds, answering, marking, aduAt}
 use Rattle.receiver.specs.Promises.{Layout, said, Opened, Received, AduAnswered}
-use Rattle.receiver.proofs.Answers.{Tracks, fresh-tracks}
-use Rattle.receiver.proofs.Readings.{reading-fits}
+use Rattle.receiver.proofs.Answers.{Tracks, TracksFrom, baseIn, fresh-tracks}
 use Rattle.receiver.proofs.Places.{adu-inside, adu-past, adu-behind}
 use Rattle.receiver.proofs.Starting.{Sees, shown-whole, unseen, shows-held, held-shows, shows-inside, seen-outside, AreStarts, MarksTrack}
 use Rattle.receiver.proofs.Starting.{fresh-marks, tracks-sees, marking-tracks}
 use Rattle.claims.specs.Run.{Step, Run, final, read, goes-on, history}
 use Rattle.claims.specs.Demand.{esi}
-use Rattle.claims.specs.Handing.{Told, HoldsAdu, Handed-out, Hands-out}
-use Rattle.claims.proofs.Demand.{some-bytes, called, had-setting}
+use Rattle.claims.specs.Handing.{Told, HoldsAdu, Handed-out, Handing-told, Hands-out}
+use Rattle.claims.proofs.Demand.{some-bytes, read-found, read-passes, called, had-setting}
 
 -- ---- What a call returned, and what it handed out
 
@@ -118,23 +117,22 @@ module _ (L : Layout) (s : Setting) (v : Valid s) where
 
   step : (m : List ℕ) (l : Log) (t : Step) → Marked m l → OfBytes (t .call) → Received L (t .call) m (t .memory) (t .working) (t .left) (t .answer)
       → Marked (t .memory) (logged s l (read s l t) (said (t .answer)))
-  unfolding receiving
+  unfolding answering
   step m l t g b p =
       let x = g .state in
+      let j = foundBy s x (esiOf (t .call)) in
       let M = g .starts in
-      let room = length (t .working) in
-      let r = reading s (x .base) room (t .call) in
-      let (e, j, n, z) = called L s v m l t x (g .held) (g .tracks) b p in
-      let same : r ≡ read s l t = ap (λ y. reading s y room (t .call)) (g .tracks .base-is) in
-      let k = marking-tracks s (some-bytes L s v) l x r M (g .tracks)
-      (λ q f. reading-fits s (some-bytes L s v) (baseOf l) room (t .call) q b (sym same ∙ f)) (g .begun) in
+      let r = reading s (j .base) (length (t .working)) (t .call) in
+      let (e, _, n, z) = called L s v m l t x (g .held) (g .tracks) b p in
+      let k = marking-tracks s (some-bytes L s v) l x (esiOf (t .call)) r M (g .tracks) (read-passes L s v l t x (g .tracks) b) (g .begun) in
       record {
-        state = stateAfter x (responds s x r);
+        state = stateAfter x (responds s j r);
         held = z;
         tracks = n;
-        starts = marking s x M r (responds s x r);
+        starts = marking s j M r (responds s j r);
         marks = p .starts s x M (g .held) (g .marks);
-        begun = subst (λ a. MarksTrack s (some-bytes L s v) a (marking s x M r (responds s x r))) (ap₂ (logged s l) same (sym e)) k;
+        begun = subst (λ a. MarksTrack s (some-bytes L s v) a (marking s j M r (responds s j r)))
+            (ap₂ (logged s l) (read-found L s v l t x (g .tracks)) (sym e)) k;
       }
 
   marked-on : (ts : List Step) (m : List ℕ) (l : Log) → Marked m l → Run L m ts → Marked (final m ts) (goes-on s l ts)
@@ -147,54 +145,76 @@ module _ (L : Layout) (s : Setting) (v : Valid s) where
     state = opened s;
     held = p .holds s h e;
     tracks = fresh-tracks s (some-bytes L s v);
-    starts = zeroth;
+    starts = nowhere;
     marks = p .starts s h e;
     begun = fresh-marks s (some-bytes L s v);
   }
 
   -- ---- The ADU call
 
-  module _ (m : List ℕ) (l : Log) (g : Marked m l) where
-    abbrev see : View
-    see = seen E width (g .state .window)
+  adu-before : (m : List ℕ) (M : Starts) → L .Holds m s none → L .Marks m s none M → (e : ℕ) (out out′ : List ℕ) (a : Handed)
+      → AduAnswered L m e out out′ a → HandedAs (withholds 12) out out′ a
+  unfolding aduAt
+  adu-before m M h k e out out′ a p = p .hands s none M h k
 
-    sees : Sees E (l .accepted) (baseOf l) see
-    sees = tracks-sees s (some-bytes L s v) l (g .state) (g .tracks)
+  module _ (m : List ℕ) (qs : List Located) (t : Joined s) (held : L .Holds m s (some t)) (tracks : TracksFrom s (some-bytes L s v) qs t)
+      (M : Starts) (marks : L .Marks m s (some t) M) (starts : AreStarts s qs (t .base) M) where
+    abbrev see : View
+    see = seen E width (t .window)
+
+    sees : Sees E qs (t .base) see
+    sees = tracks-sees s (some-bytes L s v) qs t tracks
 
     -- What it came to.
-    answered : (d : ℕ) (out out′ : List ℕ) (a : Handed) (h : Handing) → aduAt s (g .state) (g .starts) (length out) ((g .state .base + d) % 2 ^ 32) ≡ h
-        → AduAnswered L m (esi (baseOf l + d)) out out′ a → HandedAs h out out′ a
-    answered d out out′ a h e p =
-        let there : aduAt s (g .state) (g .starts) (length out) (esi (baseOf l + d)) ≡ h =
-        subst (λ b. aduAt s (g .state) (g .starts) (length out) ((b + d) % 2 ^ 32) ≡ h) (g .tracks .base-is) e in
-        subst (λ x. HandedAs x out out′ a) there (p .hands s (g .state) (g .starts) (g .held) (g .marks))
+    answered : (d : ℕ) (out out′ : List ℕ) (a : Handed) (h : Handing) → aduAt s (some t) M (length out) ((t .base + d) % 2 ^ 32) ≡ h
+        → AduAnswered L m (esi (t .base + d)) out out′ a → HandedAs h out out′ a
+    answered d out out′ a h e p = subst (λ x. HandedAs x out out′ a) e (p .hands s (some t) M held marks)
 
-    in-order : (d : ℕ) → d < width → (out out′ : List ℕ) (a : Handed) → AduAnswered L m (esi (baseOf l + d)) out out′ a
-        → HandedAs (handing E width (length out) (g .starts) see d) out out′ a
+    in-order : (d : ℕ) → d < width → (out out′ : List ℕ) (a : Handed) → AduAnswered L m (esi (t .base + d)) out out′ a
+        → HandedAs (handing E width (length out) M see d) out out′ a
     in-order d k out out′ a p =
         let n = v .width-most in
-        answered d out out′ a (handing E width (length out) (g .starts) see d)
-        (adu-inside s (g .state) (g .starts) (length out) d (omega arith) (omega arith) k) p
+        answered d out out′ a (handing E width (length out) M see d) (adu-inside s t M (length out) d (omega arith) (omega arith) k) p
 
-    handed-out : Handed-out L s m (l .accepted) (baseOf l)
+    handed-out : Handed-out L s m qs (t .base)
     handed-out =
-        let outside = seen-outside E width (g .state .window) in
+        let outside = seen-outside E width (t .window) in
         record {
           see = see;
-          marked = g .starts;
-          told = told s v (l .accepted) (baseOf l) see (g .starts) sees outside (g .begun .starts);
+          marked = M;
+          told = told s v qs (t .base) see M sees outside starts;
           calls = λ d small. record {
-            behind = λ h out out′ a p. answered d out out′ a (withholds 8) (adu-behind s (g .state) (g .starts) (length out) d small h) p;
-            past = λ k h out out′ a p. answered d out out′ a (withholds 12) (adu-past s (g .state) (g .starts) (length out) d small h k) p;
+            behind = λ h out out′ a p. answered d out out′ a (withholds 8) (adu-behind s t M (length out) d small h) p;
+            past = λ k h out out′ a p. answered d out out′ a (withholds 12) (adu-past s t M (length out) d small h k) p;
             order = in-order d;
             handed = λ k out out′ a p flow adu.
-                Iff·trans (returned (handing E width (length out) (g .starts) see d) out out′ a (in-order d k out out′ a p) flow adu)
-                (handed-exactly s v (l .accepted) (baseOf l) see (g .starts) sees outside (g .begun .starts) d (length out) k flow adu);
+                Iff·trans (returned (handing E width (length out) M see d) out out′ a (in-order d k out out′ a p) flow adu)
+                (handed-exactly s v qs (t .base) see M sees outside starts d (length out) k flow adu);
           };
         }
+
+  handing-told : (m : List ℕ) (l : Log) → Marked m l → Handing-told L s m l
+  handing-told m l g = record {
+    before = λ n. fresh-one (g .state) (g .held) (g .marks) (sym (g .tracks .base-is) ∙ n);
+    after = λ b n. joined-one b n (g .state) (g .held) (g .marks) (sym (g .tracks .base-is) ∙ n) (g .tracks .from b);
+  }
+    where
+      fresh-one : (x : State s) → L .Holds m s x → L .Marks m s x (g .starts) → baseIn s (some-bytes L s v) x ≡ none
+          → (e : ℕ) (out out′ : List ℕ) (a : Handed) → AduAnswered L m e out out′ a → HandedAs (withholds 12) out out′ a
+      fresh-one none h k n = adu-before m (g .starts) h k
+      fresh-one (some t) h k n = absurd (Option·none-ne-some (t .base) (sym n))
+
+      joined-one : (b : ℕ) → baseOf s l ≡ some b → (x : State s) → L .Holds m s x → L .Marks m s x (g .starts) → baseIn s (some-bytes L s v) x ≡ some b
+          → TracksFrom s (some-bytes L s v) l (foundBy s x b) → Handed-out L s m l b
+      joined-one b e none h k n f = absurd (Option·none-ne-some b n)
+      joined-one b e (some t) h k n f =
+          let i : b ≡ t .base = sym (Option·some-injective _ _ n) in
+          subst (Handed-out L s m l) (sym i)
+          (handed-out m l t h f (g .starts) k
+          (subst (λ y. AreStarts s l y (g .starts)) (ap (λ o. baseFor o b) e ∙ i) (g .begun b)))
 
 pub hands-out : (L : Layout) → Hands-out L
 hands-out L scheme E w m₀ m a p e ts r =
     let (s, h) = had-setting (settingOf scheme E w) (length m₀) (sym (p .answer) ∙ e) in
     let v = setting-names scheme E w s h .valid in
-    (s, h, handed-out L s v (final m ts) (history s ts) (marked-on L s v ts m fresh (opened-marked L s v scheme E w m₀ m a p e h) r))
+    (s, h, handing-told L s v (final m ts) (history s ts) (marked-on L s v ts m fresh (opened-marked L s v scheme E w m₀ m a p e h) r))

@@ -1,10 +1,11 @@
 -- Positions become starts: after an ADU that is held at one, and where a source packet was accepted.
 use mathlib.Core.Path.{_≡_, refl, sym, ap, _∙_, subst}
-use mathlib.Core.Logic.{_⊎_, inl, inr}
+use mathlib.Core.Logic.{inl, inr}
+use mathlib.Core.Option.{Option, some, Option·some-injective}
 use mathlib.Core.List.{List, [], _∷_, _++_, append-assoc}
 use Prim.Native.Nat.{ℕ, _+_, _-_, _≤_, _<_}
 use native.Mathlib.Omega.{arith}
-use lib.Dec.{lit<, leb}
+use lib.Dec.{leb}
 use lib.ListN.{length, getD, drop}
 use borrow.Author.Tests.{leb-true}
 use Rattle.wire.specs.declared.Setting.{Setting}
@@ -17,36 +18,20 @@ use Rattle.starts.specs.declared.Handed.the-variants.{Adu}
 use Rattle.starts.proofs.Chaining.{symbols-some}
 use Rattle.receiver.specs.Symbol.{bytesOf, symbolOf}
 use Rattle.receiver.specs.History.{Filling, symbolsAt, Located, source, repair, Satisfied, All, Consistent, Known, Reading, fails, located, first}
-use Rattle.receiver.specs.History.{readSource, readPacket, Log, fresh, baseOf, Said, value, refusal, IsValue, logged, baseAfter, Spanned, MarkedBy}
+use Rattle.receiver.specs.History.{esiOf, readSource, readPacket, baseFor, Log, fresh, Said, value, refusal, IsValue, raised, baseOf, logged}
+use Rattle.receiver.specs.History.{Spanned, MarkedBy}
 use Rattle.receiver.specs.History.{already, later, Start}
 use Rattle.receiver.specs.Promises.{Layout, said, AduAnswered}
 use Rattle.receiver.proofs.Says.{symbol-bytes}
 use Rattle.receiver.proofs.Readings.{check-passed, source-read, reading-passed}
 use Rattle.receiver.proofs.Starting.{start-spanned}
-use Rattle.claims.specs.SenderRun.{AreSymbols}
 use Rattle.claims.specs.Run.{Step, read, goes-on, history}
 use Rattle.claims.specs.Demand.{esi}
 use Rattle.claims.specs.Handing.{HoldsAdu, Handed-out, Goes-on, Heard, Heard-handed}
-use Rattle.claims.proofs.Carrying.{differ}
 use Rattle.claims.proofs.SentAdus.{first-here, length-here}
-
--- ---- The base of a history is that of its packets
 
 module _ (s : Setting) where
   open Setting s using (size as E, width)
-
-  logged-base : (l : Log) (r : Reading) (a : Said) → baseOf l ≡ baseAfter s (l .accepted)
-      → baseOf (logged s l r a) ≡ baseAfter s (logged s l r a .accepted)
-  logged-base l (fails n) a e = e
-  logged-base l (located q) (refusal n) e = e
-  logged-base l (located q) (value n) e = omega (arith, e)
-
-  base-on : (ts : List Step) (l : Log) → baseOf l ≡ baseAfter s (l .accepted) → baseOf (goes-on s l ts) ≡ baseAfter s (goes-on s l ts .accepted)
-  base-on [] l e = e
-  base-on (t ∷ ts) l e = base-on ts _ (logged-base l (read s l t) (said (t .answer)) e)
-
-  base-is : (ts : List Step) → baseOf (history s ts) ≡ baseAfter s (history s ts .accepted)
-  base-is ts = base-on ts fresh refl
 
   -- ---- A start goes on
 
@@ -58,38 +43,48 @@ module _ (s : Setting) where
         λ k b. first-here E (omega (arith, v .size-least)) k p flow adu (h .held k b) in
         sym (symbol-bytes E (f p)) ∙ ap (symbolOf E) (first f a ∙ sym (first g c)) ∙ symbol-bytes E (g p)
 
-    -- Without packets nothing is known.
-    nothing-known : Known E [] 0 → ⊥
-    nothing-known k =
-        let none : AreSymbols E [] = record { sized = λ i n. absurd (omega arith); small = λ i j. lit< tt } in
-        let d = differ E (omega (arith, v .size-least)) [] none in
-        d .apart (k (d .one) (d .other) tt tt)
-
-    on : (qs : List Located) → Consistent E qs → Start s qs p → HoldsAdu s qs (baseAfter s qs) p flow adu → Start s qs (p + symbolCount E (length adu))
-    on [] c e h = absurd (nothing-known (subst (Known E []) e (held-known [] 0 h)))
-    on (q ∷ qs) (f, a) r h =
+    on : (qs : List Located) (b : ℕ) → baseOf s qs ≡ some b → Consistent E qs → Start s qs p → HoldsAdu s qs b p flow adu
+        → Start s qs (p + symbolCount E (length adu))
+    on [] b e c r h = absurd r
+    on (q ∷ qs) b e (f, a) r h =
+        let base = raised s (baseOf s qs) q in
+        let is : base ≡ b = Option·some-injective _ _ e in
         let n = ap (symbolCount E) (length-here E (v .size-least) f p flow adu (h .long) (h .held f a)) in
         let some = symbols-some E (length adu) (omega (arith, v .size-least)) in
-        let span = start-spanned s (q ∷ qs) p r in
+        let span = start-spanned s (q ∷ qs) 0 p r in
         subst (λ (i : ℕ). Start s (q ∷ qs) (p + i)) n
-        (later r (omega (arith, some, h .inside)) (held-known (q ∷ qs) (baseAfter s (q ∷ qs)) h) f a
-        (subst (λ (i : ℕ). Spanned s (baseAfter s (q ∷ qs)) (p + i)) (sym n)
-        (record { low = omega (arith, span .low); high = h .inside })))
+        (later r (omega (arith, some, h .inside, is)) (held-known (q ∷ qs) b h) f a
+        (subst (λ (i : ℕ). Spanned s base (p + i)) (sym n)
+        (record { low = omega (arith, span .low); high = omega (arith, h .inside, is) })))
 
   -- ---- A source packet's positions
 
   -- The window reaches as far as a packet that was accepted.
-  named-high : (q : Located) (p base : ℕ) → MarkedBy s q p → baseAfter s (q ∷ []) ≤ base → p ≤ base + width
-  named-high (source x symbols) p base (inl e) h = omega (arith, e, h)
-  named-high (source x symbols) p base (inr e) h = omega (arith, e, h)
-  named-high (repair x n coefficients symbols) p base e h = absurd e
+  named-high : (o : Option ℕ) (q : Located) (p : ℕ) → MarkedBy s q p → p ≤ raised s o q + width
+  named-high o (source x symbols) p (inl e) = omega (arith, e)
+  named-high o (source x symbols) p (inr e) = omega (arith, e)
+  named-high o (repair x n coefficients symbols) p e = absurd e
 
-  stays : (newer older : List Located) (q : Located) (p : ℕ) → MarkedBy s q p → baseAfter s (newer ++ (q ∷ older)) ≤ p → Start s (newer ++ (q ∷ older)) p
-  stays [] older q p e h = already (inr e) (record { low = h; high = named-high q p (baseAfter s (q ∷ older)) e (omega arith) })
-  stays (x ∷ newer) older q p e h =
-      let r = stays newer older q p e (omega (arith, h)) in
-      let span = start-spanned s (newer ++ (q ∷ older)) p r in
-      already (inl r) (record { low = h; high = omega (arith, span .high) })
+  -- There is a base once a packet was accepted.
+  has-base : (newer older : List Located) (q : Located) → (b : ℕ) × (baseOf s (newer ++ (q ∷ older)) ≡ some b)
+  has-base [] older q = (_, refl)
+  has-base (x ∷ newer) older q = (_, refl)
+
+  -- A base rises only.
+  rises : (o : Option ℕ) (b : ℕ) (q : Located) → o ≡ some b → b ≤ raised s o q
+  rises o b q e = subst (λ (y : ℕ). y ≤ raised s o q) (ap (λ (u : Option ℕ). baseFor u (first q)) e) (omega arith)
+
+  stays : (newer older : List Located) (q : Located) (p : ℕ) → MarkedBy s q p → (b : ℕ) → baseOf s (newer ++ (q ∷ older)) ≡ some b → b ≤ p
+      → Start s (newer ++ (q ∷ older)) p
+  stays [] older q p e b i h = already (inr e) (record { low = omega (arith, h, Option·some-injective _ _ i); high = named-high (baseOf s older) q p e })
+  stays (x ∷ newer) older q p e b i h =
+      let qs = newer ++ (q ∷ older) in
+      let (b₀, i₀) = has-base newer older q in
+      let up = rises (baseOf s qs) b₀ x i₀ in
+      let is : raised s (baseOf s qs) x ≡ b = Option·some-injective _ _ i in
+      let r = stays newer older q p e b₀ i₀ (omega (arith, up, is, h)) in
+      let high = subst (λ (o : Option ℕ). p ≤ baseFor o 0 + width) i₀ (start-spanned s qs 0 p r .high) in
+      already (inl r) (record { low = omega (arith, is, h); high = omega (arith, high, up) })
 
   -- ---- What such a packet holds
 
@@ -97,40 +92,42 @@ module _ (s : Setting) where
   satisfied [] older q f a = a .0
   satisfied (x ∷ newer) older q f a = satisfied newer older q f (a .1)
 
-  reaches : (newer older : List Located) (p : ℕ) (symbols : List (List ℕ))
-      → p + length symbols ≤ baseAfter s (newer ++ (source p symbols ∷ older)) + width
-  reaches [] older p symbols = omega arith
-  reaches (x ∷ newer) older p symbols = omega (arith, reaches newer older p symbols)
+  reaches : (newer older : List Located) (p : ℕ) (symbols : List (List ℕ)) (b : ℕ) → baseOf s (newer ++ (source p symbols ∷ older)) ≡ some b
+      → p + length symbols ≤ b + width
+  reaches [] older p symbols b i = omega (arith, Option·some-injective _ _ i)
+  reaches (x ∷ newer) older p symbols b i =
+      let (b₀, i₀) = has-base newer older (source p symbols) in
+      let up = rises (baseOf s (newer ++ (source p symbols ∷ older))) b₀ x i₀ in
+      let is : raised s (baseOf s (newer ++ (source p symbols ∷ older))) x ≡ b = Option·some-injective _ _ i in
+      omega (arith, reaches newer older p symbols b₀ i₀, up, is)
 
 pub chain-goes-on : Goes-on
-chain-goes-on s v ts c p flow adu r h =
-    on s v p flow adu (history s ts .accepted) c r (subst (λ b. HoldsAdu s (history s ts .accepted) b p flow adu) (base-is s ts) h)
+chain-goes-on s v ts c b e p flow adu r h = on s v p flow adu (history s ts) b e c r h
 
 pub heard : Heard
-heard s ts newer older q e p n h =
-    subst (λ qs. Start s qs p) (sym e)
-    (stays s newer older q p n (subst (λ qs. baseAfter s qs ≤ p) e (subst (λ b. b ≤ p) (base-is s ts) h)))
+heard s ts newer older q e p n b i h =
+    subst (λ qs. Start s qs p) (sym e) (stays s newer older q p n b (sym (ap (baseOf s) e) ∙ i) h)
 
 -- An ADU whose symbols are those of an accepted source packet.
-held-handed : (L : Layout) (s : Setting) → Valid s → (ts : List Step) (m : List ℕ) → Handed-out L s m (history s ts .accepted) (baseOf (history s ts))
+held-handed : (L : Layout) (s : Setting) → Valid s → (ts : List Step) (m : List ℕ) (base : ℕ) → baseOf s (history s ts) ≡ some base
+    → Handed-out L s m (history s ts) base
     → (newer older : List Located) (p flow : ℕ) (adu : List ℕ) → length adu ≤ 65535
-    → history s ts .accepted ≡ newer ++ (source p (sourceSymbols flow adu (s .size)) ∷ older) → baseOf (history s ts) ≤ p
+    → history s ts ≡ newer ++ (source p (sourceSymbols flow adu (s .size)) ∷ older) → base ≤ p
     → (out out′ : List ℕ) (a : Handed) → AduAnswered L m (esi p) out out′ a → length adu ≤ length out
     → (a ≡ Adu flow (length adu)) × (out′ ≡ adu ++ drop (length adu) out)
-held-handed L s v ts m g newer older p flow adu short e h out out′ a k room =
+held-handed L s v ts m base b g newer older p flow adu short e h out out′ a k room =
     let E = s .size in
-    let qs = history s ts .accepted in
-    let base = baseOf (history s ts) in
+    let qs = history s ts in
     let symbols = sourceSymbols flow adu E in
     let q = source p symbols in
     let count : length symbols ≡ symbolCount E (length adu) = symbols-count flow adu E in
     let some = symbols-some E (length adu) (omega (arith, v .size-least)) in
     let r : p + length symbols ≤ base + s .width =
-    subst (λ b. p + length symbols ≤ b + s .width) (sym (base-is s ts ∙ ap (baseAfter s) e)) (reaches s newer older p symbols) in
+    reaches s newer older p symbols base (sym (ap (baseOf s) e) ∙ b) in
     let d = p - base in
     let here : base + d ≡ p = omega (arith, h) in
     let inside : d < s .width = omega (arith, some, count, r, h) in
-    let start = heard s ts newer older q e p (inl refl) h in
+    let start = heard s ts newer older q e p (inl refl) base b h in
     let held : HoldsAdu s qs base p flow adu = record {
       long = short;
       inside = omega (arith, count, r);
@@ -142,26 +139,26 @@ held-handed L s v ts m g newer older p flow adu short e h out out′ a k room =
 -- ---- The packet of a call
 
 module _ (s : Setting) where
-  logged-keeps : (l : Log) (r : Reading) (a : Said) → (newer : List Located) × (logged s l r a .accepted ≡ newer ++ l .accepted)
+  logged-keeps : (l : Log) (r : Reading) (a : Said) → (newer : List Located) × (logged s l r a ≡ newer ++ l)
   logged-keeps l (fails n) a = ([], refl)
   logged-keeps l (located q) (refusal n) = ([], refl)
   logged-keeps l (located q) (value n) = (q ∷ [], refl)
 
-  keeps : (ts : List Step) (l : Log) → (newer : List Located) × (goes-on s l ts .accepted ≡ newer ++ l .accepted)
+  keeps : (ts : List Step) (l : Log) → (newer : List Located) × (goes-on s l ts ≡ newer ++ l)
   keeps [] l = ([], refl)
   keeps (t ∷ ts) l =
       let (b, g) = logged-keeps l (read s l t) (said (t .answer)) in
       let (a, e) = keeps ts (logged s l (read s l t) (said (t .answer))) in
-      (a ++ b, e ∙ ap (λ (x : List Located). a ++ x) g ∙ sym (append-assoc a b (l .accepted)))
+      (a ++ b, e ∙ ap (λ (x : List Located). a ++ x) g ∙ sym (append-assoc a b l))
 
-  logged-takes : (l : Log) (r : Reading) (a : Said) (q : Located) → r ≡ located q → IsValue a → logged s l r a .accepted ≡ q ∷ l .accepted
-  logged-takes l r (value n) q e h = ap (λ x. logged s l x (value n) .accepted) e
+  logged-takes : (l : Log) (r : Reading) (a : Said) (q : Located) → r ≡ located q → IsValue a → logged s l r a ≡ q ∷ l
+  logged-takes l r (value n) q e h = ap (λ x. logged s l x (value n)) e
   logged-takes l r (refusal n) q e h = absurd h
 
   -- An accepted packet stands in the history.
   takes : (before : List Step) (t : Step) (after : List Step) (l : Log) (q : Located) → read s (goes-on s l before) t ≡ located q
       → IsValue (said (t .answer))
-      → (newer : List Located) × (goes-on s l (before ++ (t ∷ after)) .accepted ≡ newer ++ (q ∷ goes-on s l before .accepted))
+      → (newer : List Located) × (goes-on s l (before ++ (t ∷ after)) ≡ newer ++ (q ∷ goes-on s l before))
   takes [] t after l q e h =
       let (a, g) = keeps after (logged s l (read s l t) (said (t .answer))) in
       (a, g ∙ ap (λ (x : List Located). a ++ x) (logged-takes l (read s l t) (said (t .answer)) q e h))
@@ -176,13 +173,13 @@ module _ (s : Setting) where
       leb-true _ _ (both (leb (length (sourceAdu p)) 65535) _ b .0)
 
 pub heard-handed : (L : Layout) → Heard-handed L
-heard-handed L s v before t after m g flow packet q c e y h out out′ a k room =
-    let base = baseOf (history s before) in
+heard-handed L s v before t after m b i g flow packet q c e y h out out′ a k room =
+    let base = baseFor (baseOf s (history s before)) (esiOf (t .call)) in
     let r : readSource s base flow packet ≡ located q =
     ap (readPacket s base) (sym c) ∙ reading-passed s base (length (t .working)) (t .call) q e in
     let z : q ≡ source (first q) (sourceSymbols flow (sourceAdu packet) (s .size)) =
     subst (λ w. w ≡ source (first w) (sourceSymbols flow (sourceAdu packet) (s .size))) (source-read s base flow packet q r .says) refl in
     let (newer, x) = takes s before t after fresh q e y in
-    held-handed L s v (before ++ (t ∷ after)) m g newer (history s before .accepted) (first q) flow (sourceAdu packet) (read-short s base flow packet q r)
-    (x ∙ ap (λ (w : Located). newer ++ (w ∷ history s before .accepted)) z)
+    held-handed L s v (before ++ (t ∷ after)) m b i g newer (history s before) (first q) flow (sourceAdu packet) (read-short s base flow packet q r)
+    (x ∙ ap (λ (w : Located). newer ++ (w ∷ history s before)) z)
     h out out′ a k room

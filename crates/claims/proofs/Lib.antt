@@ -10,6 +10,7 @@ pub mod Reading
 pub mod Sent
 pub mod SentAdus
 pub mod Heard
+pub mod Joining
 pub mod NotEmpty
 pub mod Drawing
 pub mod ReceiverUnopened

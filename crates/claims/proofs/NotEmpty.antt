@@ -3,7 +3,7 @@ use mathlib.Core.Path.{_≡_, refl, sym, ap, _∙_, subst}
 use mathlib.Core.Logic.{_≢_}
 use mathlib.Core.Option.{none, some, Option·none-ne-some, Option·some-injective}
 use mathlib.Core.List.{List, [], _∷_, map}
-use Prim.Native.Nat.{ℕ, _%_, _<_}
+use Prim.Native.Nat.{ℕ, _%_, _≤_, _<_}
 use native.Mathlib.Omega.{arith}
 use lib.ListN.{length, drop, length-drop}
 use Rattle.wire.specs.declared.Setting.{Setting}
@@ -19,15 +19,15 @@ use Rattle.starts.specs.Settled.{Settled}
 use Rattle.starts.proofs.Choosing.{with-starts}
 use Rattle.starts.proofs.Settling.{pass-settled}
 use Rattle.starts.proofs.Agreeing.{Agree}
-use Rattle.receiver.specs.History.{Located, Call, Reading, fails, located, reading, memorySize, workingSize, Said, value, refusal, IsValue}
-use Rattle.receiver.specs.Model.{State, opened, Outcome, refused, done, stateAfter, responds, receiving, startsAfter, marking}
+use Rattle.receiver.specs.History.{Located, Call, esiOf, Reading, fails, located, reading, memorySize, workingSize, Said, value, refusal, IsValue}
+use Rattle.receiver.specs.Model.{Joined, State, opened, foundBy, Outcome, refused, done, stateAfter, responds, answering, receiving, startsAfter, marking}
 use Rattle.receiver.specs.Header.{headerIn}
 use Rattle.receiver.specs.Promises.{Contained, Follows, Received}
 use Rattle.receiver.specs.Layout.{headerOf, Holds, Marks, receiverLayout}
 use Rattle.receiver.proofs.Building.{built}
-use Rattle.receiver.proofs.Congruent.{holds-same, held-same, Alike, both-refused, both-done, receiving-alike, marking-alike, same-after}
-use Rattle.receiver.proofs.Naming.{Sound, receiving-sound}
-use Rattle.receiver.proofs.Headers.{header-room, header-fits}
+use Rattle.receiver.proofs.Congruent.{Same, SameFrom, holds-same, held-same, found-same, Alike, both-refused, both-done, answering-alike, marking-alike}
+use Rattle.receiver.proofs.Naming.{Sound, answering-sound}
+use Rattle.receiver.proofs.Headers.{header-room, header-fits, setting-of, setting-held, found-stands}
 use Rattle.receiver.proofs.Marking.{starts-holds, starts-contained}
 use Rattle.claims.specs.Run.{Step, Run}
 use Rattle.claims.specs.NotEmpty.{Asked, asked, AllOfBytes, Runs-exist}
@@ -39,7 +39,11 @@ module _ (s : Setting) (v : Valid s) where
 
   -- A state that a memory holds, of whatever setting.
   settings-same : (m : List ℕ) (t : State s) (u : Setting) (x : State u) → Holds m s t → Holds m u x → s ≡ u
-  settings-same m t u x h k = ap (λ (y : Header). y .setting) (Option·some-injective _ _ (sym (h .header) ∙ k .header))
+  settings-same m t u x h k =
+      sym (setting-of s t) ∙ ap (λ (y : Header). y .setting) (Option·some-injective _ _ (sym (h .header) ∙ k .header)) ∙ setting-of u x
+
+  receiving-alike : (t u : State s) (room : ℕ) (c : Call) → Same s t u → Alike s (receiving s t room c) (receiving s u room c)
+  receiving-alike t u room c k = answering-alike s (foundBy s t (esiOf c)) (foundBy s u (esiOf c)) room c (found-same s t u (esiOf c) k)
 
   -- The call does, of every state that the memory holds, what it does of one.
   follows-all : (m m′ : List ℕ) (a : Answer) (t : State s) (room : ℕ) (c : Call) → Holds m s t → Follows receiverLayout s (receiving s t room c) m m′ a
@@ -51,48 +55,47 @@ module _ (s : Setting) (v : Valid s) where
       one o p (both-done n y z e) (q, g) = (q, holds-same s m′ y z e g)
 
       here : (x : State s) → Holds m s x → Follows receiverLayout s (receiving s x room c) m m′ a
-      here x k = one _ _ (receiving-alike s t x room c (held-same s m t x h k)) d
+      here x k = one _ _ (receiving-alike t x room c (held-same s m t x h k)) d
 
       go : (u : Setting) → s ≡ u → (x : State u) → Holds m u x → Follows receiverLayout u (receiving u x room c) m m′ a
       go u e = subst (λ y. (x : State y) → Holds m y x → Follows receiverLayout y (receiving y x room c) m m′ a) e here
 
-  -- And so it leaves marks, of every state and marks that the memory has.
-  abbrev now-marked : List ℕ → State s → Starts
-  now-marked m t = marked (s .width) (s .size) (t .base % s .width) m
+  -- And so it leaves marks, of every state and marks that the memory has: those that the memory shows for the state as the packet finds it.
+  abbrev now-marked : List ℕ → Joined s → Starts
+  now-marked m j = marked (s .width) (s .size) (j .base % s .width) m
 
   -- The marks after the call, and what was read of it and came of it.
-  abbrev marks-by : (x : State s) → Starts → (room : ℕ) → Call → Starts
-  marks-by x M room c = marking s x M (reading s (x .base) room c) (receiving s x room c)
+  abbrev marks-by : (u : Setting) (x : State u) → Starts → (room : ℕ) → Call → Starts
+  marks-by u x M room c = let j = foundBy u x (esiOf c) in marking u j M (reading u (j .base) room c) (receiving u x room c)
 
-  abbrev Settles : (m′ : List ℕ) (room : ℕ) → Call → State s → Starts → Type 0
-  Settles m′ room c x M = Settled (s .size) (s .width) (seen (s .size) (s .width) (stateAfter x (receiving s x room c) .window)) (notedIn m′) (marks-by x M room c)
+  found-bytes : (m : List ℕ) (x : State s) (e : ℕ) (M : Starts) → Marks m s x M → stored.Marks (s .width) (s .size) (foundBy s x e .base % s .width) m M
+  found-bytes m none e M k = k (e % s .width)
+  found-bytes m (some t) e M k = k .bytes
 
-  starts-all : (m m′ : List ℕ) (t : State s) (room : ℕ) (c : Call) → Holds m s t
-      → stored.Marks (s .width) (s .size) (stateAfter t (receiving s t room c) .base % s .width) m′ (marks-by t (now-marked m t) room c)
-      → ((x : State s) (M : Starts) → Holds m s x → Marks m s x M → Settles m′ room c x M)
-      → (u : Setting) (x : State u) (M : Starts) → Holds m u x → Marks m u x M
-      → Marks m′ u (stateAfter x (receiving u x room c)) (marking u x M (reading u (x .base) room c) (receiving u x room c))
-  starts-all m m′ t room c h d settles u x M k n = go u (settings-same m t u x h k) x k n
+  -- A refusal leaves all marks.
+  refused-marks : (j : Joined s) (M : Starts) (n : ℕ) (r : Reading) → marking s j M r (refused n) ≡ M
+  refused-marks j M n (fails k) = refl
+  refused-marks j M n (located q) = refl
+
+  was-refused : (n : ℕ) {p : Outcome s} → Alike s (refused n) p → p ≡ refused n
+  was-refused n (both-refused k) = refl
+
+  starts-refused : (m : List ℕ) (t : State s) (room : ℕ) (c : Call) (n : ℕ) → Holds m s t → receiving s t room c ≡ refused n
+      → (u : Setting) (x : State u) (M : Starts) → Holds m u x → Marks m u x M → Marks m u (stateAfter x (receiving u x room c)) (marks-by u x M room c)
+  starts-refused m t room c n h e u x M k g = go u (settings-same m t u x h k) x k g
     where
-      here : (x : State s) → Holds m s x → Marks m s x M → Marks m′ s (stateAfter x (receiving s x room c)) (marks-by x M room c)
-      here x k n =
-          let same = held-same s m t x h k in
-          let agree : Agree (s .width) (now-marked m t) M = λ j q. ap (λ b. marked (s .width) (s .size) b m j) (same .row) ∙ n .bytes j q in
-          let after = same-after s (receiving s t room c) (receiving s x room c) (receiving-alike s t x room c same) t x same in
-          record {
-            bytes = λ i l.
-                ap (λ b. marked (s .width) (s .size) b m′ i) (sym (after .row)) ∙ d i l
-                ∙ marking-alike s t x room c (now-marked m t) M same agree i l;
-            settled = settles x M k n;
-          }
+      here : (x : State s) → Holds m s x → Marks m s x M → Marks m s (stateAfter x (receiving s x room c)) (marks-by s x M room c)
+      here x k g =
+          let j = foundBy s x (esiOf c) in
+          let z : receiving s x room c ≡ refused n =
+          was-refused n (subst (λ o. Alike s o (receiving s x room c)) e (receiving-alike t x room c (held-same s m t x h k))) in
+          subst (λ o. Marks m s (stateAfter x o) (marking s j M (reading s (j .base) room c) o)) (sym z)
+          (subst (Marks m s x) (sym (refused-marks j M n (reading s (j .base) room c))) g)
 
-      go : (u : Setting) → s ≡ u → (x : State u) → Holds m u x → Marks m u x M
-          → Marks m′ u (stateAfter x (receiving u x room c)) (marking u x M (reading u (x .base) room c) (receiving u x room c))
-      go u e =
-          subst (λ y. (x : State y) → Holds m y x → Marks m y x M
-          → Marks m′ y (stateAfter x (receiving y x room c)) (marking y x M (reading y (x .base) room c) (receiving y x room c))) e here
+      go : (u : Setting) → s ≡ u → (x : State u) → Holds m u x → Marks m u x M → Marks m u (stateAfter x (receiving u x room c)) (marks-by u x M room c)
+      go u e = subst (λ y. (x : State y) → Holds m y x → Marks m y x M → Marks m y (stateAfter x (receiving y x room c)) (marks-by y x M room c)) e here
 
-  after-pass : (x x′ : State s) (q : Located) (M : Starts) (f : ℕ) → f ≢ 0
+  after-pass : (x x′ : Joined s) (q : Located) (M : Starts) (f : ℕ) → f ≢ 0
       → Settled (s .size) (s .width) (seen (s .size) (s .width) (x′ .window)) f (startsAfter s x x′ q M)
   unfolding startsAfter
   after-pass x x′ q M f g = pass-settled (s .size) (s .width) (seen (s .size) (s .width) (x′ .window)) f _ some-bytes g
@@ -102,32 +105,51 @@ module _ (s : Setting) (v : Valid s) where
   IsRefused (refused n) = Unit {0}
 
   -- The marks of an accepted packet are settled, once an end past the window is noted.
-  settled-after : (x : State s) (M : Starts) (f n : ℕ) (y : State s) → f ≢ 0 → (r : Reading) (o : Outcome s) → responds s x r ≡ o → o ≡ done n y
-      → Settled (s .size) (s .width) (seen (s .size) (s .width) (stateAfter x o .window)) f (marking s x M r o)
-  settled-after x M f n y g (fails k) o e z = absurd (subst IsRefused (e ∙ z) tt)
-  settled-after x M f n y g (located q) (refused k) e z = absurd (subst IsRefused z tt)
-  settled-after x M f n y g (located q) (done k x′) e z = after-pass x x′ q M f g
+  settled-after : (j : Joined s) (M : Starts) (f n : ℕ) (y : Joined s) → f ≢ 0 → (r : Reading) → responds s j r ≡ done n y
+      → Settled (s .size) (s .width) (seen (s .size) (s .width) (y .window)) f (marking s j M r (done n y))
+  settled-after j M f n y g (fails k) e = absurd (subst IsRefused e tt)
+  settled-after j M f n y g (located q) e = after-pass j y q M f g
 
-  settles-done : (x : State s) (M : Starts) (f n : ℕ) (y : State s) → f ≢ 0 → (room : ℕ) (c : Call) → receiving s x room c ≡ done n y
-      → Settled (s .size) (s .width) (seen (s .size) (s .width) (stateAfter x (receiving s x room c) .window)) f (marks-by x M room c)
-  unfolding receiving
-  settles-done x M f n y g room c z = settled-after x M f n y g (reading s (x .base) room c) (responds s x (reading s (x .base) room c)) refl z
+  settles-done : (j : Joined s) (M : Starts) (f n : ℕ) (y : Joined s) → f ≢ 0 → (room : ℕ) (c : Call) → answering s j room c ≡ done n y
+      → Settled (s .size) (s .width) (seen (s .size) (s .width) (y .window)) f (marking s j M (reading s (j .base) room c) (done n y))
+  unfolding answering
+  settles-done j M f n y g room c z = settled-after j M f n y g (reading s (j .base) room c) z
 
-  was-refused : (n : ℕ) {p : Outcome s} → Alike s (refused n) p → p ≡ refused n
-  was-refused n (both-refused k) = refl
+  was-done : (n : ℕ) (x : Joined s) {p : Outcome s} → Alike s (done n x) p → (y : Joined s) × (p ≡ done n y) × SameFrom s x y
+  was-done n x (both-done k t u e) = (u, refl, e)
 
-  was-done : (n : ℕ) (x : State s) {p : Outcome s} → Alike s (done n x) p → (y : State s) × (p ≡ done n y)
-  was-done n x (both-done k t u e) = (u, refl)
+  starts-done : (m m′ : List ℕ) (t : State s) (room : ℕ) (c : Call) (n : ℕ) (y : Joined s) → Holds m s t → receiving s t room c ≡ done n y → notedIn m′ ≢ 0
+      → let j = foundBy s t (esiOf c) in
+      stored.Marks (s .width) (s .size) (y .base % s .width) m′ (marking s j (now-marked m j) (reading s (j .base) room c) (done n y))
+      → (u : Setting) (x : State u) (M : Starts) → Holds m u x → Marks m u x M → Marks m′ u (stateAfter x (receiving u x room c)) (marks-by u x M room c)
+  starts-done m m′ t room c n y h e noted d u x M k g = go u (settings-same m t u x h k) x k g
+    where
+      here : (x : State s) → Holds m s x → Marks m s x M → Marks m′ s (stateAfter x (receiving s x room c)) (marks-by s x M room c)
+      here x k g =
+          let j = foundBy s t (esiOf c) in
+          let i = foundBy s x (esiOf c) in
+          let same = held-same s m t x h k in
+          let found = found-same s t x (esiOf c) same in
+          let agree : Agree (s .width) (now-marked m j) M =
+          λ b q. ap (λ r. marked (s .width) (s .size) r m b) (found .row) ∙ found-bytes m x (esiOf c) M g b q in
+          let (z, is, alike) = was-done n y (subst (λ o. Alike s o (receiving s x room c)) e (receiving-alike t x room c same)) in
+          let after = marking-alike s j i room c (now-marked m j) M found agree in
+          subst (λ o. Marks m′ s (stateAfter x o) (marking s i M (reading s (i .base) room c) o)) (sym is)
+          (record {
+            bytes = λ b l.
+                ap (λ r. marked (s .width) (s .size) r m′ b) (sym (alike .row)) ∙ d b l
+                ∙ ap (λ o. marking s j (now-marked m j) (reading s (j .base) room c) o b) (sym e) ∙ after b l
+                ∙ ap (λ o. marking s i M (reading s (i .base) room c) o b) is;
+            settled = settles-done i M (notedIn m′) n z noted room c is;
+          })
 
-  refused-marks : (t : State s) (M : Starts) (n : ℕ) (r : Reading) → marking s t M r (refused n) ≡ M
-  refused-marks t M n (fails k) = refl
-  refused-marks t M n (located q) = refl
+      go : (u : Setting) → s ≡ u → (x : State u) → Holds m u x → Marks m u x M → Marks m′ u (stateAfter x (receiving u x room c)) (marks-by u x M room c)
+      go u e = subst (λ y. (x : State y) → Holds m y x → Marks m y x M → Marks m′ y (stateAfter x (receiving y x room c)) (marks-by y x M room c)) e here
 
   contained : (m m′ w : List ℕ) (t : State s) → Holds m s t → Contained (memorySize s) m m′ → (h : Header) → headerIn m ≡ some h
       → Contained (memorySize (h .setting)) m m′ × Contained (workingSize (h .setting)) w w
   contained m m′ w t k d h e =
-      let g : s ≡ h .setting = ap (λ (y : Header). y .setting) (Option·some-injective _ _ (sym (k .header) ∙ e)) in
-      (subst (λ y. Contained (memorySize y) m m′) g d, record { same = refl; past = refl })
+      (subst (λ y. Contained (memorySize y) m m′) (sym (setting-held m h s t e k)) d, record { same = refl; past = refl })
 
   -- The next call.
   record Next (m : List ℕ) (t : State s) (c : Call) (w : List ℕ) : Type 0 where
@@ -138,7 +160,9 @@ module _ (s : Setting) (v : Valid s) where
     held : Holds memory s state
 
   next : (m : List ℕ) (t : State s) → Holds m s t → (c : Call) (w : List ℕ) → Next m t c w
-  next m t h c w = go (receiving s t (length w) c) refl (receiving-sound s some-bytes t (h .reduced) (length w) c)
+  next m t h c w =
+      go (receiving s t (length w) c) refl
+      (answering-sound s some-bytes (foundBy s t (esiOf c)) (found-stands m s t (esiOf c) some-bytes h .reduced) (length w) c)
     where
       is-headed : headerIn m ≡ none → ⊥
       is-headed e = Option·none-ne-some _ (sym e ∙ h .header)
@@ -154,17 +178,7 @@ module _ (s : Setting) (v : Valid s) where
           contained = contained m m w t h (record { same = refl; past = refl });
           follows = follows-all m m (Refused (g .refusal)) t (length w) c h
               (subst (λ x. Follows receiverLayout s x m m (Refused (g .refusal))) (sym e) (ap refusal (g .number), refl));
-          starts = starts-all m m t (length w) c h
-              (subst (λ o. stored.Marks (s .width) (s .size) (stateAfter t o .base % s .width) m
-              (marking s t (now-marked m t) (reading s (t .base) (length w) c) o)) (sym e)
-              (subst (stored.Marks (s .width) (s .size) (t .base % s .width) m) (sym (refused-marks t (now-marked m t) n (reading s (t .base) (length w) c)))
-              (λ i l. refl)))
-              (λ x M k km.
-              subst (λ o. Settled (s .size) (s .width) (seen (s .size) (s .width) (stateAfter x o .window)) (notedIn m)
-              (marking s x M (reading s (x .base) (length w) c) o))
-              (sym (was-refused n (subst (λ o. Alike s o (receiving s x (length w) c)) e (receiving-alike s t x (length w) c (held-same s m t x h k)))))
-              (subst (Settled (s .size) (s .width) (seen (s .size) (s .width) (x .window)) (notedIn m))
-              (sym (refused-marks x M n (reading s (x .base) (length w) c))) (km .settled)));
+          starts = starts-refused m t (length w) c n h e;
         };
         state = t;
         held = h;
@@ -174,12 +188,13 @@ module _ (s : Setting) (v : Valid s) where
           number (value k) = k
           number (refusal k) = k
       go (done n x) e g =
+          let j = foundBy s t (esiOf c) in
           let b = built s v x g (drop (memorySize s) m) in
-          let room = header-room m (headerOf s t) (h .header) in
-          let fits = header-fits (b .memory) (headerOf s x) (b .holds .header) in
-          let M = marking s t (now-marked m t) (reading s (t .base) (length w) c) (done n x) in
+          let room : memorySize s ≤ length m = subst (λ y. memorySize y ≤ length m) (setting-of s t) (header-room m (headerOf s t) (h .header)) in
+          let fits = header-fits (b .memory) (headerOf s (some x)) (b .holds .header) in
+          let M = marking s j (now-marked m j) (reading s (j .base) (length w) c) (done n x) in
           let (m′, only, marks, noted) = with-starts (s .width) (s .size) (x .base % s .width) M (fits .some-width) (b .memory) (fits .room) in
-          let held = starts-holds s x (b .memory) m′ (b .holds) only in
+          let held = starts-holds s (some x) (b .memory) m′ (b .holds) only in
           record {
             answer = Done n;
             memory = m′;
@@ -192,14 +207,9 @@ module _ (s : Setting) (v : Valid s) where
                 past = starts-contained s (b .memory) m′ only .past ∙ b .rest;
               });
               follows = follows-all m m′ (Done n) t (length w) c h (subst (λ y. Follows receiverLayout s y m m′ (Done n)) (sym e) (refl, held));
-              starts = starts-all m m′ t (length w) c h
-                  (subst (λ o. stored.Marks (s .width) (s .size) (stateAfter t o .base % s .width) m′
-                  (marking s t (now-marked m t) (reading s (t .base) (length w) c) o)) (sym e) marks)
-                  (λ x′ M′ k km.
-                  let (y, z) = was-done n x (subst (λ o. Alike s o (receiving s x′ (length w) c)) e (receiving-alike s t x′ (length w) c (held-same s m t x′ h k))) in
-                  settles-done x′ M′ (notedIn m′) n y (λ q. absurd (omega (arith, noted, q))) (length w) c z);
+              starts = starts-done m m′ t (length w) c n x h e (λ q. absurd (omega (arith, noted, q))) marks;
             };
-            state = x;
+            state = some x;
             held = held;
           }
 

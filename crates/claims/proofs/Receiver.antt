@@ -2,10 +2,11 @@
 use Rattle.receiver.specs.Layout.{receiverLayout}
 use Rattle.claims.specs.Receiver.{Receiver-claims}
 use Rattle.claims.proofs.Demand.{demand-3, no-choice}
+use Rattle.claims.proofs.Joining.{joins, unmarked}
 use Rattle.claims.proofs.Placing.{every-place}
 use Rattle.claims.proofs.Handing.{hands-out}
 use Rattle.claims.proofs.Reading.{reads}
-use Rattle.claims.proofs.Sent.{sender-fills, sent-accepted, sent-shown}
+use Rattle.claims.proofs.Sent.{sender-fills, sent-accepted, sent-behind, sent-shown}
 use Rattle.claims.proofs.Sending.{sender-sends}
 use Rattle.claims.proofs.SentAdus.{start-gives, junk-gives, sent-written, sent-starts, sent-handed}
 use Rattle.claims.proofs.Heard.{chain-goes-on, heard, heard-handed}
@@ -17,6 +18,8 @@ pub receiver-claims : Receiver-claims
 receiver-claims = record {
   demand-3 = demand-3 receiverLayout;
   no-choice = no-choice;
+  joins = joins receiverLayout;
+  unmarked = unmarked;
   places = every-place receiverLayout;
   hands-out = hands-out receiverLayout;
   goes-on = chain-goes-on;
@@ -26,6 +29,7 @@ receiver-claims = record {
   reads = reads;
   sender-fills = sender-fills;
   sent-accepted = sent-accepted;
+  sent-behind = sent-behind;
   sent-shown = sent-shown receiverLayout;
   sender-sends = sender-sends;
   start-gives = start-gives;

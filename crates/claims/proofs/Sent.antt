@@ -1,11 +1,13 @@
 -- The sender's symbols satisfy the sender's packets, which are accepted and shown.
-use mathlib.Core.Path.{_≡_, refl, ap, _∙_, subst}
+use mathlib.Core.Path.{_≡_, refl, sym, ap, _∙_, subst}
+use mathlib.Core.Option.{Option, none, some, Option·none-ne-some}
 use mathlib.Core.List.{List, [], _∷_, _++_, map}
 use Prim.Native.Nat.{ℕ, _+_, _-_, _%_, _^_, _≤_, _<_}
-use native.Mathlib.Nat.{mod-lt, add-zero}
+use native.Mathlib.Nat.{mod-lt}
 use native.Mathlib.Omega.{arith}
 use lib.Dec.{lit<}
-use lib.ListN.{length, getD, length-map}
+use lib.ListN.{length, length-map}
+use Rattle.wire.specs.declared.Scheme.{Scheme}
 use Rattle.wire.specs.declared.Setting.{Setting}
 use Rattle.wire.specs.Numbers.{distanceOf}
 use Rattle.wire.specs.Settings.{Valid}
@@ -16,23 +18,48 @@ use Rattle.coefficients.proofs.Lists.{length-keys}
 use Rattle.rows.specs.Combination.{combination}
 use Rattle.rows.proofs.Combinations.{length-combination}
 use Rattle.sender.specs.Repair.{repairSymbol}
-use Rattle.receiver.specs.History.{Filling, Located, source, repair, Satisfied, All, source-call, repair-call, Reading, fails}
-use Rattle.receiver.specs.History.{located, workingSize, readPacket, reading, Log, fresh, baseOf, Said, value, refusal, IsValue, logged}
+use Rattle.receiver.specs.History.{Filling, Located, source, repair, first, Satisfied, All, Call, source-call, repair-call, esiOf, Reading, fails}
+use Rattle.receiver.specs.History.{located, workingSize, readPacket, reading, baseFor, joinedAt, Log, fresh, Said, value, refusal, IsValue, readAfter}
+use Rattle.receiver.specs.History.{baseOf, logged, Judged}
 use Rattle.receiver.specs.Promises.{Layout, said}
 use Rattle.receiver.proofs.Readings.{source-read, repair-read, reading-passed}
 use Rattle.claims.specs.SenderRun.{SenderCall, symbolsOf, AreSymbols, Packet}
 use Rattle.claims.specs.SenderRun.{Wrote, wrote-source, wrote-repair}
 use Rattle.claims.specs.Run.{Step, read, goes-on, history}
 use Rattle.claims.specs.Carrying.{Carries}
-use Rattle.claims.specs.Sent.{callOf, named, Near, AsWritten, Peers, Sender-fills, Sent-accepted, Sent-shown}
+use Rattle.claims.specs.Reading.{ReadBy}
+use Rattle.claims.specs.Sent.{callOf, named, Near, Arrives, AsWritten, InReach, Peers, Sender-fills, Sent-accepted, Sent-behind, Sent-shown}
 use Rattle.claims.proofs.Sending.{run-size, sender-symbols}
 use Rattle.claims.proofs.Carrying.{stretch, filler, filler-carries}
 use Rattle.claims.proofs.Reading.{reads}
 
--- A position near the base is found again by its ESI, unless it lies behind.
-pub found-again : (p base : ℕ) → p < base + 2 ^ 31 → base < p + 2 ^ 31 → distanceOf (p % 2 ^ 32) (base % 2 ^ 32) < 2 ^ 31
-    → base + distanceOf (p % 2 ^ 32) (base % 2 ^ 32) ≡ p
-found-again p base a b h = omega arith
+-- A sender's position near the base is found again by its ESI, unless it lies behind.
+pub found-again : (p base offset : ℕ) → offset % 2 ^ 32 ≡ 0 → Near p (base + offset) → distanceOf (p % 2 ^ 32) (base % 2 ^ 32) < 2 ^ 31
+    → base + distanceOf (p % 2 ^ 32) (base % 2 ^ 32) + offset ≡ p
+found-again p base offset w n h = omega (arith, w, n .ahead, n .behind)
+
+-- What arrives is near the base for it, and the offset is a number of whole rounds of ESIs.
+abbrev pub Rounds : (offset : ℕ) → Option ℕ → Type 0
+Rounds offset o = (b : ℕ) → o ≡ some b → offset % 2 ^ 32 ≡ 0
+
+pub arrived : (o : Option ℕ) (offset p : ℕ) → Rounds offset o → Arrives o offset p
+    → (offset % 2 ^ 32 ≡ 0) × Near p (baseFor o (p % 2 ^ 32) + offset)
+arrived none offset p w a = (omega (arith, a), record { ahead = omega (arith, a); behind = omega (arith, a) })
+arrived (some b) offset p w a = (w b refl, a)
+
+-- A sender's packet has the ESI of its position.
+pub esi-wrote : (scheme : Scheme) (E : ℕ) (all : List (List ℕ)) (x : Packet) (p : ℕ) → Wrote scheme E all x p → esiOf (callOf x) ≡ p % 2 ^ 32
+esi-wrote scheme E all x p (wrote-source before after flow adu i j l e) = source-esi adu (p % 2 ^ 32) (mod-lt p (lit< tt))
+esi-wrote scheme E all x p (wrote-repair before window after key dt count k d w v i j o e) = first-esi key dt (length window) (p % 2 ^ 32) _ (mod-lt p (lit< tt))
+
+-- Packets that begin at a position or later.
+abbrev pub From : ℕ → List Located → Type 0
+From join [] = Unit {0}
+From join (q ∷ qs) = (join ≤ first q) × From join qs
+
+pub from-zero : (qs : List Located) → From 0 qs
+from-zero [] = tt
+from-zero (q ∷ qs) = (omega arith, from-zero qs)
 
 module _ (s : Setting) (z : 0 < s .size) (all : List (List ℕ)) where
   open Setting s using (scheme, size as E, width)
@@ -62,90 +89,177 @@ module _ (s : Setting) (z : 0 < s .size) (all : List (List ℕ)) where
 
   -- ---- A packet near the base is satisfied by the sender's symbols
 
-  source-satisfied : (before after : List (List ℕ)) (flow : ℕ) (adu : List ℕ) → all ≡ before ++ (sourceSymbols flow adu E ++ after)
-      → (base : ℕ) → Near (length before) base → (q : Located)
-      → readPacket s base (source-call flow (sourcePacket adu (length before % 2 ^ 32))) ≡ located q
-      → (f : Filling E) → Carries E 0 all f → Satisfied E q f
-  source-satisfied before after flow adu e base n q h f c =
-      let p = length before in
-      let r = source-read s base flow _ q h in
-      let esi-is = source-esi adu (p % 2 ^ 32) (mod-lt p (lit< tt)) in
-      let here = found-again p base (n .ahead) (n .behind) (rw esi-is at (r .near)) in
-      subst (λ x. Satisfied E x f) (r .says)
-      (rw (esi-is, source-adu adu (p % 2 ^ 32), here) (stretch E 0 f before (sourceSymbols flow adu E) after all e c p (add-zero p)))
+  module _ (offset : ℕ) (rounds : offset % 2 ^ 32 ≡ 0) (base : ℕ) where
+    source-satisfied : (before after : List (List ℕ)) (flow : ℕ) (adu : List ℕ) → all ≡ before ++ (sourceSymbols flow adu E ++ after)
+        → Near (length before) (base + offset) → (q : Located)
+        → readPacket s base (source-call flow (sourcePacket adu (length before % 2 ^ 32))) ≡ located q
+        → (join : ℕ) → join ≤ first q → (f : Filling E) → Carries E join offset all f → Satisfied E q f
+    source-satisfied before after flow adu e n q h join l f c =
+        let p = length before in
+        let r = source-read s base flow _ q h in
+        let esi-is = source-esi adu (p % 2 ^ 32) (mod-lt p (lit< tt)) in
+        let here = found-again p base offset rounds n (rw esi-is at (r .near)) in
+        let d = distanceOf (p % 2 ^ 32) (base % 2 ^ 32) in
+        let at : join ≤ base + d = rw esi-is at (subst (λ x. join ≤ first x) (sym (r .says)) l) in
+        subst (λ x. Satisfied E x f) (r .says)
+        (rw (esi-is, source-adu adu (p % 2 ^ 32)) (stretch E join offset f before (sourceSymbols flow adu E) after all e c (base + d) at here))
 
-  repair-satisfied : (before window after : List (List ℕ)) (key dt count : ℕ) → key < 2 ^ 16 → dt ≤ 15 → length window ≤ 255
-      → all ≡ before ++ (window ++ after) → (base : ℕ) → Near (length before) base → (q : Located)
-      → readPacket s base (repair-call (repairPacket key dt (length window) (length before % 2 ^ 32) (repairs window key dt count))) ≡ located q
-      → (f : Filling E) → Carries E 0 all f → Satisfied E q f
-  repair-satisfied before window after key dt count k d w e base n q h f c =
-      let p = length before in
-      let m = length window in
-      let xs = repairs window key dt count in
-      let r = repair-read s base _ q h in
-      let esi-is = first-esi key dt m (p % 2 ^ 32) xs (mod-lt p (lit< tt)) in
-      let here = found-again p base (n .ahead) (n .behind) (rw esi-is at (r .near)) in
-      subst (λ x. Satisfied E x f) (r .says)
-      (rw (
-        esi-is,
-        here,
-        repair-key key dt m (p % 2 ^ 32) xs k,
-        density-threshold key dt m (p % 2 ^ 32) xs (omega arith) (omega arith),
-        protected-count key dt m (p % 2 ^ 32) xs (omega arith) (omega arith),
-        repair-symbols key dt m (p % 2 ^ 32) E xs (repairs-sized window key dt count) z,
-        repairs-count window key dt count,
+    repair-satisfied : (before window after : List (List ℕ)) (key dt count : ℕ) → key < 2 ^ 16 → dt ≤ 15 → length window ≤ 255
+        → all ≡ before ++ (window ++ after) → Near (length before) (base + offset) → (q : Located)
+        → readPacket s base (repair-call (repairPacket key dt (length window) (length before % 2 ^ 32) (repairs window key dt count))) ≡ located q
+        → (join : ℕ) → join ≤ first q → (f : Filling E) → Carries E join offset all f → Satisfied E q f
+    repair-satisfied before window after key dt count k i w e n q h join l f c =
+        let p = length before in
+        let m = length window in
+        let xs = repairs window key dt count in
+        let r = repair-read s base _ q h in
+        let esi-is = first-esi key dt m (p % 2 ^ 32) xs (mod-lt p (lit< tt)) in
+        let here = found-again p base offset rounds n (rw esi-is at (r .near)) in
+        let d = distanceOf (p % 2 ^ 32) (base % 2 ^ 32) in
+        let at : join ≤ base + d = rw esi-is at (subst (λ x. join ≤ first x) (sym (r .says)) l) in
+        subst (λ x. Satisfied E x f) (r .says)
+        (rw (
+          esi-is,
+          repair-key key dt m (p % 2 ^ 32) xs k,
+          density-threshold key dt m (p % 2 ^ 32) xs (omega arith) (omega arith),
+          protected-count key dt m (p % 2 ^ 32) xs (omega arith) (omega arith),
+          repair-symbols key dt m (p % 2 ^ 32) E xs (repairs-sized window key dt count) z,
+          repairs-count window key dt count,
+        )
+        (ap (λ (x : List (List ℕ)). map (λ (l : List ℕ). combination E l x) (listsOf scheme dt m (keys key count)))
+        (stretch E join offset f before window after all e c (base + d) at here)
+        ∙ repairs-combine window dt (keys key count)))
+
+    pub written-satisfied : (x : Packet) (p : ℕ) → Wrote scheme E all x p → Near p (base + offset) → (q : Located) → readPacket s base (callOf x) ≡ located q
+        → (join : ℕ) → join ≤ first q → (f : Filling E) → Carries E join offset all f → Satisfied E q f
+    written-satisfied x p (wrote-source before after flow adu i j l e) near q h join m f g =
+        source-satisfied before after flow adu e near q h join m f g
+    written-satisfied x p (wrote-repair before window after key dt count k d w v i j o e) near q h join m f g =
+        repair-satisfied before window after key dt count k d v e near q h join m f g
+
+    -- ---- A packet of the sender's is read by how far it lies from the base
+
+    written-read : (x : Packet) (p : ℕ) → Wrote scheme E all x p → named E x ≤ width → Valid s → (room : ℕ) → workingSize s ≤ room
+        → (d : ℕ) → d < 2 ^ 32 → (base + d) % 2 ^ 32 ≡ p % 2 ^ 32 → (q : Located) × ReadBy d (named E x) q (reading s base room (callOf x))
+    written-read x p (wrote-source before after flow adu i j l e) k w room enough d small here =
+        let n = ap (λ (y : List ℕ). symbolCount E (length y)) (source-adu adu (length before % 2 ^ 32)) in
+        let q = source (base + d) (sourceSymbols flow adu E) in
+        let g = reads s w base room d enough small .sources flow adu l (omega (arith, n, k)) in (
+          q,
+          subst (λ (i : ℕ). ReadBy d i q (reading s base room (source-call flow (sourcePacket adu (length before % 2 ^ 32))))) (sym n)
+              (subst (λ (y : ℕ). ReadBy d (symbolCount E (length adu)) q (reading s base room (source-call flow (sourcePacket adu y)))) here g),
+        )
+    written-read x p (wrote-repair before window after key dt count i j u v c d′ ok e) k w room enough d small here =
+        let m = length window in
+        let xs = repairs window key dt count in
+        let many = repairs-count window key dt count in
+        let n = protected-count key dt m (length before % 2 ^ 32) xs (omega arith) (omega arith) in
+        let q = repair (base + d) m (listsOf scheme dt m (keys key (length xs))) xs in
+        let g = reads s w base room d enough small .repairs key dt m xs i j u (omega (arith, n, k)) (repairs-sized window key dt count)
+        (omega (arith, many)) (omega (arith, many)) (rw many ok) in (
+          q,
+          subst (λ (i : ℕ). ReadBy d i q (reading s base room (repair-call (repairPacket key dt m (length before % 2 ^ 32) xs)))) (sym n)
+              (subst (λ (y : ℕ). ReadBy d m q (reading s base room (repair-call (repairPacket key dt m y xs)))) here g),
+        )
+
+    read-ahead : (x : Packet) (p : ℕ) → Wrote scheme E all x p → base + offset ≤ p → p + named E x ≤ base + offset + 65536 → named E x ≤ width
+        → Valid s → (room : ℕ) → workingSize s ≤ room → (q : Located) × (reading s base room (callOf x) ≡ located q)
+    read-ahead x p o a b k w room enough =
+        let (q, r) = written-read x p o k w room enough (p - (base + offset)) (omega arith) (omega (arith, rounds)) in
+        (q, r .taken (omega arith) (omega arith))
+
+    read-behind : (x : Packet) (p : ℕ) → Wrote scheme E all x p → p < base + offset → base + offset ≤ p + 2 ^ 31 → named E x ≤ width
+        → Valid s → (room : ℕ) → workingSize s ≤ room → reading s base room (callOf x) ≡ fails 8
+    read-behind x p o a b k w room enough =
+        let (q, r) = written-read x p o k w room enough (p + 2 ^ 32 - (base + offset)) (omega arith) (omega (arith, rounds)) in
+        r .behind (omega arith)
+
+  -- ---- The list
+
+  -- Every filling that carries the symbols from a position on satisfies packets that begin there or later.
+  abbrev Filled : (offset : ℕ) → List Located → Type 0
+  Filled offset qs = (join : ℕ) → From join qs → (f : Filling E) → Carries E join offset all f → All E qs f
+
+  -- What a written packet that is accepted adds.
+  record Adds (offset : ℕ) (q : Located) : Type 0 where
+    rounds : offset % 2 ^ 32 ≡ 0
+    satisfied : (join : ℕ) → join ≤ first q → (f : Filling E) → Carries E join offset all f → Satisfied E q f
+
+  logged-filled : (offset : ℕ) (l : Log) (r : Reading) (a : Said) → ((q : Located) → r ≡ located q → IsValue a → Adds offset q)
+      → Rounds offset (baseOf s l) → Filled offset l → Rounds offset (baseOf s (logged s l r a)) × Filled offset (logged s l r a)
+  logged-filled offset l (fails m) a h w g = (w, g)
+  logged-filled offset l (located q) (refusal m) h w g = (w, g)
+  logged-filled offset l (located q) (value k) h w g =
+      let y = h q refl tt in
+      ((λ b e. y .rounds), (λ join n f c. (y .satisfied join (n .0) f c, g join (n .1) f c)))
+
+  pub arrived-satisfied : (offset : ℕ) (l : Log) (t : Step) (q : Located) → read s l t ≡ located q → (x : Packet) (p : ℕ) → callOf x ≡ t .call
+      → Wrote scheme E all x p → Rounds offset (baseOf s l) → Arrives (baseOf s l) offset p
+      → (offset % 2 ^ 32 ≡ 0) × Near p (baseFor (baseOf s l) (esiOf (t .call)) + offset)
+      × (readPacket s (baseFor (baseOf s l) (esiOf (t .call))) (callOf x) ≡ located q)
+  arrived-satisfied offset l t q e x p i o w a =
+      let (rounds, near) = arrived (baseOf s l) offset p w a in
+      let base = baseFor (baseOf s l) (esiOf (t .call)) in
+      let is : p % 2 ^ 32 ≡ esiOf (t .call) = sym (esi-wrote scheme E all x p o) ∙ ap esiOf i in (
+        rounds,
+        subst (λ y. Near p (baseFor (baseOf s l) y + offset)) is near,
+        ap (readPacket s base) i ∙ reading-passed s base (length (t .working)) (t .call) q e,
       )
-      (ap (λ (x : List (List ℕ)). map (λ (l : List ℕ). combination E l x) (listsOf scheme dt m (keys key count)))
-      (stretch E 0 f before window after all e c p (add-zero p))
-      ∙ repairs-combine window dt (keys key count)))
 
-  pub written-satisfied : (x : Packet) (p : ℕ) → Wrote scheme E all x p → (base : ℕ) → Near p base → (q : Located) → readPacket s base (callOf x) ≡ located q
-      → (f : Filling E) → Carries E 0 all f → Satisfied E q f
-  written-satisfied x p (wrote-source before after flow adu i j l e) base near q h f g = source-satisfied before after flow adu e base near q h f g
-  written-satisfied x p (wrote-repair before window after key dt count k d w v i j o e) base near q h f g =
-      repair-satisfied before window after key dt count k d v e base near q h f g
-
-  logged-filled : (l : Log) (r : Reading) (a : Said) (f : Filling E)
-      → ((q : Located) → r ≡ located q → IsValue a → Satisfied E q f) → All E (l .accepted) f → All E (logged s l r a .accepted) f
-  logged-filled l (fails m) a f h g = g
-  logged-filled l (located q) (value k) f h g = (h q refl tt, g)
-  logged-filled l (located q) (refusal m) f h g = g
-
-  filled : (ts : List Step) (l : Log) → AsWritten s all l ts → (f : Filling E) → Carries E 0 all f → All E (l .accepted) f
-      → All E (goes-on s l ts .accepted) f
-  filled [] l w f c g = g
-  filled (t ∷ ts) l w f c g =
-      filled ts _ (w .1) f c
-      (logged-filled l (read s l t) (said (t .answer)) f
+  filled : (offset : ℕ) (ts : List Step) (l : Log) → AsWritten s all offset l ts → Rounds offset (baseOf s l) → Filled offset l
+      → Rounds offset (baseOf s (goes-on s l ts)) × Filled offset (goes-on s l ts)
+  filled offset [] l w o g = (o, g)
+  filled offset (t ∷ ts) l w o g =
+      let (o′, g′) =
+      logged-filled offset l (read s l t) (said (t .answer))
       (λ q e a.
-      let (x, p, i, o, near) = w .0 a in
-      written-satisfied x p o (baseOf l) near q
-      (ap (readPacket s (baseOf l)) i ∙ reading-passed s (baseOf l) (length (t .working)) (t .call) q e) f c) g)
+      let (x, p, i, y, arrives) = w .0 a in
+      let (rounds, near, h) = arrived-satisfied offset l t q e x p i y o arrives in
+      record { rounds = rounds; satisfied = written-satisfied offset rounds (baseFor (baseOf s l) (esiOf (t .call))) x p y near q h }) o g in
+      filled offset ts _ (w .1) o′ g′
 
-  -- ---- A packet of the sender's ahead of the base is read
+  pub written-filled : (offset : ℕ) (ts : List Step) → AsWritten s all offset fresh ts
+      → Rounds offset (baseOf s (history s ts)) × Filled offset (history s ts)
+  written-filled offset ts w = filled offset ts fresh w (λ b e. absurd (Option·none-ne-some b e)) (λ join n f c. tt)
 
-  read-ahead : (x : Packet) (p : ℕ) → Wrote scheme E all x p → (base : ℕ) → base ≤ p → p + named E x ≤ base + 65536 → named E x ≤ width
-      → Valid s → (room : ℕ) → workingSize s ≤ room → (q : Located) × (reading s base room (callOf x) ≡ located q)
-  read-ahead x p (wrote-source before after flow adu i j l e) base a b k w room enough =
-      let d : ℕ = length before - base in
-      let here : base + d ≡ length before = omega arith in
-      let n = ap (λ (y : List ℕ). symbolCount E (length y)) (source-adu adu (length before % 2 ^ 32)) in
-      let g = reads s w base room d enough (omega arith) .sources flow adu l (omega (arith, n)) .taken (omega arith) (omega (arith, n)) in
-      (_, subst (λ y. reading s base room (source-call flow (sourcePacket adu (y % 2 ^ 32))) ≡ located (source y (sourceSymbols flow adu E))) here g)
-  read-ahead x p (wrote-repair before window after key dt count i j u v c d′ ok e) base a b k w room enough =
-      let d : ℕ = length before - base in
-      let here : base + d ≡ length before = omega arith in
-      let m = length window in
-      let xs = repairs window key dt count in
-      let many = repairs-count window key dt count in
-      let n = protected-count key dt m (length before % 2 ^ 32) xs (omega arith) (omega arith) in
-      let g = reads s w base room d enough (omega arith) .repairs key dt m xs i j u (omega (arith, n)) (repairs-sized window key dt count)
-      (omega (arith, many)) (omega (arith, many)) (rw many ok) .taken (omega arith) (omega (arith, n)) in
-      let lists = listsOf scheme dt m (keys key (length xs)) in
-      (_, subst (λ y. reading s base room (repair-call (repairPacket key dt m (y % 2 ^ 32) xs)) ≡ located (repair y m lists xs)) here g)
+-- ---- Where the packets of a history begin
+
+module _ (s : Setting) where
+  -- Whatever position is to be the joining one: all packets begin there or later, and the base is no earlier.
+  abbrev Led : Log → Type 0
+  Led l = (e : ℕ) → From (baseFor (joinedAt l) e) l × (baseFor (joinedAt l) e ≤ baseFor (baseOf s l) e)
+
+  -- A packet that was read begins at the base for it or later.
+  begins : (base : ℕ) (c : Call) (q : Located) → readPacket s base c ≡ located q → base ≤ first q
+  begins base (source-call flow p) q h = subst (λ x. base ≤ first x) (source-read s base flow p q h .says) (omega arith)
+  begins base (repair-call p) q h = subst (λ x. base ≤ first x) (repair-read s base p q h .says) (omega arith)
+
+  begins-after : (o : Option ℕ) (room : ℕ) (c : Call) (q : Located) → reading s (baseFor o (esiOf c)) room c ≡ located q → baseFor o (first q) ≤ first q
+  begins-after none room c q h = omega arith
+  begins-after (some b) room c q h = begins b c q (reading-passed s b room c q h)
+
+  logged-led : (l : Log) (r : Reading) (a : Said) → ((q : Located) → r ≡ located q → baseFor (baseOf s l) (first q) ≤ first q) → Led l → Led (logged s l r a)
+  logged-led l (fails m) a h k = k
+  logged-led l (located q) (refusal m) h k = k
+  logged-led l (located q) (value n) h k =
+      λ e. let (f, b) = k (first q) in let g = h q refl in ((omega (arith, b, g), f), omega (arith, b))
+
+  led : (ts : List Step) (l : Log) → Led l → Led (goes-on s l ts)
+  led [] l k = k
+  led (t ∷ ts) l k = led ts _ (logged-led l (read s l t) (said (t .answer)) (begins-after (baseOf s l) (length (t .working)) (t .call)) k)
+
+  pub joined-from : (ts : List Step) (join : ℕ) → joinedAt (history s ts) ≡ some join → From join (history s ts)
+  joined-from ts join e =
+      subst (λ o. From (baseFor o 0) (history s ts)) e (led ts fresh (λ e. (tt, omega arith)) 0 .0)
+
+-- Without a base there is no packet.
+pub none-accepted : (s : Setting) (l : Log) → baseOf s l ≡ none → l ≡ []
+none-accepted s [] e = refl
+none-accepted s (q ∷ l) e = absurd (Option·none-ne-some _ (sym e))
 
 pub sender-fills : Sender-fills
-sender-fills s v all ts w f c = filled s (omega (arith, v .size-least)) all ts fresh w f c tt
+sender-fills s v all offset ts w join e f c =
+    written-filled s (omega (arith, v .size-least)) all offset ts w .1 join (joined-from s ts join e) f c
 
 module _ (t s : Setting) (l : List SenderCall) (k : Peers t s l) where
   abbrev all : List (List ℕ)
@@ -160,28 +274,56 @@ module _ (t s : Setting) (l : List SenderCall) (k : Peers t s l) where
   pub peer-symbols : AreSymbols (s .size) all
   peer-symbols = subst (λ E. AreSymbols E (symbolsOf E l)) (k .size) (sender-symbols t l (k .run))
 
-  abbrev f : Filling (s .size)
-  f = filler (s .size) all
+  abbrev f : (offset : ℕ) → Filling (s .size)
+  f offset = filler (s .size) offset all
 
-  carries : Carries (s .size) 0 all f
-  carries = filler-carries (s .size) all peer-symbols
+  carries : (offset : ℕ) → Carries (s .size) 0 offset all (f offset)
+  carries offset = filler-carries (s .size) offset all peer-symbols
 
-  accepted : (ts : List Step) → AsWritten s all fresh ts → All (s .size) (history s ts .accepted) f
-  accepted ts w = filled s some-bytes all ts fresh w f carries tt
+  accepted : (offset : ℕ) (ts : List Step) → AsWritten s all offset fresh ts → All (s .size) (history s ts) (f offset)
+  accepted offset ts w = written-filled s some-bytes all offset ts w .1 0 (from-zero (history s ts)) (f offset) (carries offset)
+
+  -- A packet that is read at a base, and is satisfied with all before, is accepted.
+  taken : (ts : List Step) (x : Packet) (p : ℕ) → Wrote (s .scheme) (s .size) all x p → Valid s → named (s .size) x ≤ s .width
+      → (room : ℕ) → workingSize s ≤ room → (a : Said) → Judged s (history s ts) (readAfter s (history s ts) room (callOf x)) a
+      → (base offset : ℕ) → offset % 2 ^ 32 ≡ 0 → baseFor (baseOf s (history s ts)) (esiOf (callOf x)) ≡ base
+      → base + offset ≤ p → p + named (s .size) x ≤ base + offset + 65536
+      → All (s .size) (history s ts) (f offset) → IsValue a
+  taken ts x p o v c room enough a j base offset rounds is h g filled =
+      let (q, e) = read-ahead s some-bytes all offset rounds base x p o h g c v room enough in
+      let near : Near p (base + offset) = record { ahead = omega (arith, g); behind = omega (arith, h) } in
+      let r = reading-passed s base room (callOf x) q e in
+      let sat = written-satisfied s some-bytes all offset rounds base x p o near q r 0 (omega arith) (f offset) (carries offset) in
+      j .accepted .1 (q, ap (λ b. reading s b room (callOf x)) is ∙ e, (f offset, (sat, filled)))
 
 pub sent-accepted : Sent-accepted
-sent-accepted t s l k v ts w x p o a b c room enough r j =
-    let z = some-bytes t s l k in
-    let base = baseOf (history s ts) in
-    let (q, e) = read-ahead s z (all t s l k) x p o base a b c v room enough in
-    let near : Near p base = record { ahead = omega arith; behind = omega arith } in
-    let h = reading-passed s base room (callOf x) q e in
-    let sat = written-satisfied s z (all t s l k) x p o base near q h (f t s l k) (carries t s l k) in
-    j .accepted .1 (q, e, (f t s l k, (sat, accepted t s l k ts w)))
+sent-accepted t s l k v offset ts w x p o within c room enough a j = go (baseOf s (history s ts)) refl within
+  where
+    few : named (s .size) x ≤ 255
+    few = omega (arith, c, v .width-most)
+
+    go : (u : Option ℕ) → baseOf s (history s ts) ≡ u → InReach u offset p (named (s .size) x) → IsValue a
+    go none e h =
+        let n = p - p % 2 ^ 32 in
+        let sum : p % 2 ^ 32 + n ≡ p = omega arith in
+        taken t s l k ts x p o v c room enough a j (p % 2 ^ 32) n (omega arith)
+        (ap (λ u. baseFor u (esiOf (callOf x))) e ∙ esi-wrote (s .scheme) (s .size) (symbolsOf (s .size) l) x p o) (omega (arith, sum))
+        (omega (arith, sum, few)) (subst (λ qs. All (s .size) qs (filler (s .size) n (symbolsOf (s .size) l))) (sym (none-accepted s (history s ts) e)) tt)
+    go (some b) e (h, g) =
+        taken t s l k ts x p o v c room enough a j b offset
+        (written-filled s (omega (arith, v .size-least)) (symbolsOf (s .size) l) offset ts w .0 b e) (ap (λ u. baseFor u (esiOf (callOf x))) e) h g
+        (accepted t s l k offset ts w)
+
+pub sent-behind : Sent-behind
+sent-behind t s l k v offset ts w b e x p o h g c room enough a j =
+    let all = symbolsOf (s .size) l in
+    let z : 0 < s .size = omega (arith, v .size-least) in
+    let rounds = written-filled s z all offset ts w .0 b e in
+    j .failed 8
+    (ap (λ u. reading s (baseFor u (esiOf (callOf x))) room (callOf x)) e ∙ read-behind s z all offset rounds b x p o h g c v room enough)
 
 pub sent-shown : (L : Layout) → Sent-shown L
-sent-shown L t s l k ts m d w i h n a p e memory part g q =
-    let x = baseOf (history s ts) + i in
-    let o = d .window i h in
-    o .sender memory part g q (o .shown a p .0 e) (all t s l k) 0 (f t s l k) (accepted t s l k ts w) (carries t s l k) (rw (add-zero x) n)
-    ∙ ap (λ j. getD (all t s l k) j []) (add-zero x)
+sent-shown L t s l k ts m d offset w b e i h n a p z memory part g q =
+    let o = d .window b e i h in
+    o .sender memory part g q (o .shown a p .0 z) (all t s l k) 0 offset (f t s l k offset) (accepted t s l k offset ts w) (carries t s l k offset)
+    (omega arith) n

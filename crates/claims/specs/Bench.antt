@@ -1,8 +1,8 @@
--- The bench sheet of document 01 (C1 to C12), the small examples of its refusals, cases at the limits of place and density, and cases of starts and of
--- the ADU call, computed from the definitions that the promises use, from the packets' bytes on: one table, one result.
+-- The bench sheet of document 01 (C1 to C12, C10 as document 02 has it), the small examples of its refusals, cases at the limits of place and density,
+-- of joining, of starts and of the ADU call, computed from the definitions that the promises use, from the packets' bytes on: one table, one result.
 use mathlib.Core.Path.{_≡_, refl}
 use mathlib.Core.Option.{Option, none, some}
-use mathlib.Core.List.{List, [], _∷_, map}
+use mathlib.Core.List.{List, [], _∷_, _++_, map}
 use Prim.Native.Nat.{ℕ, _*_}
 use Rattle.tinymt.specs.Generator.{computing}
 use Rattle.field.specs.Gf256.{product, inverse, inverse-below}
@@ -23,13 +23,13 @@ use Rattle.sender.specs.State.{Sender, fresh, headerIn}
 use Rattle.sender.specs.Repair.{repairSymbol}
 use Rattle.sender.specs.Calls.{Outcome, refused, done, opening, adding, repairing}
 use Rattle.starts.specs.Adu.{joint, Handing, hands, withholds, need, handing}
-use Rattle.starts.specs.Starts.{Starts, zeroth, pass}
+use Rattle.starts.specs.Starts.{Starts, nowhere, pass}
 use Rattle.receiver.specs.Symbol.{bytesOf}
-use Rattle.receiver.specs.History.{Call, source-call, repair-call, placeOf, check, placed, readSource, readRepair, reading, workingSize}
+use Rattle.receiver.specs.History.{Call, source-call, repair-call, esiOf, placeOf, check, placed, readSource, readRepair, reading, workingSize}
 use Rattle.receiver.specs.History.{Said, value, refusal as refuses}
 use Rattle.receiver.specs.Model as receiver
 use Rattle.receiver.specs.Promises.{drawsFor}
-use Rattle.receiver.specs.Model.{State, saidOf, stateAfter, receiving, Finding, shows, hides, finding, startsAfter, marking, aduAt}
+use Rattle.receiver.specs.Model.{State, foundBy, saidOf, stateAfter, answering, receiving, Finding, shows, hides, finding, startsAfter, marking, aduAt}
 
 -- what the symbol call and the part show for an ESI: an answer, and bytes
 pub record Sight : Type 0 where
@@ -78,15 +78,29 @@ second = adding (after first) 1 (0x42 ∷ []) 5
 
 -- ---- a receiver
 
-module _ (s : Setting) where
-  -- what the calls of a list answer, with working memory enough, and the state after them
-  abbrev answers : State s → List Call → List Said
-  answers t [] = []
-  answers t (c ∷ cs) = let o = receiving s t (workingSize s) c in saidOf o ∷ answers (stateAfter t o) cs
+-- what calls have come to: what they answered, the state, and the marks
+pub record Progress (s : Setting) : Type 0 where
+  pub answers : List Said
+  pub state : State s
+  pub marks : Starts
 
-  abbrev state : State s → List Call → State s
-  state t [] = t
-  state t (c ∷ cs) = state (stateAfter t (receiving s t (workingSize s) c)) cs
+module _ (s : Setting) where
+  -- a fresh receiver
+  abbrev begun : Progress s
+  begun = record { answers = []; state = receiver.opened s; marks = nowhere }
+
+  -- one more call, with working memory enough; and the calls of a list
+  abbrev call : Progress s → Call → Progress s
+  call a c =
+      let j = foundBy s (a .state) (esiOf c) in
+      let r = reading s (j .base) (workingSize s) c in
+      let o = receiving s (a .state) (workingSize s) c in
+      let M = marking s j (a .marks) r o in
+      record { answers = a .answers ++ saidOf o ∷ []; state = stateAfter (a .state) o; marks = M }
+
+  abbrev called : Progress s → List Call → Progress s
+  called a [] = a
+  called a (c ∷ cs) = called (call a c) cs
 
   abbrev seen : Finding (s .size) → Sight
   seen (shows p v) = record { answer = value 0; bytes = bytesOf (s .size) v }
@@ -94,22 +108,15 @@ module _ (s : Setting) where
 
   -- the calls of a list from a fresh receiver, and what is shown for some ESIs after them
   abbrev case : List Call → List ℕ → Line
-  case cs es = received (answers (receiver.opened s) cs) (map (λ e. seen (finding s (state (receiver.opened s) cs) e)) es)
-
-  -- the marks after them
-  abbrev marks : State s → Starts → List Call → Starts
-  marks t M [] = M
-  marks t M (c ∷ cs) =
-      let r = reading s (t .base) (workingSize s) c in
-      let o = receiving s t (workingSize s) c in
-      marks (stateAfter t o) (marking s t M r o) cs
+  case cs es =
+      let a = called begun cs in
+      received (a .answers) (map (λ e. seen (finding s (a .state) e)) es)
 
   -- the calls of a list from a fresh receiver, and what is handed out after them
   abbrev handing-case : List Call → List Ask → Line
   handing-case cs asks =
-      let t = state (receiver.opened s) cs in
-      let M = marks (receiver.opened s) zeroth cs in
-      handed (answers (receiver.opened s) cs) (map (λ (a : Ask). aduAt s t M (a .room) (a .esi)) asks)
+      let a = called begun cs in
+      handed (a .answers) (map (λ (q : Ask). aduAt s (a .state) (a .marks) (q .room) (q .esi)) asks)
 
 -- scheme 9 and scheme 10, E 4
 abbrev gf2 : ℕ → Setting
@@ -127,6 +134,13 @@ two-at a b c d = source-call 1 (7 ∷ 7 ∷ a ∷ b ∷ c ∷ d ∷ [])
 
 abbrev adu : (byte esi : ℕ) → Call
 adu b e = source-call 1 (b ∷ 0 ∷ 0 ∷ 0 ∷ e ∷ [])
+
+-- the source packet of an ADU of no byte at ESI 0, which as the first packet sets base 0 and marks the positions 0 and 1; and at ESI 305419896
+abbrev at-zero : Call
+at-zero = empty-at 0 0 0 0
+
+abbrev far : Call
+far = empty-at 0x12 0x34 0x56 0x78
 
 -- a repair packet of key 0 and DT 15 over n symbols from ESI 0 on, whose one repair symbol ends in a byte
 abbrev repair-of : (n byte : ℕ) → Call
@@ -148,6 +162,23 @@ symbol-at e a b c d = repair-call (0 ∷ 0 ∷ 0xF0 ∷ 1 ∷ 0 ∷ 0 ∷ 0 ∷ 
 abbrev scaled-at : (esi a b c d : ℕ) → Call
 scaled-at e a b c d =
     repair-call (0 ∷ 1 ∷ 0xF0 ∷ 1 ∷ 0 ∷ 0 ∷ 0 ∷ e ∷ product 37 a ∷ product 37 b ∷ product 37 c ∷ product 37 d ∷ [])
+
+-- two unlike repair symbols for the symbol at ESI 0; and one that is not zero, of key 1 and DT 4, whose coefficient for it is zero
+abbrev unlike : Call
+unlike = repair-call (0 ∷ 0 ∷ 0xF0 ∷ 1 ∷ 0 ∷ 0 ∷ 0 ∷ 0 ∷ 0 ∷ 0 ∷ 0 ∷ 1 ∷ 0 ∷ 0 ∷ 0 ∷ 2 ∷ [])
+
+abbrev of-nothing : Call
+of-nothing = repair-call (0 ∷ 1 ∷ 0x40 ∷ 1 ∷ 0 ∷ 0 ∷ 0 ∷ 0 ∷ 0 ∷ 0 ∷ 0 ∷ 1 ∷ [])
+
+-- packets that their form rules out: of an ADU of six bytes, which takes three symbols; a source packet of three bytes; a repair packet of nine
+abbrev long : Call
+long = source-call 1 (1 ∷ 2 ∷ 3 ∷ 4 ∷ 5 ∷ 6 ∷ 0 ∷ 0 ∷ 0 ∷ 0 ∷ [])
+
+abbrev short-source : Call
+short-source = source-call 1 (0 ∷ 0 ∷ 0 ∷ [])
+
+abbrev short-repair : Call
+short-repair = repair-call (0 ∷ 0 ∷ 0xF0 ∷ 1 ∷ 0 ∷ 0 ∷ 0 ∷ 0 ∷ 0 ∷ [])
 
 -- the source packet of an ADU of five bytes, which takes two symbols, at ESI 0
 abbrev five : Call
@@ -181,11 +212,11 @@ pub bench :
     ∷ case (gf2 2) (adu 0x41 0 ∷ repair-of 2 3 ∷ []) (0 ∷ 1 ∷ [])
     -- C9: an ADU of 5 bytes taken, one of 6 refused
     ∷ line (adding opened 1 (zeros 5) 9) ∷ line (adding opened 1 (zeros 6) 10)
-    -- C10: one symbol at ESI 65535, 65536, 2147483647, 2147483648
-    ∷ case (gf2 1) (empty-at 0 0 0xFF 0xFF ∷ []) (65535 ∷ [])
-    ∷ case (gf2 1) (empty-at 0 1 0 0 ∷ []) []
-    ∷ case (gf2 1) (empty-at 0x7F 0xFF 0xFF 0xFF ∷ []) []
-    ∷ case (gf2 1) (empty-at 0x80 0 0 0 ∷ []) []
+    -- C10, after a packet at ESI 0: one symbol at ESI 65535, 65536, 2147483647, 2147483648
+    ∷ case (gf2 1) (at-zero ∷ empty-at 0 0 0xFF 0xFF ∷ []) (65535 ∷ [])
+    ∷ case (gf2 1) (at-zero ∷ empty-at 0 1 0 0 ∷ []) []
+    ∷ case (gf2 1) (at-zero ∷ empty-at 0x7F 0xFF 0xFF 0xFF ∷ []) []
+    ∷ case (gf2 1) (at-zero ∷ empty-at 0x80 0 0 0 ∷ []) []
     -- C11: neither symbol is known, before the second packet and after it
     ∷ case (gf2 2) (repair-of 2 3 ∷ []) (0 ∷ 1 ∷ [])
     ∷ case (gf2 2) (repair-of 2 3 ∷ source-call 1 (0 ∷ 0 ∷ 0 ∷ 0 ∷ 0 ∷ 0 ∷ 0 ∷ 0 ∷ 0 ∷ []) ∷ []) (0 ∷ 1 ∷ [])
@@ -194,41 +225,62 @@ pub bench :
     -- refusal 1: E = 3; 2: output of 0 bytes for a 1-byte ADU; 3: 100 zero bytes; 4 is C9's; 6: DT 16; 7: repair straight after opening
     ∷ line (opening 9 3 2 40) ∷ line (adding opened 1 (0x41 ∷ []) 0) ∷ headed (headerIn (zeros 100))
     ∷ line (repairing opened 1 16 1 12) ∷ line (repairing opened 1 15 1 12)
-    -- the receiver's refusals 4; 5, of both packets; 6, of NSS 0 and of NSS over the width; 8 and 9; 11, of two unlike repair symbols
-    ∷ case (gf2 2) (source-call 1 (1 ∷ 2 ∷ 3 ∷ 4 ∷ 5 ∷ 6 ∷ 0 ∷ 0 ∷ 0 ∷ 0 ∷ []) ∷ []) []
-    ∷ case (gf2 2) (source-call 1 (0 ∷ 0 ∷ 0 ∷ []) ∷ repair-call (0 ∷ 0 ∷ 0xF0 ∷ 1 ∷ 0 ∷ 0 ∷ 0 ∷ 0 ∷ 0 ∷ []) ∷ []) []
-    ∷ case (gf2 2) (repair-of 0 0 ∷ repair-of 3 0 ∷ []) []
-    ∷ case (gf2 2) (empty-at 0xFF 0xFF 0xFF 0xFF ∷ empty-at 0 1 0 0 ∷ []) []
-    ∷ case (gf2 2) (repair-call (0 ∷ 0 ∷ 0xF0 ∷ 1 ∷ 0 ∷ 0 ∷ 0 ∷ 0 ∷ 0 ∷ 0 ∷ 0 ∷ 1 ∷ 0 ∷ 0 ∷ 0 ∷ 2 ∷ []) ∷ []) []
-    -- the symbol call of a fresh receiver: unknown, past the window, the last ESI ahead, the first behind, the last
+    -- the receiver's refusals 4; 5, of both packets; 6, of NSS 0 and of NSS over the width; 8 and 9, with base 0; 11, of two unlike repair symbols
+    ∷ case (gf2 2) (long ∷ []) [] ∷ case (gf2 2) (short-source ∷ short-repair ∷ []) [] ∷ case (gf2 2) (repair-of 0 0 ∷ repair-of 3 0 ∷ []) []
+    ∷ case (gf2 2) (at-zero ∷ empty-at 0xFF 0xFF 0xFF 0xFF ∷ empty-at 0 1 0 0 ∷ []) [] ∷ case (gf2 2) (repair-of 2 3 ∷ unlike ∷ []) []
+    -- the symbol call before any base
     ∷ case (gf2 2) [] (0 ∷ 2 ∷ 2147483647 ∷ 2147483648 ∷ 4294967295 ∷ [])
-    -- two symbols at ESI 65534 and at 65535
-    ∷ case (gf2 2) (two-at 0 0 0xFF 0xFE ∷ []) (65534 ∷ 65535 ∷ [])
-    ∷ case (gf2 2) (two-at 0 0 0xFF 0xFF ∷ []) []
+    -- the symbol call with base 0: unknown, past the window, the last ESI ahead, the first behind, the last
+    ∷ case (gf2 2) (at-zero ∷ []) (1 ∷ 2 ∷ 2147483647 ∷ 2147483648 ∷ 4294967295 ∷ [])
+    -- base 0, two symbols at ESI 65534 and at 65535
+    ∷ case (gf2 2) (at-zero ∷ two-at 0 0 0xFF 0xFE ∷ []) (65534 ∷ 65535 ∷ [])
+    ∷ case (gf2 2) (at-zero ∷ two-at 0 0 0xFF 0xFF ∷ []) []
+    -- joining at ESI 305419896, then packets at the ESI before it, at the one 65536 after it, and at 0; its symbol, the next, the one before it, symbol 0
+    ∷ case (gf2 2) (far ∷ empty-at 0x12 0x34 0x56 0x77 ∷ empty-at 0x12 0x35 0x56 0x78 ∷ at-zero ∷ []) (305419896 ∷ 305419897 ∷ 305419895 ∷ 0 ∷ [])
+    -- joining at the last ESI, with two symbols; and by a repair packet there, then the source packet at ESI 0 that solves it
+    ∷ case (gf2 2) (two-at 0xFF 0xFF 0xFF 0xFF ∷ []) (4294967295 ∷ 0 ∷ [])
+    ∷ case (gf2 2) (repair-call (0 ∷ 0 ∷ 0xF0 ∷ 2 ∷ 0xFF ∷ 0xFF ∷ 0xFF ∷ 0xFF ∷ 0 ∷ 0 ∷ 0 ∷ 3 ∷ []) ∷ adu 0x42 0 ∷ []) (4294967295 ∷ 0 ∷ [])
+    -- first packets that are refused leave no base: 11, of unlike repair symbols and of one that no symbol has a part in; 4, 5 and 6
+    ∷ case (gf2 2) (unlike ∷ []) (0 ∷ 2147483648 ∷ 4294967295 ∷ []) ∷ case (gf2 2) (unlike ∷ of-nothing ∷ far ∷ []) (305419896 ∷ 0 ∷ [])
+    ∷ case (gf2 2) (long ∷ short-source ∷ short-repair ∷ repair-of 0 0 ∷ []) (0 ∷ 2147483648 ∷ 4294967295 ∷ [])
+    ∷ case (gf2 2) (long ∷ short-source ∷ short-repair ∷ repair-of 0 0 ∷ far ∷ []) (305419896 ∷ 0 ∷ [])
     -- DT 4, 7 and 8, in both schemes: the coefficient is zero at 4
     ∷ case (gf2 1) (zero-at 4 ∷ zero-at 7 ∷ zero-at 8 ∷ []) []
     ∷ case (gf256 1) (zero-at 4 ∷ zero-at 7 ∷ zero-at 8 ∷ []) []
-    -- the ADU call of a fresh receiver: the first position is a start but not known, the second no start, then past the window and behind
-    ∷ handing-case (gf2 2) [] (ask 0 0 ∷ ask 1 0 ∷ ask 2 0 ∷ ask 2147483647 0 ∷ ask 2147483648 0 ∷ [])
+    -- the ADU call before any base, of a fresh receiver and after a first packet that is refused
+    ∷ handing-case (gf2 2) [] (ask 0 0 ∷ ask 2 0 ∷ ask 2147483647 0 ∷ ask 2147483648 0 ∷ ask 4294967295 0 ∷ [])
+    ∷ handing-case (gf2 2) (unlike ∷ []) (ask 0 0 ∷ ask 2 0 ∷ ask 2147483648 0 ∷ [])
+    -- the ADU call with base 0: a start that is not known, then past the window and behind; neither known nor a start
+    ∷ handing-case (gf2 2) (at-zero ∷ []) (ask 1 0 ∷ ask 2 0 ∷ ask 2147483647 0 ∷ ask 2147483648 0 ∷ [])
+    ∷ handing-case (gf2 2) (repair-of 2 3 ∷ []) (ask 0 1 ∷ ask 1 1 ∷ [])
     -- 13: position 1, known by repair
     ∷ handing-case (gf2 2) (symbol-at 1 1 0 1 0x42 ∷ []) (ask 1 1 ∷ [])
+    -- joining by a repair packet makes no start, at ESI 0 too; a source packet after it does, and marks its own positions only
+    ∷ handing-case (gf2 2) (symbol-at 0 1 0 1 0x41 ∷ []) (ask 0 1 ∷ ask 1 1 ∷ [])
+    ∷ handing-case (gf2 2) (symbol-at 0 1 0 1 0x41 ∷ adu 0x41 0 ∷ []) (ask 0 1 ∷ ask 1 1 ∷ [])
+    ∷ handing-case (gf2 2) (repair-of 2 3 ∷ adu 0x42 1 ∷ []) (ask 0 1 ∷ ask 1 1 ∷ [])
+    -- joining by a source packet makes its first position a start, and the one after its last; over the wrap too
+    ∷ handing-case (gf2 2) (far ∷ []) (ask 305419896 0 ∷ ask 305419897 0 ∷ ask 305419895 0 ∷ [])
+    ∷ handing-case (gf2 2) (two-at 0xFF 0xFF 0xFF 0xFF ∷ []) (ask 4294967295 2 ∷ ask 0 2 ∷ [])
+    ∷ handing-case (gf2 2) (two-at 0xFF 0xFF 0xFF 0xFF ∷ symbol-at 1 1 0 1 0x43 ∷ []) (ask 4294967295 2 ∷ ask 0 2 ∷ ask 1 1 ∷ [])
     -- 14: L 2 with width 1; padding not zero, which comes before a short output
-    ∷ handing-case (gf2 1) (symbol-at 0 1 0 2 0x41 ∷ []) (ask 0 2 ∷ [])
-    ∷ handing-case (gf2 2) (symbol-at 0 1 0 2 0x41 ∷ symbol-at 1 0x42 0 0 1 ∷ []) (ask 0 2 ∷ ask 0 1 ∷ [])
-    ∷ handing-case (gf2 2) (symbol-at 0 1 0 0 0x41 ∷ []) (ask 0 0 ∷ []) ∷ handing-case (gf2 2) (symbol-at 0 1 0 1 0x41 ∷ []) (ask 0 1 ∷ ask 0 0 ∷ [])
+    ∷ handing-case (gf2 1) (at-zero ∷ symbol-at 1 1 0 2 0x41 ∷ []) (ask 1 2 ∷ [])
+    ∷ handing-case (gf2 2) (at-zero ∷ symbol-at 1 1 0 2 0x41 ∷ symbol-at 2 0x42 0 0 1 ∷ []) (ask 1 2 ∷ ask 1 1 ∷ [])
+    ∷ handing-case (gf2 2) (at-zero ∷ symbol-at 1 1 0 0 0x41 ∷ []) (ask 1 0 ∷ [])
+    ∷ handing-case (gf2 2) (at-zero ∷ symbol-at 1 1 0 1 0x41 ∷ []) (ask 1 1 ∷ ask 1 0 ∷ [])
     -- an empty ADU; an ADU of exactly 2 symbols, with output enough and one byte short; its first symbol alone; L that runs past the window
-    ∷ handing-case (gf2 2) (empty-at 0 0 0 0 ∷ []) (ask 0 0 ∷ [])
+    ∷ handing-case (gf2 2) (at-zero ∷ []) (ask 0 0 ∷ [])
     ∷ handing-case (gf2 2) (five ∷ []) (ask 0 5 ∷ ask 0 4 ∷ ask 1 5 ∷ [])
-    ∷ handing-case (gf2 2) (symbol-at 0 1 0 5 0x11 ∷ []) (ask 0 5 ∷ [])
+    ∷ handing-case (gf2 3) (at-zero ∷ symbol-at 1 1 0 5 0x11 ∷ []) (ask 1 5 ∷ [])
     ∷ handing-case (gf2 2) (adu 0x41 0 ∷ symbol-at 1 1 0 5 0x42 ∷ []) (ask 1 5 ∷ [])
     -- the mark at base + width stays; a mark past it comes back, but not if its position has left
     ∷ handing-case (gf2 2) (five ∷ symbol-at 2 1 0 1 0x43 ∷ []) (ask 2 1 ∷ [])
     ∷ handing-case (gf2 2) (adu 0x41 0 ∷ symbol-at 1 1 0 5 0x42 ∷ symbol-at 2 0x43 0x44 0x45 0x46 ∷ symbol-at 3 1 0 1 0x47 ∷ []) (ask 3 1 ∷ [])
     ∷ handing-case (gf2 2) (adu 0x41 0 ∷ symbol-at 1 1 0 5 0x42 ∷ symbol-at 3 1 0 1 0x47 ∷ []) (ask 3 1 ∷ [])
     -- a position that becomes known marks the next in the same call, and so on
-    ∷ handing-case (gf2 4) (symbol-at 1 1 0 1 0x42 ∷ symbol-at 2 1 0 1 0x43 ∷ symbol-at 0 1 0 1 0x41 ∷ []) (ask 0 1 ∷ ask 1 1 ∷ ask 2 1 ∷ ask 3 1 ∷ [])
+    ∷ handing-case (gf2 4) (at-zero ∷ symbol-at 2 1 0 1 0x42 ∷ symbol-at 3 1 0 1 0x43 ∷ symbol-at 1 1 0 1 0x41 ∷ []) (ask 1 1 ∷ ask 2 1 ∷ ask 3 1 ∷ [])
     -- the same in scheme 10, with F 2
-    ∷ handing-case (gf256 4) (scaled-at 1 2 0 1 0x42 ∷ scaled-at 0 2 0 1 0x41 ∷ []) (ask 0 1 ∷ ask 1 1 ∷ ask 2 1 ∷ [])
+    ∷ handing-case (gf256 4) (at-zero ∷ scaled-at 2 2 0 1 0x42 ∷ scaled-at 1 2 0 1 0x41 ∷ []) (ask 1 1 ∷ ask 2 1 ∷ ask 3 1 ∷ [])
     -- a start inside of an ADU, marked by a packet that agrees with it: the filling's bytes from there on, which are no ADU of the sender's
     ∷ handing-case (gf2 2) (five ∷ adu 0x55 1 ∷ []) (ask 0 5 ∷ ask 1 1 ∷ [])
     ∷ []
@@ -238,29 +290,46 @@ pub bench :
     ∷ packet (0x41 ∷ 0 ∷ 0 ∷ 0 ∷ 0 ∷ []) ∷ packet (0x42 ∷ 0 ∷ 0 ∷ 0 ∷ 1 ∷ []) ∷ packet (0 ∷ 0 ∷ 0xF0 ∷ 2 ∷ 0 ∷ 0 ∷ 0 ∷ 0 ∷ 0 ∷ 0 ∷ 0 ∷ 3 ∷ [])
     ∷ received (value 1 ∷ value 1 ∷ []) (known (1 ∷ 0 ∷ 1 ∷ 0x41 ∷ []) ∷ known (1 ∷ 0 ∷ 1 ∷ 0x42 ∷ []) ∷ [])
     ∷ packet (0 ∷ 0 ∷ 0 ∷ 0 ∷ 0 ∷ 0 ∷ 0 ∷ 0 ∷ 0 ∷ []) ∷ refusal 4
-    ∷ received (value 1 ∷ []) (known (1 ∷ 0 ∷ 0 ∷ 0 ∷ []) ∷ [])
-    ∷ received (refuses 9 ∷ []) [] ∷ received (refuses 9 ∷ []) [] ∷ received (refuses 8 ∷ []) []
+    ∷ received (value 1 ∷ value 1 ∷ []) (known (1 ∷ 0 ∷ 0 ∷ 0 ∷ []) ∷ [])
+    ∷ received (value 1 ∷ refuses 9 ∷ []) [] ∷ received (value 1 ∷ refuses 9 ∷ []) [] ∷ received (value 1 ∷ refuses 8 ∷ []) []
     ∷ received (value 0 ∷ []) (says 12 ∷ says 12 ∷ []) ∷ received (value 0 ∷ refuses 11 ∷ []) (says 12 ∷ says 12 ∷ [])
     ∷ received (value 0 ∷ value 0 ∷ value 1 ∷ value 1 ∷ value 2 ∷ []) (known (1 ∷ 0 ∷ 1 ∷ 0x43 ∷ []) ∷ [])
     ∷ refusal 1 ∷ refusal 2 ∷ refusal 3 ∷ refusal 6 ∷ refusal 7
     ∷ received (refuses 4 ∷ []) [] ∷ received (refuses 5 ∷ refuses 5 ∷ []) [] ∷ received (refuses 6 ∷ refuses 6 ∷ []) []
-    ∷ received (refuses 8 ∷ refuses 9 ∷ []) [] ∷ received (refuses 11 ∷ []) []
-    ∷ received [] (says 12 ∷ says 12 ∷ says 12 ∷ says 8 ∷ says 8 ∷ [])
-    ∷ received (value 2 ∷ []) (known (1 ∷ 0 ∷ 2 ∷ 7 ∷ []) ∷ known (7 ∷ 0 ∷ 0 ∷ 0 ∷ []) ∷ []) ∷ received (refuses 9 ∷ []) []
+    ∷ received (value 1 ∷ refuses 8 ∷ refuses 9 ∷ []) [] ∷ received (value 0 ∷ refuses 11 ∷ []) []
+    ∷ received [] (says 12 ∷ says 12 ∷ says 12 ∷ says 12 ∷ says 12 ∷ [])
+    ∷ received (value 1 ∷ []) (says 12 ∷ says 12 ∷ says 12 ∷ says 8 ∷ says 8 ∷ [])
+    ∷ received (value 1 ∷ value 2 ∷ []) (known (1 ∷ 0 ∷ 2 ∷ 7 ∷ []) ∷ known (7 ∷ 0 ∷ 0 ∷ 0 ∷ []) ∷ []) ∷ received (value 1 ∷ refuses 9 ∷ []) []
+    ∷ received (value 1 ∷ refuses 8 ∷ refuses 9 ∷ refuses 8 ∷ []) (known (1 ∷ 0 ∷ 0 ∷ 0 ∷ []) ∷ says 12 ∷ says 8 ∷ says 8 ∷ [])
+    ∷ received (value 2 ∷ []) (known (1 ∷ 0 ∷ 2 ∷ 7 ∷ []) ∷ known (7 ∷ 0 ∷ 0 ∷ 0 ∷ []) ∷ [])
+    ∷ received (value 0 ∷ value 2 ∷ []) (known (1 ∷ 0 ∷ 1 ∷ 0x41 ∷ []) ∷ known (1 ∷ 0 ∷ 1 ∷ 0x42 ∷ []) ∷ [])
+    ∷ received (refuses 11 ∷ []) (says 12 ∷ says 12 ∷ says 12 ∷ [])
+    ∷ received (refuses 11 ∷ refuses 11 ∷ value 1 ∷ []) (known (1 ∷ 0 ∷ 0 ∷ 0 ∷ []) ∷ says 8 ∷ [])
+    ∷ received (refuses 4 ∷ refuses 5 ∷ refuses 5 ∷ refuses 6 ∷ []) (says 12 ∷ says 12 ∷ says 12 ∷ [])
+    ∷ received (refuses 4 ∷ refuses 5 ∷ refuses 5 ∷ refuses 6 ∷ value 1 ∷ []) (known (1 ∷ 0 ∷ 0 ∷ 0 ∷ []) ∷ says 8 ∷ [])
     ∷ received (value 0 ∷ value 1 ∷ value 0 ∷ []) [] ∷ received (value 0 ∷ value 1 ∷ value 0 ∷ []) []
-    ∷ handed [] (withholds 12 ∷ withholds 13 ∷ withholds 12 ∷ withholds 12 ∷ withholds 8 ∷ [])
+    ∷ handed [] (withholds 12 ∷ withholds 12 ∷ withholds 12 ∷ withholds 12 ∷ withholds 12 ∷ [])
+    ∷ handed (refuses 11 ∷ []) (withholds 12 ∷ withholds 12 ∷ withholds 12 ∷ [])
+    ∷ handed (value 1 ∷ []) (withholds 12 ∷ withholds 12 ∷ withholds 12 ∷ withholds 8 ∷ [])
+    ∷ handed (value 0 ∷ []) (withholds 13 ∷ withholds 13 ∷ [])
     ∷ handed (value 1 ∷ []) (withholds 13 ∷ [])
-    ∷ handed (value 1 ∷ []) (withholds 14 ∷ []) ∷ handed (value 1 ∷ value 1 ∷ []) (withholds 14 ∷ withholds 14 ∷ [])
-    ∷ handed (value 1 ∷ []) (withholds 14 ∷ []) ∷ handed (value 1 ∷ []) (hands 1 (0x41 ∷ []) ∷ withholds 2 ∷ [])
+    ∷ handed (value 1 ∷ []) (withholds 13 ∷ withholds 13 ∷ [])
+    ∷ handed (value 1 ∷ value 0 ∷ []) (hands 1 (0x41 ∷ []) ∷ withholds 12 ∷ [])
+    ∷ handed (value 0 ∷ value 2 ∷ []) (withholds 13 ∷ hands 1 (0x42 ∷ []) ∷ [])
+    ∷ handed (value 1 ∷ []) (hands 1 [] ∷ withholds 12 ∷ withholds 8 ∷ [])
+    ∷ handed (value 2 ∷ []) (hands 1 (7 ∷ 7 ∷ []) ∷ withholds 13 ∷ [])
+    ∷ handed (value 2 ∷ value 1 ∷ []) (withholds 8 ∷ withholds 13 ∷ hands 1 (0x43 ∷ []) ∷ [])
+    ∷ handed (value 1 ∷ value 1 ∷ []) (withholds 14 ∷ []) ∷ handed (value 1 ∷ value 1 ∷ value 1 ∷ []) (withholds 14 ∷ withholds 14 ∷ [])
+    ∷ handed (value 1 ∷ value 1 ∷ []) (withholds 14 ∷ []) ∷ handed (value 1 ∷ value 1 ∷ []) (hands 1 (0x41 ∷ []) ∷ withholds 2 ∷ [])
     ∷ handed (value 1 ∷ []) (hands 1 [] ∷ [])
     ∷ handed (value 2 ∷ []) (hands 1 (0x11 ∷ 1 ∷ 0 ∷ 1 ∷ 0x55 ∷ []) ∷ withholds 2 ∷ withholds 13 ∷ [])
-    ∷ handed (value 1 ∷ []) (withholds 12 ∷ [])
+    ∷ handed (value 1 ∷ value 1 ∷ []) (withholds 12 ∷ [])
     ∷ handed (value 1 ∷ value 1 ∷ []) (withholds 12 ∷ [])
     ∷ handed (value 2 ∷ value 1 ∷ []) (hands 1 (0x43 ∷ []) ∷ [])
     ∷ handed (value 1 ∷ value 1 ∷ value 1 ∷ value 1 ∷ []) (hands 1 (0x47 ∷ []) ∷ [])
     ∷ handed (value 1 ∷ value 1 ∷ value 1 ∷ []) (withholds 13 ∷ [])
-    ∷ handed (value 1 ∷ value 1 ∷ value 1 ∷ []) (hands 1 (0x41 ∷ []) ∷ hands 1 (0x42 ∷ []) ∷ hands 1 (0x43 ∷ []) ∷ withholds 12 ∷ [])
-    ∷ handed (value 1 ∷ value 1 ∷ []) (hands 2 (0x41 ∷ []) ∷ hands 2 (0x42 ∷ []) ∷ withholds 12 ∷ [])
+    ∷ handed (value 1 ∷ value 1 ∷ value 1 ∷ value 1 ∷ []) (hands 1 (0x41 ∷ []) ∷ hands 1 (0x42 ∷ []) ∷ hands 1 (0x43 ∷ []) ∷ [])
+    ∷ handed (value 1 ∷ value 1 ∷ value 1 ∷ []) (hands 2 (0x41 ∷ []) ∷ hands 2 (0x42 ∷ []) ∷ withholds 12 ∷ [])
     ∷ handed (value 2 ∷ value 0 ∷ []) (hands 1 (0x11 ∷ 1 ∷ 0 ∷ 1 ∷ 0x55 ∷ []) ∷ hands 1 (0x55 ∷ []) ∷ [])
     ∷ []
 unfolding
@@ -268,9 +337,9 @@ unfolding
     symbolCount adui sourceSymbols sourcePacket sourceForm sourceAdu sourceEsi
     repairHeader repairPacket repairCount repairForm repairKey densityThreshold protectedCount firstEsi repairSymbols
     inRange settingOf field part settingIn headerIn repairSymbol opening adding repairing
-    placeOf check placed readSource readRepair reading receiving finding
+    placeOf check placed readSource readRepair reading answering finding
     packets.source packets.source-rows packets.row packets.only packets.repair
-    decoder.fresh decoder.empty decoder.receive decoder.rise decoder.newly decoder.count-new decoder.is-new
+    decoder.empty decoder.receive decoder.rise decoder.newly decoder.count-new decoder.is-new
     decoder.embed decoder.advance-by decoder.insert-all
     model.insert model.known model.settle model.settle-by model.reduce model.place model.place-free model.lead model.at
     model.axpy model.scale model.symbol model.push model.extend model.advance

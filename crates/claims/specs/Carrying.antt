@@ -1,10 +1,12 @@
 -- A filling that carries a sender's symbols.
 use mathlib.Core.Path.{_≡_}
-use mathlib.Core.List.{List}
-use Prim.Native.Nat.{ℕ}
-use lib.ListN.{length, drop}
-use Rattle.receiver.specs.History.{Filling, symbolsAt}
+use mathlib.Core.List.{List, []}
+use Prim.Native.Nat.{ℕ, _+_, _≤_, _<_}
+use lib.ListN.{length, getD}
+use Rattle.receiver.specs.Symbol.{bytesOf}
+use Rattle.receiver.specs.History.{Filling}
 
--- A filling carries a sender's symbols when it holds each at its position; `offset` of them lie before position 0.
-abbrev pub Carries : (E offset : ℕ) → List (List ℕ) → Filling E → Type 0
-Carries E offset all f = let vs = drop offset all in symbolsAt E f 0 (length vs) ≡ vs
+-- A filling carries a sender's symbols, as numbered from the position `join` on, when it holds each at its position: the sender's symbol number
+-- p + offset at the position p. Those before the joining one have no position.
+abbrev pub Carries : (E join offset : ℕ) → List (List ℕ) → Filling E → Type 0
+Carries E join offset all f = (p : ℕ) → join ≤ p → p + offset < length all → bytesOf E (f p) ≡ getD all (p + offset) []

@@ -2,7 +2,7 @@
 use mathlib.Core.Path.{_≡_}
 use mathlib.Core.Logic.{_↔_, _⊎_}
 use mathlib.Core.List.{List, [], _∷_, _++_, map}
-use mathlib.Core.Option.{some}
+use mathlib.Core.Option.{none, some}
 use denote.Ref.{RefT, now}
 use Prim.Native.Nat.{ℕ, _+_, _%_, _^_, _≤_, _<_}
 use lib.ListN.{length, getD}
@@ -10,7 +10,7 @@ use Rattle.wire.specs.declared.Setting.{Setting}
 use Rattle.wire.specs.Settings.{settingOf}
 use Rattle.receiver.specs.declared.Answer.{Answer}
 use Rattle.receiver.specs.Symbol.{bytesOf}
-use Rattle.receiver.specs.History.{Filling, Located, All, Consistent, Known, baseOf, value, refusal, Judged}
+use Rattle.receiver.specs.History.{Filling, Located, All, Consistent, Known, value, refusal, baseOf, Judged}
 use Rattle.receiver.specs.Promises.{Layout, said, Opened, SymbolAnswered, PartShown}
 use Rattle.claims.specs.Run.{Step, Run, final, read, history}
 use Rattle.claims.specs.Carrying.{Carries}
@@ -33,10 +33,15 @@ module _ (L : Layout) (s : Setting) (m : List ℕ) where
     pub bytes : (memory part : RefT (List ℕ)) → now memory ≡ m → PartShown L memory part (esi p) → Known E qs p
         → (f : Filling E) → All E qs f → now part ≡ bytesOf E (f p)
     pub nothing : (memory part : RefT (List ℕ)) → now memory ≡ m → PartShown L memory part (esi p) → ¬ Known E qs p → now part ≡ []
-    -- Where a filling carries a sender's symbols, the bytes shown at their positions are the sender's.
+    -- Where a filling carries a sender's symbols from this position or an earlier one on, the bytes shown are the sender's.
     pub sender : (memory part : RefT (List ℕ)) → now memory ≡ m → PartShown L memory part (esi p) → Known E qs p
-        → (all : List (List ℕ)) (offset : ℕ) (f : Filling E) → All E qs f → Carries E offset all f
-        → p + offset < length all → now part ≡ getD all (p + offset) []
+        → (all : List (List ℕ)) (join offset : ℕ) (f : Filling E) → All E qs f → Carries E join offset all f
+        → join ≤ p → p + offset < length all → now part ≡ getD all (p + offset) []
+
+  -- Before any base, whatever the ESI: 12, and the part is empty.
+  pub record HiddenBefore (e : ℕ) : Type 0 where
+    pub answer : (a : Answer) → SymbolAnswered L m e a → said a ≡ refusal 12
+    pub nothing : (memory part : RefT (List ℕ)) → now memory ≡ m → PartShown L memory part e → now part ≡ []
 
   -- Outside the window: 8 from 2^31 on, else 12, and the part is empty.
   pub record HiddenOutside (base d : ℕ) : Type 0 where
@@ -52,14 +57,16 @@ Answered s ts =
 
 -- Demand 3, of the list of calls `ts` that has left the memory m.
 pub record Demand-3 (L : Layout) (s : Setting) (ts : List Step) (m : List ℕ) : Type 0 where
-  -- A packet is accepted exactly when it passes the checks of form, place and coefficients and some filling of the whole stream satisfies it and
-  -- every packet accepted before; else its call answers the number of the first check that fails, or 11.
+  -- A packet is accepted exactly when it passes the checks of form, place and coefficients and some filling of the whole stream, from the joining
+  -- position on, satisfies it and every packet accepted before; else its call answers the number of the first check that fails, or 11.
   pub calls : Answered s ts
   -- At least one filling satisfies every accepted packet.
-  pub consistent : Consistent (s .size) (history s ts .accepted)
+  pub consistent : Consistent (s .size) (history s ts)
+  -- Before any base the window is empty.
+  pub before : baseOf s (history s ts) ≡ none → (e : ℕ) → HiddenBefore L s m e
   -- A position in the window has its symbol shown exactly when all such fillings hold the same bytes there, and those are shown.
-  pub window : (i : ℕ) → i < s .width → ShownExactly L s m (history s ts .accepted) (baseOf (history s ts) + i)
-  pub outside : (d : ℕ) → s .width ≤ d → d < 2 ^ 32 → HiddenOutside L s m (baseOf (history s ts)) d
+  pub window : (b : ℕ) → baseOf s (history s ts) ≡ some b → (i : ℕ) → i < s .width → ShownExactly L s m (history s ts) (b + i)
+  pub outside : (b : ℕ) → baseOf s (history s ts) ≡ some b → (d : ℕ) → s .width ≤ d → d < 2 ^ 32 → HiddenOutside L s m b d
 
 -- From memory on which opening has just answered 0, with any scheme, E and width, demand 3 holds of every list of packet calls.
 abbrev pub Every-list : Layout → Type 0

@@ -14,7 +14,7 @@ use Rattle.starts.specs.declared.Handed.the-variants.{Adu}
 use Rattle.starts.specs.Adu.{View, withholds, handing, HandedAs}
 use Rattle.receiver.specs.declared.Answer.{Answer}
 use Rattle.receiver.specs.Symbol.{bytesOf}
-use Rattle.receiver.specs.History.{Filling, symbolsAt, Located, first, All, Consistent, Known, source-call, located, baseOf, value, IsValue, MarkedBy, Start}
+use Rattle.receiver.specs.History.{Filling, symbolsAt, Located, first, All, Consistent, Known, source-call, located, Log, value, IsValue, baseOf, MarkedBy, Start}
 use Rattle.receiver.specs.Promises.{Layout, said, Opened, AduAnswered}
 use Rattle.claims.specs.Run.{Step, Run, final, read, history}
 use Rattle.claims.specs.Demand.{esi}
@@ -59,12 +59,17 @@ module _ (L : Layout) (s : Setting) (m : List ℕ) (qs : List Located) (base : �
     pub told : Told s qs base see marked
     pub calls : (d : ℕ) → d < 2 ^ 32 → HandedExactly d see marked
 
+-- After the calls of a log: before any base 12, whatever the ESI.
+pub record Handing-told (L : Layout) (s : Setting) (m : List ℕ) (l : Log) : Type 0 where
+  pub before : baseOf s l ≡ none → (e : ℕ) (out out′ : List ℕ) (a : Handed) → AduAnswered L m e out out′ a → HandedAs (withholds 12) out out′ a
+  pub after : (b : ℕ) → baseOf s l ≡ some b → Handed-out L s m l b
+
 -- From memory on which opening has just answered 0, after every list of packet calls.
 abbrev pub Hands-out : Layout → Type 0
 Hands-out L =
     (scheme E w : ℕ) (m₀ m : List ℕ) (a : Answer) → Opened L scheme E w m₀ m a → said a ≡ value 0
     → (ts : List Step) → Run L m ts
-    → (s : Setting) × (settingOf scheme E w ≡ some s) × Handed-out L s (final m ts) (history s ts .accepted) (baseOf (history s ts))
+    → (s : Setting) × (settingOf scheme E w ≡ some s) × Handing-told L s (final m ts) (history s ts)
 
 -- ---- Positions become starts
 
@@ -72,16 +77,16 @@ Hands-out L =
 -- accepted packets by demand 3.
 abbrev pub Goes-on : Type 0
 Goes-on =
-    (s : Setting) → Valid s → (ts : List Step) → Consistent (s .size) (history s ts .accepted)
-    → (p flow : ℕ) (adu : List ℕ) → Start s (history s ts .accepted) p → HoldsAdu s (history s ts .accepted) (baseOf (history s ts)) p flow adu
-    → Start s (history s ts .accepted) (p + symbolCount (s .size) (length adu))
+    (s : Setting) → Valid s → (ts : List Step) → Consistent (s .size) (history s ts) → (b : ℕ) → baseOf s (history s ts) ≡ some b
+    → (p flow : ℕ) (adu : List ℕ) → Start s (history s ts) p → HoldsAdu s (history s ts) b p flow adu
+    → Start s (history s ts) (p + symbolCount (s .size) (length adu))
 
 -- The first position of an accepted source packet, and the one after its last, are starts as long as the base has not passed them, whatever packets
 -- are accepted later.
 abbrev pub Heard : Type 0
 Heard =
-    (s : Setting) (ts : List Step) (later earlier : List Located) (q : Located) → history s ts .accepted ≡ later ++ (q ∷ earlier)
-    → (p : ℕ) → MarkedBy s q p → baseOf (history s ts) ≤ p → Start s (history s ts .accepted) p
+    (s : Setting) (ts : List Step) (later earlier : List Located) (q : Located) → history s ts ≡ later ++ (q ∷ earlier)
+    → (p : ℕ) → MarkedBy s q p → (b : ℕ) → baseOf s (history s ts) ≡ some b → b ≤ p → Start s (history s ts) p
 
 -- So where a source packet's call answered a count, the ADU call at its first position hands out its ADU with its flow, where output has room: as long
 -- as the base has not passed that position, whatever calls come after.
@@ -89,9 +94,9 @@ abbrev pub Heard-handed : Layout → Type 0
 Heard-handed L =
     (s : Setting) → Valid s → (before : List Step) (t : Step) (after : List Step) (m : List ℕ)
     → let l = history s (before ++ (t ∷ after)) in
-    Handed-out L s m (l .accepted) (baseOf l)
+    (b : ℕ) → baseOf s l ≡ some b → Handed-out L s m l b
     → (flow : ℕ) (packet : List ℕ) (q : Located) → t .call ≡ source-call flow packet → read s (history s before) t ≡ located q → IsValue (said (t .answer))
-    → baseOf l ≤ first q
+    → b ≤ first q
     → (out out′ : List ℕ) (a : Handed) → AduAnswered L m (esi (first q)) out out′ a
     → let adu = sourceAdu packet in
     length adu ≤ length out → (a ≡ Adu flow (length adu)) × (out′ ≡ adu ++ drop (length adu) out)

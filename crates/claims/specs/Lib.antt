@@ -13,3 +13,4 @@ pub mod Bench
 pub mod Handing
 pub mod SentAdus
 pub mod Drawing
+pub mod Joining

@@ -1,6 +1,6 @@
 -- The place of a symbol: what is claimed of the call for it after every list of packet calls from a fresh receiver.
 use mathlib.Core.Path.{_≡_}
-use mathlib.Core.Option.{some}
+use mathlib.Core.Option.{none, some}
 use mathlib.Core.List.{List}
 use Prim.Native.Nat.{ℕ, _+_, _^_, _≤_, _<_}
 use Rattle.memory.specs.Part.{part}
@@ -8,7 +8,7 @@ use Rattle.wire.specs.declared.Setting.{Setting}
 use Rattle.wire.specs.Settings.{settingOf}
 use Rattle.receiver.specs.declared.Answer.{Answer}
 use Rattle.receiver.specs.Symbol.{bytesOf}
-use Rattle.receiver.specs.History.{Filling, Located, All, Known, baseOf, value, refusal}
+use Rattle.receiver.specs.History.{Filling, Located, All, Known, Log, value, refusal, baseOf}
 use Rattle.receiver.specs.Promises.{Layout, said, Opened, PlaceAnswered}
 use Rattle.claims.specs.Run.{Step, Run, final, history}
 use Rattle.claims.specs.Demand.{esi}
@@ -29,9 +29,14 @@ module _ (L : Layout) (s : Setting) (m : List ℕ) (qs : List Located) where
     pub past : (d : ℕ) → width ≤ d → d < 2 ^ 31 → (a : Answer) → PlaceAnswered L m (esi (base + d)) a → said a ≡ refusal 12
     pub behind : (d : ℕ) → 2 ^ 31 ≤ d → d < 2 ^ 32 → (a : Answer) → PlaceAnswered L m (esi (base + d)) a → said a ≡ refusal 8
 
+-- After the calls of a log: before any base 12, whatever the ESI.
+pub record Place-told (L : Layout) (s : Setting) (m : List ℕ) (l : Log) : Type 0 where
+  pub before : baseOf s l ≡ none → (e : ℕ) (a : Answer) → PlaceAnswered L m e a → said a ≡ refusal 12
+  pub after : (b : ℕ) → baseOf s l ≡ some b → Placed L s m l b
+
 -- From memory on which opening has just answered 0, after every list of packet calls.
 abbrev pub Every-place : Layout → Type 0
 Every-place L =
     (scheme E w : ℕ) (m₀ m : List ℕ) (a : Answer) → Opened L scheme E w m₀ m a → said a ≡ value 0
     → (ts : List Step) → Run L m ts
-    → (s : Setting) × (settingOf scheme E w ≡ some s) × Placed L s (final m ts) (history s ts .accepted) (baseOf (history s ts))
+    → (s : Setting) × (settingOf scheme E w ≡ some s) × Place-told L s (final m ts) (history s ts)

@@ -4,7 +4,7 @@ use Prim.Native.Nat.{ℕ}
 use lib.ListN.{length}
 use Rattle.wire.specs.declared.Setting.{Setting}
 use Rattle.receiver.specs.declared.Answer.{Answer}
-use Rattle.receiver.specs.History.{Call, OfBytes, Reading, reading, Log, fresh, baseOf, logged}
+use Rattle.receiver.specs.History.{Call, OfBytes, Reading, Log, fresh, readAfter, logged}
 use Rattle.receiver.specs.Promises.{Layout, Received, said}
 
 -- A call: the packet with its flow, the working memory lent and as it is left, the answer, and the receiver's memory after it.
@@ -28,7 +28,7 @@ final m (t ∷ ts) = final (t .memory) ts
 module _ (s : Setting) where
   -- What the checks before 11 make of a call.
   abbrev pub read : Log → Step → Reading
-  read l t = reading s (baseOf l) (length (t .working)) (t .call)
+  read l t = readAfter s l (length (t .working)) (t .call)
 
   -- The history of a list of calls, from their packets and answers alone.
   abbrev pub goes-on : Log → List Step → Log

@@ -1,5 +1,5 @@
 -- A list of calls of one sender, each as it promises (without the draws: `answerOf`), from an opening that answered 0; the symbols of the ADUs that it took, in order from
--- position 0 (document 01, "Receiver, as a plain history"), and the packets that it wrote.
+-- number 0 (document 01, "Receiver, as a plain history"), and the packets that it wrote.
 use mathlib.Core.Path.{_≡_}
 use mathlib.Core.Bool.{true}
 use Prim.Native.Nat.{ℕ, _%_, _^_, _≤_, _<_}
@@ -48,7 +48,7 @@ pub record SenderRun (t : Setting) (l : List SenderCall) : Type 0 where
 
 -- ---- what they took and wrote
 
--- the sender's symbols: those of the ADUs that it took, in order from position 0
+-- the sender's symbols: those of the ADUs that it took, in order from number 0
 abbrev pub symbolsOf : ℕ → List SenderCall → List (List ℕ)
 symbolsOf E [] = []
 symbolsOf E (added flow adu out (Done n) m′ out′ ∷ l) = sourceSymbols flow adu E ++ symbolsOf E l
@@ -76,7 +76,7 @@ pub record AreSymbols (E : ℕ) (symbols : List (List ℕ)) : Type 0 where
   pub small : (p i : ℕ) → getD (getD symbols p []) i 0 < 256
 
 -- the packet is one that a sender of this scheme and E writes whose symbols are `all`: the source packet of an ADU whose symbols they hold, or a repair
--- packet over a stretch of them. The first symbol that it names has position p.
+-- packet over a stretch of them. The first symbol that it names is the sender's p-th.
 pub data Wrote (scheme : Scheme) (E : ℕ) (all : List (List ℕ)) : Packet → (p : ℕ) → Type 0 where
   wrote-source : (before after : List (List ℕ)) (flow : ℕ) (adu : List ℕ) → flow < 256 → Bytes adu → length adu ≤ 65535
       → all ≡ before ++ (sourceSymbols flow adu E ++ after)

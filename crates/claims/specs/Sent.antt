@@ -1,5 +1,6 @@
 -- The sender's filling, and what becomes of a sender's packets at the receiver.
 use mathlib.Core.Path.{_≡_}
+use mathlib.Core.Option.{Option, none, some}
 use mathlib.Core.List.{List, [], _∷_}
 use denote.Ref.{RefT, now}
 use Prim.Native.Nat.{ℕ, _+_, _^_, _≤_, _<_}
@@ -8,8 +9,8 @@ use Rattle.wire.specs.declared.Setting.{Setting}
 use Rattle.wire.specs.Settings.{Valid}
 use Rattle.wire.specs.Packets.{symbolCount, sourceAdu, protectedCount}
 use Rattle.receiver.specs.declared.Answer.{Answer}
-use Rattle.receiver.specs.History.{Filling, All, Call, source-call, repair-call, workingSize, reading, Log, fresh, baseOf, Said, value, IsValue}
-use Rattle.receiver.specs.History.{logged, Judged}
+use Rattle.receiver.specs.History.{Filling, All, Call, source-call, repair-call, workingSize, Log, fresh, Said, value, refusal, IsValue, readAfter}
+use Rattle.receiver.specs.History.{baseOf, logged, Judged, joinedAt}
 use Rattle.receiver.specs.Promises.{Layout, said, SymbolAnswered, PartShown}
 use Rattle.claims.specs.SenderRun.{SenderCall, SenderRun, symbolsOf, Packet, source, repair, Wrote}
 use Rattle.claims.specs.Run.{Step, read, history}
@@ -30,20 +31,27 @@ pub record Near (p base : ℕ) : Type 0 where
   pub ahead : p < base + 2 ^ 31
   pub behind : base < p + 2 ^ 31
 
+-- A packet arrives whose first symbol is the sender's p-th: it stands less than 2^31 positions from base, where the sender's symbols are numbered
+-- `offset` more than positions. Before any base it tells that offset: its first position is its ESI.
+abbrev pub Arrives : (base : Option ℕ) (offset p : ℕ) → Type 0
+Arrives none offset p = p ≡ esi p + offset
+Arrives (some b) offset p = Near p (b + offset)
+
 -- All packets that the list accepts are as a sender of the same scheme and E wrote them, F included, whose symbols are `all`, and stood less than
 -- 2^31 positions from base on arrival.
-module _ (s : Setting) (all : List (List ℕ)) where
+module _ (s : Setting) (all : List (List ℕ)) (offset : ℕ) where
   abbrev pub AsWritten : Log → List Step → Type 0
   AsWritten l [] = Unit {0}
   AsWritten l (t ∷ ts) =
-      (IsValue (said (t .answer)) → (x : Packet) × (p : ℕ) × (callOf x ≡ t .call) × Wrote (s .scheme) (s .size) all x p × Near p (baseOf l))
+      (IsValue (said (t .answer)) → (x : Packet) × (p : ℕ) × (callOf x ≡ t .call) × Wrote (s .scheme) (s .size) all x p × Arrives (baseOf s l) offset p)
       × AsWritten (logged s l (read s l t) (said (t .answer))) ts
 
--- Then the sender's symbols, with any bytes after them, are a filling that satisfies them.
+-- Then the sender's symbols from the joining position on, with any bytes after them, are a filling that satisfies them.
 abbrev pub Sender-fills : Type 0
 Sender-fills =
-    (s : Setting) → Valid s → (all : List (List ℕ)) (ts : List Step) → AsWritten s all fresh ts
-    → (f : Filling (s .size)) → Carries (s .size) 0 all f → All (s .size) (history s ts .accepted) f
+    (s : Setting) → Valid s → (all : List (List ℕ)) (offset : ℕ) (ts : List Step) → AsWritten s all offset fresh ts
+    → (join : ℕ) → joinedAt (history s ts) ≡ some join
+    → (f : Filling (s .size)) → Carries (s .size) join offset all f → All (s .size) (history s ts) f
 
 -- A list of a sender's calls, and a receiver of the same scheme and E.
 pub record Peers (t s : Setting) (l : List SenderCall) : Type 0 where
@@ -51,20 +59,36 @@ pub record Peers (t s : Setting) (l : List SenderCall) : Type 0 where
   pub scheme : t .scheme ≡ s .scheme
   pub size : t .size ≡ s .size
 
+-- n symbols from the sender's p-th on lie ahead of the base, and not too far; before any base, anywhere.
+abbrev pub InReach : (base : Option ℕ) (offset p n : ℕ) → Type 0
+InReach none offset p n = Unit {0}
+InReach (some b) offset p n = (b + offset ≤ p) × (p + n ≤ b + offset + 65536)
+
 -- Every packet of the sender's that lies ahead of the base, not too far, and names no more symbols than the window has, is accepted.
 abbrev pub Sent-accepted : Type 0
 Sent-accepted =
-    (t s : Setting) (l : List SenderCall) → Peers t s l → Valid s → (ts : List Step) → AsWritten s (symbolsOf (s .size) l) fresh ts
+    (t s : Setting) (l : List SenderCall) → Peers t s l → Valid s
+    → (offset : ℕ) (ts : List Step) → AsWritten s (symbolsOf (s .size) l) offset fresh ts
     → (x : Packet) (p : ℕ) → Wrote (s .scheme) (s .size) (symbolsOf (s .size) l) x p
-    → baseOf (history s ts) ≤ p → p + named (s .size) x ≤ baseOf (history s ts) + 65536 → named (s .size) x ≤ s .width
-    → (room : ℕ) → workingSize s ≤ room → (a : Said) → Judged s (history s ts) (reading s (baseOf (history s ts)) room (callOf x)) a → IsValue a
+    → InReach (baseOf s (history s ts)) offset p (named (s .size) x) → named (s .size) x ≤ s .width
+    → (room : ℕ) → workingSize s ≤ room → (a : Said) → Judged s (history s ts) (readAfter s (history s ts) room (callOf x)) a → IsValue a
+
+-- Every one that begins before the base, by no more than 2^31 symbols, is behind: after joining, all that was sent or reaches back before it.
+abbrev pub Sent-behind : Type 0
+Sent-behind =
+    (t s : Setting) (l : List SenderCall) → Peers t s l → Valid s
+    → (offset : ℕ) (ts : List Step) → AsWritten s (symbolsOf (s .size) l) offset fresh ts
+    → (b : ℕ) → baseOf s (history s ts) ≡ some b
+    → (x : Packet) (p : ℕ) → Wrote (s .scheme) (s .size) (symbolsOf (s .size) l) x p
+    → p < b + offset → b + offset ≤ p + 2 ^ 31 → named (s .size) x ≤ s .width
+    → (room : ℕ) → workingSize s ≤ room → (a : Said) → Judged s (history s ts) (readAfter s (history s ts) room (callOf x)) a → a ≡ refusal 8
 
 -- And what is shown at a position of the sender's is the sender's symbol.
 abbrev pub Sent-shown : Layout → Type 0
 Sent-shown L =
     (t s : Setting) (l : List SenderCall) → Peers t s l → (ts : List Step) (m : List ℕ) → Demand-3 L s ts m
-    → AsWritten s (symbolsOf (s .size) l) fresh ts
-    → (i : ℕ) → i < s .width → baseOf (history s ts) + i < length (symbolsOf (s .size) l)
-    → (a : Answer) → SymbolAnswered L m (esi (baseOf (history s ts) + i)) a → said a ≡ value 0
-    → (memory part : RefT (List ℕ)) → now memory ≡ m → PartShown L memory part (esi (baseOf (history s ts) + i))
-    → now part ≡ getD (symbolsOf (s .size) l) (baseOf (history s ts) + i) []
+    → (offset : ℕ) → AsWritten s (symbolsOf (s .size) l) offset fresh ts
+    → (b : ℕ) → baseOf s (history s ts) ≡ some b → (i : ℕ) → i < s .width → b + i + offset < length (symbolsOf (s .size) l)
+    → (a : Answer) → SymbolAnswered L m (esi (b + i)) a → said a ≡ value 0
+    → (memory part : RefT (List ℕ)) → now memory ≡ m → PartShown L memory part (esi (b + i))
+    → now part ≡ getD (symbolsOf (s .size) l) (b + i + offset) []

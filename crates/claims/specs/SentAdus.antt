@@ -7,12 +7,12 @@ use Rattle.wire.specs.declared.Scheme.{Scheme}
 use Rattle.wire.specs.declared.Setting.{Setting}
 use Rattle.wire.specs.Packets.{symbolCount, sourceSymbols, sourcePacket}
 use Rattle.sender.specs.declared.Answer.the-variants.{Done}
-use Rattle.receiver.specs.History.{Filling, Located, All, Log, fresh, baseOf, IsValue, logged, Start}
+use Rattle.receiver.specs.History.{Filling, Located, All, Log, fresh, IsValue, baseOf, logged, Start}
 use Rattle.receiver.specs.Promises.{said}
 use Rattle.claims.specs.SenderRun.{SenderCall, added, SenderRun, symbolsOf, Packet, source, repair, packetsOf, Wrote}
 use Rattle.claims.specs.Run.{Step, read, history}
 use Rattle.claims.specs.Carrying.{Carries}
-use Rattle.claims.specs.Sent.{callOf, Near, AsWritten, Peers}
+use Rattle.claims.specs.Sent.{callOf, Arrives, AsWritten, Peers}
 use Rattle.claims.specs.Handing.{HoldsAdu}
 
 module _ (E : ℕ) (l : List SenderCall) where
@@ -34,7 +34,7 @@ module _ (E : ℕ) (l : List SenderCall) where
     pub split : l ≡ before ++ after
     pub place : p ≡ length (symbolsOf E before)
 
--- A packet of this sender's, and the position of the first symbol that it names: the source packet of an ADU that it took, or a repair packet.
+-- A packet of this sender's, and the number of the first symbol that it names: the source packet of an ADU that it took, or a repair packet.
 pub data Sent (scheme : Scheme) (E : ℕ) (l : List SenderCall) : Packet → (p : ℕ) → Type 0 where
   sent-source : {p flow : ℕ} {adu : List ℕ} → Begins E l p flow adu → Sent scheme E l (source flow (sourcePacket adu (p % 2 ^ 32))) p
   sent-repair : {p : ℕ} {x : List ℕ} → Wrote scheme E (symbolsOf E l) (repair x) p → Sent scheme E l (repair x) p
@@ -50,41 +50,43 @@ Sender-sends = (t : Setting) (l : List SenderCall) → SenderRun t l → AllSent
 -- Where a filling carries the sender's symbols, and a position is the start of one of its ADUs, only that ADU can be handed out there, with its flow.
 abbrev pub Start-gives : Type 0
 Start-gives =
-    (t s : Setting) (l : List SenderCall) → Peers t s l → (qs : List Located) (base offset : ℕ) (f : Filling (s .size)) → All (s .size) qs f
-    → Carries (s .size) offset (symbolsOf (s .size) l) f
-    → (p flow : ℕ) (adu : List ℕ) → HoldsAdu s qs base p flow adu
+    (t s : Setting) (l : List SenderCall) → Peers t s l → (qs : List Located) (base join offset : ℕ) (f : Filling (s .size)) → All (s .size) qs f
+    → Carries (s .size) join offset (symbolsOf (s .size) l) f
+    → (p flow : ℕ) (adu : List ℕ) → join ≤ p → HoldsAdu s qs base p flow adu
     → (flow′ : ℕ) (adu′ : List ℕ) → Begins (s .size) l (p + offset) flow′ adu′ → (flow ≡ flow′) × (adu ≡ adu′)
 
 -- At any other position too, where the sender has symbols there, what is handed out is those symbols. So a chain of starts that began on bytes that are no
 -- ADU's first can give the sender's bytes cut at a wrong place, with the flow and length that they happen to spell there; it can't give other bytes.
 abbrev pub Junk-gives : Type 0
 Junk-gives =
-    (s : Setting) (qs : List Located) (base offset : ℕ) (all : List (List ℕ)) (f : Filling (s .size)) → All (s .size) qs f → Carries (s .size) offset all f
-    → (p flow : ℕ) (adu : List ℕ) → HoldsAdu s qs base p flow adu → p + offset + symbolCount (s .size) (length adu) ≤ length all
+    (s : Setting) (qs : List Located) (base join offset : ℕ) (all : List (List ℕ)) (f : Filling (s .size)) → All (s .size) qs f
+    → Carries (s .size) join offset all f
+    → (p flow : ℕ) (adu : List ℕ) → join ≤ p → HoldsAdu s qs base p flow adu → p + offset + symbolCount (s .size) (length adu) ≤ length all
     → sourceSymbols flow adu (s .size) ≡ take (symbolCount (s .size) (length adu)) (drop (p + offset) all)
 
 -- All packets that the list accepts are this sender's, and stood less than 2^31 positions from base on arrival.
-module _ (s : Setting) (l : List SenderCall) where
+module _ (s : Setting) (l : List SenderCall) (offset : ℕ) where
   abbrev pub AsSent : Log → List Step → Type 0
   AsSent log [] = Unit {0}
   AsSent log (t ∷ ts) =
-      (IsValue (said (t .answer)) → (x : Packet) × (p : ℕ) × (callOf x ≡ t .call) × Sent (s .scheme) (s .size) l x p × Near p (baseOf log))
+      (IsValue (said (t .answer)) → (x : Packet) × (p : ℕ) × (callOf x ≡ t .call) × Sent (s .scheme) (s .size) l x p × Arrives (baseOf s log) offset p)
       × AsSent (logged s log (read s log t) (said (t .answer))) ts
 
 -- Then all of them are as it wrote them: what is claimed of such packets is claimed of these.
 abbrev pub Sent-written : Type 0
 Sent-written =
-    (t s : Setting) (l : List SenderCall) → Peers t s l → (ts : List Step) → AsSent s l fresh ts → AsWritten s (symbolsOf (s .size) l) fresh ts
+    (t s : Setting) (l : List SenderCall) → Peers t s l → (offset : ℕ) (ts : List Step) → AsSent s l offset fresh ts
+    → AsWritten s (symbolsOf (s .size) l) offset fresh ts
 
 -- Then every start is the first symbol of one of its ADUs, or the end of all.
 abbrev pub Sent-starts : Type 0
 Sent-starts =
-    (t s : Setting) (l : List SenderCall) → Peers t s l → (ts : List Step) → AsSent s l fresh ts
-    → (p : ℕ) → Start s (history s ts .accepted) p → Boundary (s .size) l p
+    (t s : Setting) (l : List SenderCall) → Peers t s l → (offset : ℕ) (ts : List Step) → AsSent s l offset fresh ts
+    → (p : ℕ) → Start s (history s ts) p → Boundary (s .size) l (p + offset)
 
--- And an ADU that every filling holds at a start is one that it took, with its flow. Together with `handed` this is what the ADU call hands out.
+-- And an ADU that every filling holds at a start, whatever the base b, is one that it took, with its flow. Together with `handed` this is what the ADU call hands out.
 abbrev pub Sent-handed : Type 0
 Sent-handed =
-    (t s : Setting) (l : List SenderCall) → Peers t s l → (ts : List Step) → AsSent s l fresh ts
-    → (p flow : ℕ) (adu : List ℕ) → Start s (history s ts .accepted) p → HoldsAdu s (history s ts .accepted) (baseOf (history s ts)) p flow adu
-    → Begins (s .size) l p flow adu
+    (t s : Setting) (l : List SenderCall) → Peers t s l → (offset : ℕ) (ts : List Step) → AsSent s l offset fresh ts
+    → (b p flow : ℕ) (adu : List ℕ) → Start s (history s ts) p → HoldsAdu s (history s ts) b p flow adu
+    → Begins (s .size) l (p + offset) flow adu

@@ -1,0 +1,41 @@
+-- Joining a stream (document 02, No. 2): what is claimed of packet calls before any base, and of the starts after them.
+use mathlib.Core.Path.{_≡_}
+use mathlib.Core.Logic.{_≢_}
+use mathlib.Core.Option.{none, some}
+use mathlib.Core.List.{List, [], _∷_, _++_}
+use Prim.Native.Nat.{ℕ}
+use Rattle.wire.specs.declared.Setting.{Setting}
+use Rattle.wire.specs.Settings.{settingOf}
+use Rattle.receiver.specs.declared.Answer.{Answer}
+use Rattle.receiver.specs.History.{Located, source, repair, esiOf, joinedAt, value, refusal, IsValue, baseOf, Start}
+use Rattle.receiver.specs.Promises.{Layout, said, Opened}
+use Rattle.claims.specs.Run.{Step, Run, history}
+
+-- The call t, after calls that have left no base.
+pub record JoinsBy (s : Setting) (ts : List Step) (t : Step) : Type 0 where
+  -- 8 and 9 can't stop it.
+  pub not-behind : said (t .answer) ≢ refusal 8
+  pub not-far : said (t .answer) ≢ refusal 9
+  -- Where it is accepted, the receiver has joined at the packet's own first ESI, and that is the base.
+  pub joins : IsValue (said (t .answer))
+      → let l = history s (ts ++ (t ∷ [])) in
+      (joinedAt l ≡ some (esiOf (t .call))) × (baseOf s l ≡ some (esiOf (t .call)))
+  -- Where it is refused, for whatever reason, there is still no base.
+  pub stays : (n : ℕ) → said (t .answer) ≡ refusal n → baseOf s (history s (ts ++ (t ∷ []))) ≡ none
+
+-- From memory on which opening has just answered 0: every call before any base.
+abbrev pub Joins : Layout → Type 0
+Joins L =
+    (scheme E w : ℕ) (m₀ m : List ℕ) (a : Answer) → Opened L scheme E w m₀ m a → said a ≡ value 0
+    → (ts : List Step) (t : Step) → Run L m (ts ++ (t ∷ []))
+    → (s : Setting) × (settingOf scheme E w ≡ some s) × (baseOf s (history s ts) ≡ none → JoinsBy s ts t)
+
+-- No source packet is among them.
+abbrev pub AllRepair : List Located → Type 0
+AllRepair [] = Unit {0}
+AllRepair (source p symbols ∷ qs) = ⊥
+AllRepair (repair p n coefficients symbols ∷ qs) = AllRepair qs
+
+-- Only a source packet marks a start: before one is accepted, no position is.
+abbrev pub Unmarked : Type 0
+Unmarked = (s : Setting) (qs : List Located) → AllRepair qs → (p : ℕ) → ¬ Start s qs p
