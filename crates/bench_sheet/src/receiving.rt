@@ -36,9 +36,10 @@ pub fn solved_case() {
     print(b"\n");
 }
 
-// An empty ADU at an ESI, base 0.
+// An empty ADU at an ESI, after one at ESI 0: base 0.
 fn place(mem: &mut [u8], work: &mut [u8], packet: &[u8]) {
     open(mem, 1);
+    source(mem, work, b"\0\0\0\0");
     source(mem, work, packet);
 }
 
