@@ -10,6 +10,11 @@ fn case(name: &[u8], mem: &mut [u8], width: usize) {
     receiver::open(mem, 9, 4, width);
 }
 
+// An empty ADU at ESI 0, which makes position 1 a start too.
+fn join_at_zero(mem: &mut [u8], work: &mut [u8]) {
+    source(mem, work, b"\0\0\0\0");
+}
+
 // Symbols 2 and 3.
 fn later(mem: &mut [u8], work: &mut [u8]) {
     repair(mem, work, b"\0\0\xF0\x01\0\0\0\x02\x43\x44\x45\x46");
@@ -24,9 +29,11 @@ fn no_start(mem: &mut [u8], work: &mut [u8]) {
     print(b"\n");
 }
 
-fn no_start_unknown(mem: &mut [u8]) {
+fn no_start_unknown(mem: &mut [u8], work: &mut [u8]) {
     let mut out = [0u8; 12];
-    case(b"13 fresh receiver, position 1:", mem, 2);
+    case(b"13 a repair packet over positions 0 and 1:", mem, 2);
+    repair(mem, work, b"\0\0\xF0\x02\0\0\0\0\0\0\0\x03");
+    hand(mem, 0, &mut out);
     hand(mem, 1, &mut out);
     print(b"\n");
 }
@@ -34,16 +41,18 @@ fn no_start_unknown(mem: &mut [u8]) {
 fn too_many(mem: &mut [u8], work: &mut [u8]) {
     let mut out = [0u8; 12];
     case(b"14 width 1, L 2:", mem, 1);
-    repair(mem, work, b"\0\0\xF0\x01\0\0\0\0\x01\0\x02\x41");
-    hand(mem, 0, &mut out);
+    join_at_zero(mem, work);
+    repair(mem, work, b"\0\0\xF0\x01\0\0\0\x01\x01\0\x02\x41");
+    hand(mem, 1, &mut out);
     print(b"\n");
 }
 
 fn padding(mem: &mut [u8], work: &mut [u8]) {
     let mut out = [0u8; 12];
     case(b"14 padding not zero:", mem, 2);
-    repair(mem, work, b"\0\0\xF0\x01\0\0\0\0\x01\0\0\x41");
-    hand(mem, 0, &mut out);
+    join_at_zero(mem, work);
+    repair(mem, work, b"\0\0\xF0\x01\0\0\0\x01\x01\0\0\x41");
+    hand(mem, 1, &mut out);
     print(b"\n");
 }
 
@@ -73,9 +82,10 @@ fn short(mem: &mut [u8], work: &mut [u8]) {
 
 fn part(mem: &mut [u8], work: &mut [u8]) {
     let mut out = [0u8; 12];
-    case(b"its first symbol alone:", mem, 2);
-    repair(mem, work, b"\0\0\xF0\x01\0\0\0\0\x01\0\x05\x11");
-    hand(mem, 0, &mut out);
+    case(b"its first symbol alone, width 3:", mem, 3);
+    join_at_zero(mem, work);
+    repair(mem, work, b"\0\0\xF0\x01\0\0\0\x01\x01\0\x05\x11");
+    hand(mem, 1, &mut out);
     print(b"\n");
 }
 
@@ -120,10 +130,11 @@ fn lost(mem: &mut [u8], work: &mut [u8]) {
 fn chain(mem: &mut [u8], work: &mut [u8]) {
     let mut out = [0u8; 1];
     case(b"known by repair, marked later, width 4:", mem, 4);
-    repair(mem, work, b"\0\0\xF0\x01\0\0\0\x01\x01\0\x01\x42");
-    repair(mem, work, b"\0\0\xF0\x01\0\0\0\x02\x01\0\x01\x43");
-    source(mem, work, b"\x41\0\0\0\0");
-    hand(mem, 2, &mut out);
+    join_at_zero(mem, work);
+    repair(mem, work, b"\0\0\xF0\x01\0\0\0\x02\x01\0\x01\x42");
+    repair(mem, work, b"\0\0\xF0\x01\0\0\0\x03\x01\0\x01\x43");
+    source(mem, work, b"\x41\0\0\0\x01");
+    hand(mem, 3, &mut out);
     print(b"\n");
 }
 
@@ -140,7 +151,7 @@ fn inside(mem: &mut [u8], work: &mut [u8]) {
 
 fn starts(mem: &mut [u8], work: &mut [u8]) {
     no_start(mem, work);
-    no_start_unknown(mem);
+    no_start_unknown(mem, work);
     too_many(mem, work);
     padding(mem, work);
 }

@@ -1,9 +1,10 @@
 // Document 01's table of refusals ("Why a call says no"), line by line: what each small example answers. None is known for 10.
-// Then cases of the ADU call: flow, length and output, or the refusal. E is 4, F is 1 and the width is 2 unless a line says otherwise.
+// Then cases of joining, and of the ADU call: flow, length and output, or the refusal. E is 4, F is 1 and the width is 2 unless a line says otherwise.
 ghost use mathlib.Core.Path.{_≡_};
 ghost use lib.ListN.{length};
 
 mod adus;
+mod joining;
 mod receiving;
 mod sending;
 
@@ -32,5 +33,6 @@ fn main() {
     let mut out = output();
     sending::table(&mut mem, &mut out);
     receiving::table(&mut mem, &mut work, &mut out);
+    joining::table(&mut mem, &mut work, &mut out);
     adus::table(&mut mem, &mut work);
 }

@@ -69,8 +69,10 @@ fn protected(mem: &mut [u8], work: &mut [u8]) {
     repair(mem, work, b"\0\0\xF0\x03\0\0\0\0\0\0\0\0");
 }
 
+// Base 0: after a packet at ESI 0.
 fn places(mem: &mut [u8], work: &mut [u8], out: &mut [u8]) {
     print(b"\n8 base 0, ESI 4294967295:");
+    source(mem, work, b"\0\0\0\0");
     source(mem, work, b"\xFF\xFF\xFF\xFF");
     show(mem, 4294967295);
     hand(mem, 4294967295, out);
@@ -80,14 +82,16 @@ fn places(mem: &mut [u8], work: &mut [u8], out: &mut [u8]) {
 
 fn contradiction(mem: &mut [u8], work: &mut [u8]) {
     print(b"\n11 two unlike repair symbols:");
+    open(mem);
     repair(mem, work, b"\0\0\xF0\x01\0\0\0\0\0\0\0\x01\0\0\0\x02");
 }
 
-fn unknown(mem: &[u8], out: &mut [u8]) {
+fn unknown(mem: &mut [u8], work: &mut [u8], out: &mut [u8]) {
     print(b"\n12 fresh receiver, ESI 0:");
     show(mem, 0);
     hand(mem, 0, out);
-    print(b"\n12 past the window, ESI 2:");
+    print(b"\n12 base 0, past the window, ESI 2:");
+    source(mem, work, b"\0\0\0\0");
     show(mem, 2);
     hand(mem, 2, out);
 }
@@ -105,16 +109,16 @@ fn opened(mem: &mut [u8], work: &mut [u8], out: &mut [u8]) {
     forms(mem, work);
 }
 
-fn fresh(mem: &mut [u8], work: &mut [u8], out: &mut [u8]) {
+fn placed(mem: &mut [u8], work: &mut [u8], out: &mut [u8]) {
     protected(mem, work);
     places(mem, work, out);
     contradiction(mem, work);
-    unknown(mem, out);
+    unknown(mem, work, out);
     print(b"\n");
 }
 
 pub fn table(mem: &mut [u8], work: &mut [u8], out: &mut [u8]) {
     unopened(mem, work, out);
     opened(mem, work, out);
-    fresh(mem, work, out);
+    placed(mem, work, out);
 }
