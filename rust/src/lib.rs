@@ -3,8 +3,8 @@
 //!
 //! A [`Sender`] takes application packets (ADUs), writes a source packet for each and, when asked, repair packets over its window of the
 //! last `width` symbols. A [`Receiver`] takes source and repair packets in any order, with losses and repeats, and shows every symbol of
-//! its window that the packets determine. All working is exact: what it shows is what the packets imply, and a packet that contradicts
-//! them is refused.
+//! its window that the packets determine; it can join a running stream, at the first packet that it accepts. All working is exact: what it
+//! shows is what the packets imply, and a packet that contradicts them is refused.
 //!
 //! ```
 //! use rlc8681::{Receiver, Scheme, Sender};

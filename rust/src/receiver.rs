@@ -46,8 +46,9 @@ pub struct Adu<'a> {
 }
 
 impl Receiver {
-    /// A receiver whose window begins at ESI 0. Symbols have 4 to 1,500 bytes, the window 1 to 255 symbols; the scheme and the symbol size
-    /// are the sender's.
+    /// A receiver that can join a stream anywhere: the first packet that it accepts begins its window, at the first ESI that the packet
+    /// names. Until then there is no window, and every symbol is [`Refusal::Unknown`]. Symbols have 4 to 1,500 bytes, the window 1 to 255
+    /// symbols; the scheme and the symbol size are the sender's.
     ///
     /// # Errors
     ///
@@ -55,7 +56,17 @@ impl Receiver {
     ///
     /// ```
     /// use rlc8681::{Receiver, Refusal, Scheme};
+    /// # fn main() -> Result<(), Refusal> {
     /// assert_eq!(Receiver::open(Scheme::Gf256, 1400, 256).err(), Some(Refusal::Values));
+    ///
+    /// let mut receiver = Receiver::open(Scheme::Gf256, 1400, 64)?;
+    /// assert_eq!(receiver.symbol(4_100_000), Err(Refusal::Unknown));
+    /// let esi = 4_100_000u32.to_be_bytes();
+    /// assert_eq!(receiver.receive_source(1, &[b"ADU", &esi[..]].concat())?.known, 1);
+    /// assert!(receiver.symbol(4_100_000).is_ok());
+    /// assert_eq!(receiver.symbol(4_099_999), Err(Refusal::Behind));
+    /// # Ok(())
+    /// # }
     /// ```
     pub fn open(scheme: Scheme, symbol_size: u32, width: u32) -> Result<Receiver, Refusal> {
         // SAFETY: both calls take numbers only.
@@ -71,7 +82,8 @@ impl Receiver {
     ///
     /// # Errors
     ///
-    /// In this order: [`Refusal::Form`], [`Refusal::Long`], [`Refusal::Behind`], [`Refusal::Ahead`], [`Refusal::Contradiction`].
+    /// In this order: [`Refusal::Form`], [`Refusal::Long`], [`Refusal::Behind`], [`Refusal::Ahead`], [`Refusal::Contradiction`]. While no
+    /// packet was accepted, none is behind or ahead.
     pub fn receive_source(&mut self, flow: u8, packet: &[u8]) -> Result<Received, Refusal> {
         // SAFETY: pointers and lengths are those of slices that are borrowed for the call alone; the two mutable ones are apart.
         answer_with_draws(unsafe {
@@ -93,7 +105,7 @@ impl Receiver {
     /// # Errors
     ///
     /// In this order: [`Refusal::Form`], [`Refusal::Range`], [`Refusal::Behind`], [`Refusal::Ahead`], [`Refusal::Draws`],
-    /// [`Refusal::Contradiction`].
+    /// [`Refusal::Contradiction`]. While no packet was accepted, none is behind or ahead.
     ///
     /// ```
     /// use rlc8681::{Received, Receiver, Refusal, Scheme};
@@ -128,7 +140,7 @@ impl Receiver {
     ///
     /// # Errors
     ///
-    /// [`Refusal::Behind`], then [`Refusal::Unknown`].
+    /// [`Refusal::Behind`], then [`Refusal::Unknown`]; while no packet was accepted, always the latter.
     pub fn symbol(&self, esi: u32) -> Result<&[u8], Refusal> {
         // SAFETY: pointer and length are those of a slice that is borrowed for the call alone.
         let place = answer(unsafe { ffi::rlc_symbol_place(self.memory.as_ptr(), self.memory.len(), esi) })?;
@@ -136,13 +148,14 @@ impl Receiver {
         self.memory.get(place..).and_then(|rest| rest.get(..self.symbol_size as usize)).ok_or(Refusal::Unopened)
     }
 
-    /// Writes the ADU that starts at this ESI to the front of `out`, whose other bytes stay, and gives it with its flow.
+    /// Writes the ADU that starts at this ESI to the front of `out`, whose other bytes stay, and gives it with its flow. Starts are the first
+    /// symbol of each source packet, the one after its last, and, after an ADU whose first symbol is known, the next one's.
     ///
     /// # Errors
     ///
-    /// In this order: [`Refusal::Behind`]; [`Refusal::Unknown`] past the window; [`Refusal::NoStart`]; [`Refusal::Unknown`] for its first
-    /// symbol; [`Refusal::Padding`] for one that needs more symbols than the width; [`Refusal::Unknown`] for another symbol;
-    /// [`Refusal::Padding`]; [`Refusal::Short`] for an output shorter than the ADU.
+    /// [`Refusal::Unknown`] while no packet was accepted. Then, in this order: [`Refusal::Behind`]; [`Refusal::Unknown`] past the window;
+    /// [`Refusal::NoStart`]; [`Refusal::Unknown`] for its first symbol; [`Refusal::Padding`] for one that needs more symbols than the
+    /// width; [`Refusal::Unknown`] for another symbol; [`Refusal::Padding`]; [`Refusal::Short`] for an output shorter than the ADU.
     ///
     /// ```
     /// use rlc8681::{Adu, Receiver, Refusal, Scheme};
@@ -150,9 +163,9 @@ impl Receiver {
     /// let mut receiver = Receiver::open(Scheme::Gf2, 4, 2)?;
     /// let mut out = [0; 4];
     /// assert_eq!(receiver.adu(0, &mut out), Err(Refusal::Unknown));
-    /// assert_eq!(receiver.adu(1, &mut out), Err(Refusal::NoStart));
     /// receiver.receive_source(7, b"ABCD\0\0\0\0")?;
     /// assert_eq!(receiver.adu(0, &mut out), Ok(Adu { flow: 7, bytes: b"ABCD" }));
+    /// assert_eq!(receiver.adu(1, &mut out), Err(Refusal::NoStart));
     /// # Ok(())
     /// # }
     /// ```

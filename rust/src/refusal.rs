@@ -28,7 +28,7 @@ pub enum Refusal {
     Draws = 10,
     /// 11: the packet contradicts those accepted before, or itself.
     Contradiction = 11,
-    /// 12: not known, or past the window.
+    /// 12: not known, or past the window; any symbol or ADU while no packet was accepted.
     Unknown = 12,
     /// 13: no start of an ADU.
     NoStart = 13,

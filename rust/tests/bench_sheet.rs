@@ -140,6 +140,7 @@ fn c10_places() {
     for scheme in [Scheme::Gf2, Scheme::Gf256] {
         for (esi, answer) in far {
             let mut receiver = Receiver::open(scheme, 4, 3).unwrap();
+            assert_eq!(receiver.receive_source(1, &source_packet(&[4], 0)), known(1));
             assert_eq!(receiver.receive_source(1, &source_packet(&[5], esi)), answer);
         }
     }

@@ -226,9 +226,9 @@ fn opening_again() {
             let past = memory[new.receiver_memory()..].to_vec();
             assert_eq!(library::receiver_open(&mut memory, new.scheme, e, w), 0);
             assert!(memory[new.receiver_memory()..] == past);
-            for esi in 0..new.width as u32 {
-                assert_eq!(library::symbol(&memory, esi), -12);
-                assert_eq!(library::adu(&memory, esi, &mut []), if esi == 0 { -12 } else { -13 });
+            for esi in (0..=new.width as u32).chain([1 << 31, u32::MAX, random.next() as u32]) {
+                let calls = [library::symbol(&memory, esi), library::symbol_place(&memory, esi), library::adu(&memory, esi, &mut [])];
+                assert_eq!(calls, [-12; 3], "ESI {esi}");
             }
             let past = memory[new.sender_memory()..].to_vec();
             assert_eq!(library::sender_open(&mut memory, new.scheme, e, w), 0);

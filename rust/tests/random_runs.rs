@@ -7,8 +7,8 @@ use library::pair::{Receivers, Senders, Tally};
 use library::runs;
 use reference::coefficients::{combination, drawn_list, keys};
 use reference::random::Random;
-use reference::{repair_packet, source_packet, Setting};
-use std::collections::{BTreeMap, HashMap};
+use reference::{moved, repair_packet, source_packet, Setting};
+use std::collections::HashMap;
 
 /// A setting: mostly small, now and then at the ends of its ranges.
 fn setting(random: &mut Random, widest: usize, longest: usize) -> Setting {
@@ -27,25 +27,38 @@ fn setting(random: &mut Random, widest: usize, longest: usize) -> Setting {
     Setting { scheme: 9 + random.below(2) as u32, symbol_size: symbol_size.min(longest), width: width.min(widest) }
 }
 
+/// The ESI that a stream begins with: any, and often one where a number of 31 or 32 bits ends.
+fn beginning(random: &mut Random) -> u32 {
+    let near = random.below(300) as u32;
+    match random.below(10) {
+        0 => near,
+        1 => (1 << 31) - 1 - near,
+        2 => (1 << 31) + near,
+        3..=5 => u32::MAX - near,
+        6 => 1_000_000 + random.below(100_000_000) as u32,
+        _ => random.next() as u32,
+    }
+}
+
 /// A packet on its way, with the flow beside it where it is a source packet.
 type Packet = (Option<u8>, Vec<u8>);
 
-/// Content for any position: ADUs where a start was asked for, other bytes elsewhere.
+/// Content for any position, by ESI: ADUs where a start was asked for, other bytes elsewhere.
 struct Stream {
     setting: Setting,
-    symbols: HashMap<u64, Vec<u8>>,
-    starts: BTreeMap<u64, (u8, Vec<u8>)>,
+    symbols: HashMap<u32, Vec<u8>>,
+    starts: HashMap<u32, (u8, Vec<u8>)>,
 }
 
 impl Stream {
     fn new(setting: Setting) -> Stream {
-        Stream { setting, symbols: HashMap::new(), starts: BTreeMap::new() }
+        Stream { setting, symbols: HashMap::new(), starts: HashMap::new() }
     }
 
     /// The source packet of the ADU at a position, made up where nothing is there yet; none where the position is no start.
     fn source(&mut self, random: &mut Random, position: u64) -> Option<Packet> {
-        if !self.starts.contains_key(&position) {
-            let free = (position..).take(self.setting.width).take_while(|p| !self.symbols.contains_key(p)).count();
+        if !self.starts.contains_key(&(position as u32)) {
+            let free = (position..).take(self.setting.width).take_while(|&p| !self.symbols.contains_key(&(p as u32))).count();
             if free == 0 {
                 return None;
             }
@@ -60,17 +73,17 @@ impl Stream {
             };
             let flow = random.one_of(&[0, 1, 2, 255]);
             for (p, symbol) in (position..).zip(self.setting.cut(flow, &adu)) {
-                self.symbols.insert(p, symbol);
+                self.symbols.insert(p as u32, symbol);
             }
-            self.starts.insert(position, (flow, adu));
+            self.starts.insert(position as u32, (flow, adu));
         }
-        let (flow, adu) = &self.starts[&position];
+        let (flow, adu) = &self.starts[&(position as u32)];
         Some((Some(*flow), source_packet(adu, position)))
     }
 
     /// The symbol at a position, made up where there is none: the start of an ADU, or bytes that only look like one.
     fn symbol(&mut self, random: &mut Random, position: u64) -> Vec<u8> {
-        if !self.symbols.contains_key(&position) {
+        if !self.symbols.contains_key(&(position as u32)) {
             if random.chance(60) {
                 self.source(random, position);
             } else {
@@ -82,10 +95,10 @@ impl Stream {
                 if random.chance(30) {
                     bytes[3..].fill(0);
                 }
-                self.symbols.insert(position, bytes);
+                self.symbols.insert(position as u32, bytes);
             }
         }
-        self.symbols[&position].clone()
+        self.symbols[&(position as u32)].clone()
     }
 
     fn repair(&mut self, random: &mut Random, position: u64, n: usize) -> Packet {
@@ -168,11 +181,12 @@ fn odd(random: &mut Random, setting: Setting, base: u64) -> Packet {
     }
 }
 
-/// One run: packets around the window, made to fit one stream or not, in any order. Gives what happened.
+/// One run: packets around the window, made to fit one stream or not, in any order. While there is no base they lie around any ESI.
 fn mixed_run(random: &mut Random, receivers: &mut Receivers, packets: usize) {
     let setting = receivers.setting();
     let width = setting.width as u64;
     let mut stream = Stream::new(setting);
+    let beginning = u64::from(beginning(random));
     let mut held: Vec<Packet> = Vec::new();
     let mut past: Vec<Packet> = Vec::new();
     let sources = random.one_of(&[10, 40, 70]);
@@ -185,9 +199,12 @@ fn mixed_run(random: &mut Random, receivers: &mut Receivers, packets: usize) {
         2001..=50_000 => 10,
         _ => 2,
     };
+    if receivers.base().is_none() {
+        receivers.look_around(random);
+    }
     for _ in 0..packets {
-        let base = receivers.base();
-        let packet = if random.chance(oddity) {
+        let base = receivers.base().unwrap_or(beginning);
+        let packet = if random.chance(if receivers.base().is_none() { 40 } else { oddity }) {
             odd(random, setting, base)
         } else if random.chance(repeats) && !past.is_empty() {
             past[random.below(past.len() as u64) as usize].clone()
@@ -199,6 +216,7 @@ fn mixed_run(random: &mut Random, receivers: &mut Receivers, packets: usize) {
                 0..=30 => random.below(width),
                 31..=60 => random.below(width.min(4) + 1),
                 61..=90 => width.saturating_sub(random.below(3)),
+                91..=92 => (1 << 32) - 1 - random.below(3),
                 _ => random.below(width + 3),
             };
             let position = base + ahead;
@@ -241,6 +259,7 @@ fn receiver_on_mixed_packets() {
     });
     tally.told("mixed packets");
     tally.met(&[4, 5, 6, 8, 9, 11], &[0, 2, 8, 12, 13, 14]);
+    tally.met_joining(&[4, 5, 6, 11]);
 }
 
 /// The same with wide windows, long enough that they fill and move on.
@@ -276,18 +295,18 @@ fn receiver_with_long_histories() {
     tally.met(&[8], &[0, 12, 13]);
 }
 
-/// A receiver whose base stands just below this position, reached by packets as far ahead as they may be.
+/// A receiver that joined at ESI 0 and whose base stands just below this position, reached by packets as far ahead as they may be.
 fn driven(setting: Setting, position: u64, random: &mut Random) -> Receivers {
     let mut receivers = Receivers::open(setting, random);
-    while receivers.base() < position {
-        let ahead = (position - receivers.base()).min(65_535);
-        let packet = source_packet(&[random.byte()], receivers.base() + ahead);
+    let mut last = 0;
+    loop {
+        let packet = source_packet(&[random.byte()], last);
         assert_eq!(receivers.receive(random, Some(1), &packet), Ok((1, 0)));
-        if ahead < 65_535 {
-            break;
+        if last == position {
+            break receivers;
         }
+        last = position.min(receivers.base().unwrap() + 65_535);
     }
-    receivers
 }
 
 /// ESIs wrap at 2^32; positions, marks and equations go on. Below the wrap's half nothing may be taken as behind.
@@ -300,13 +319,13 @@ fn receiver_past_the_wrap() {
         let setting = setting(random, 12, 12);
         let below = random.below(30);
         let receivers = driven(setting, (1 << 32) - 20 - below, random);
-        assert!(receivers.base() < 1 << 32);
+        assert!(receivers.base() < Some(1 << 32));
         for _ in 0..40 {
             let mut receivers = receivers.clone();
             receivers.tally = Tally::default();
             mixed_run(random, &mut receivers, 100);
             tally.add(&receivers.tally);
-            crossed += u64::from(receivers.base() > 1 << 32);
+            crossed += u64::from(receivers.base() > Some(1 << 32));
         }
     });
     assert!(crossed > 0);
@@ -346,6 +365,9 @@ impl Link {
 
 /// How one run over a link sends.
 struct Sending {
+    /// The ESI of the first symbol, and how many ADUs pass before the receiver is switched on.
+    beginning: u32,
+    unheard: usize,
     adus: usize,
     /// A repair packet after every so many ADUs, mostly with this density threshold.
     spacing: usize,
@@ -372,12 +394,14 @@ fn link_run(random: &mut Random, mut senders: Senders, receivers: &mut Receivers
             let dt = if random.chance(80) { sending.dt } else { random.below(16) as u32 };
             let key = random.next() as u16;
             if let Ok((packet, draws)) = senders.make_repair(random, key, dt, count) {
-                draws_of.insert(packet.clone(), draws);
+                draws_of.insert(moved(false, &packet, sending.beginning), draws);
                 packets.push((None, packet));
             }
         }
-        for packet in packets {
-            for (flow, packet) in link.send(random, packet) {
+        for (flow, packet) in packets {
+            let packet = moved(flow.is_some(), &packet, sending.beginning);
+            let arrived = link.send(random, (flow, packet));
+            for (flow, packet) in if i < sending.unheard { Vec::new() } else { arrived } {
                 match (receivers.receive(random, flow, &packet), flow) {
                     (Ok((_, draws)), Some(_)) => assert_eq!(draws, 0),
                     (Ok((known, draws)), None) => {
@@ -390,15 +414,16 @@ fn link_run(random: &mut Random, mut senders: Senders, receivers: &mut Receivers
         }
         if random.chance(sending.looks) {
             receivers.look_around(random);
-            compare_with_sent(&senders, receivers);
+            compare_with_sent(&senders, receivers, sending.beginning);
         }
     }
     receivers.look_around(random);
-    compare_with_sent(&senders, receivers);
+    compare_with_sent(&senders, receivers, sending.beginning);
     found
 }
 
-/// Any setting, and another width at the other end now and then.
+/// Any setting, from any ESI on, with a receiver that is there from the beginning or joins later; another width at the other end now and
+/// then.
 #[test]
 fn sender_over_a_link() {
     let mut tally = Tally::default();
@@ -417,12 +442,15 @@ fn sender_over_a_link() {
             _ => 60,
         };
         let adus = if setting.width > 60 { 40 } else { 120 };
-        let sending = Sending { adus, spacing: random.between(1, 5), dt: random.below(16) as u32, looks };
+        let unheard = if random.chance(50) { 0 } else { random.between(0, adus / 2) };
+        let beginning = beginning(random);
+        let sending = Sending { beginning, unheard, adus, spacing: random.between(1, 5), dt: random.below(16) as u32, looks };
         link_run(random, senders, &mut receivers, link, &sending);
         tally.add(&receivers.tally);
     });
     tally.told("a link");
     tally.met(&[6, 8], &[0, 8, 12, 13]);
+    tally.met_joining(&[]);
 }
 
 /// The sizes that streams are sent with, and the largest, until the window is full and has moved on.
@@ -435,31 +463,41 @@ fn largest_sizes_over_a_link() {
         let setting = Setting { scheme: 9 + seed as u32 % 2, symbol_size, width };
         let senders = Senders::open(setting, random);
         let mut receivers = Receivers::open(setting, random);
-        let loss = random.one_of(&[5, 15, 25]);
+        let loss = random.one_of(&[5, 10, 15]);
         let link = Link { bursts: seed / 6 % 2 == 1, losing: false, loss, late: Vec::new(), now: 0 };
-        let sending = Sending { adus: 400, spacing: random.between(2, 4), dt: if setting.scheme == 9 { 7 } else { 15 }, looks: 2 };
+        let dt = if setting.scheme == 9 { 7 } else { 15 };
+        let beginning = beginning(random);
+        let unheard = random.between(0, 50);
+        // A repair packet that reaches back to before the joining one is behind: a window of symbols passes before repair helps
+        let adus = 400 + unheard + width;
+        let sending = Sending { beginning, unheard, adus, spacing: random.between(2, 3), dt, looks: 2 };
         let found = link_run(random, senders, &mut receivers, link, &sending);
-        assert!(found > 0 && receivers.base() > 0, "{found} symbols found, base {}", receivers.base());
+        let heard = receivers.tally.accepted.iter().sum::<u64>();
+        assert!(found > 0 && heard > setting.width as u64, "{found} symbols found, {heard} packets accepted");
         tally.add(&receivers.tally);
     });
     tally.told("largest sizes");
     tally.met(&[], &[0, 12, 13]);
 }
 
-/// Every symbol that the receiver shows is the sender's, and every ADU that it hands out is one that was sent, with its flow.
-fn compare_with_sent(senders: &Senders, receivers: &Receivers) {
-    let (base, setting) = (receivers.base(), receivers.setting());
+/// Every symbol that the receiver shows is the sender's, whose first has the ESI `beginning`, and every ADU that it hands out is one that was
+/// sent, with its flow.
+fn compare_with_sent(senders: &Senders, receivers: &Receivers, beginning: u32) {
+    let setting = receivers.setting();
     let memory = receivers.memory.get();
+    let Some(base) = receivers.base() else { return };
     for position in base..base + setting.width as u64 {
-        let place = library::symbol_place(memory, position as u32);
+        let esi = position as u32;
+        let sent = u64::from(esi.wrapping_sub(beginning));
+        let place = library::symbol_place(memory, esi);
         if let Ok(place) = usize::try_from(place) {
-            assert_eq!(memory[place..place + setting.symbol_size], senders.reference.symbols[position as usize], "symbol {position}");
+            assert_eq!(memory[place..place + setting.symbol_size], senders.reference.symbols[sent as usize], "symbol {position}");
         }
         let mut out = vec![0; setting.width * setting.symbol_size];
-        let answer = library::adu(memory, position as u32, &mut out);
+        let answer = library::adu(memory, esi, &mut out);
         assert!(answer != -14, "no ADU sent breaks its form");
         if answer >= 0 {
-            let found = senders.reference.adus.binary_search_by_key(&position, |adu| adu.0).expect("an ADU was sent here");
+            let found = senders.reference.adus.binary_search_by_key(&sent, |adu| adu.0).expect("an ADU was sent here");
             let (_, flow, adu) = &senders.reference.adus[found];
             assert_eq!(answer, i64::from(*flow) * 65_536 + adu.len() as i64);
             assert_eq!(out[..adu.len()], adu[..]);

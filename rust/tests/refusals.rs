@@ -14,6 +14,13 @@ fn receiver(symbol_size: u32, width: u32) -> Receiver {
     Receiver::open(Scheme::Gf2, symbol_size, width).unwrap()
 }
 
+/// A receiver of symbols of 4 bytes whose base is 0: it took an empty ADU of flow 9 at ESI 0.
+fn joined(width: u32) -> Receiver {
+    let mut receiver = receiver(4, width);
+    assert_eq!(receiver.receive_source(9, &source_packet(&[], 0)), known(1));
+    receiver
+}
+
 /// A repair packet of scheme 9 with DT 15 over n symbols, for E 4.
 fn all_ones(position: u64, n: u16, symbols: &[[u8; 4]]) -> Vec<u8> {
     let symbols: Vec<Vec<u8>> = symbols.iter().map(|symbol| symbol.to_vec()).collect();
@@ -34,16 +41,16 @@ fn table_of_examples() {
     assert_eq!(receiver(4, 2).receive_repair(&[0; 9]), Err(Refusal::Form));
     assert_eq!(receiver(4, 2).receive_repair(&all_ones(0, 0, &[[0; 4]])), Err(Refusal::Range));
     assert_eq!(sender(4, 2).make_repair(0, 15, 1, &mut [0; 99]), Err(Refusal::Empty));
-    assert_eq!(receiver(4, 2).receive_source(1, &source_packet(&[], 4_294_967_295)), Err(Refusal::Behind));
-    assert_eq!(receiver(4, 2).receive_source(1, &source_packet(&[], 65_536)), Err(Refusal::Ahead));
+    assert_eq!(joined(2).receive_source(1, &source_packet(&[], 4_294_967_295)), Err(Refusal::Behind));
+    assert_eq!(joined(2).receive_source(1, &source_packet(&[], 65_536)), Err(Refusal::Ahead));
     assert_eq!(receiver(4, 2).receive_repair(&all_ones(0, 2, &[[1; 4], [2; 4]])), Err(Refusal::Contradiction));
     assert_eq!(receiver(4, 2).symbol(0), Err(Refusal::Unknown));
     let mut fresh = receiver(4, 2);
     assert_eq!(fresh.receive_repair(&all_ones(1, 1, &[[1, 0, 0, 0]])), known(1));
     assert_eq!(fresh.adu(1, &mut []), Err(Refusal::NoStart));
-    let mut narrow = receiver(4, 1);
-    assert_eq!(narrow.receive_repair(&all_ones(0, 1, &[[1, 0, 2, 0]])), known(1));
-    assert_eq!(narrow.adu(0, &mut [0; 9]), Err(Refusal::Padding));
+    let mut narrow = joined(1);
+    assert_eq!(narrow.receive_repair(&all_ones(1, 1, &[[1, 0, 2, 0]])), known(1));
+    assert_eq!(narrow.adu(1, &mut [0; 9]), Err(Refusal::Padding));
 }
 
 #[test]
@@ -151,7 +158,7 @@ fn order_of_the_sender() {
     assert_eq!(sender.make_repair(0, 15, 2, &mut [0; 16]), Ok(Repair { bytes: 16, draws: 0 }));
 }
 
-/// Receiving: 3, 2, 5, 4 or 6, 8, 9, 11. Each packet breaks the rule named and all after it that it can.
+/// Receiving: 3, 2, 5, 4 or 6, 8, 9, 11. Each packet breaks the rule named and all after it that it can, with the base at 0.
 #[test]
 fn order_of_receiving() {
     let needed = library::receiver_memory(4, 2) as usize;
@@ -161,6 +168,7 @@ fn order_of_receiving() {
     assert_eq!(library::receive_repair(&mut memory, &mut [], &[]), -3);
     assert_eq!(library::receiver_open(&mut memory, 9, 4, 2), 0);
     let mut work = vec![0; work_needed];
+    assert_eq!(library::receive_source(&mut memory, &mut work, 1, &source_packet(&[], 0)), 1);
     assert_eq!(library::receive_source(&mut memory, &mut work[1..], 1, &[]), -2);
     assert_eq!(library::receive_repair(&mut memory, &mut work[1..], &[]), -2);
     assert_eq!(library::receive_source(&mut memory, &mut work, 1, &[0; 3]), -5);
@@ -191,7 +199,7 @@ fn repair_of_nothing() {
 /// Symbol: 3, 8, 12.
 #[test]
 fn order_of_symbol() {
-    let mut receiver = receiver(4, 2);
+    let mut receiver = joined(2);
     assert_eq!(receiver.receive_source(1, &source_packet(&[7], 5)), known(1));
     let esis = [(3, Err(Refusal::Behind)), (4, Err(Refusal::Unknown)), (5, Ok(&[1, 0, 1, 7][..])), (6, Err(Refusal::Unknown))];
     for (esi, answer) in esis {
@@ -206,28 +214,28 @@ fn order_of_symbol() {
 #[test]
 fn order_of_adu() {
     assert_eq!(library::adu(&[0; 100], 0, &mut []), -3);
-    let mut receiver = receiver(4, 2);
+    let mut receiver = joined(3);
     let none: &mut [u8] = &mut [];
     assert_eq!(receiver.adu(4_294_967_295, none), Err(Refusal::Behind));
-    assert_eq!(receiver.adu(2, none), Err(Refusal::Unknown));
-    assert_eq!(receiver.adu(1, none), Err(Refusal::NoStart));
-    assert_eq!(receiver.adu(0, none), Err(Refusal::Unknown));
-    // L 6 needs three symbols
+    assert_eq!(receiver.adu(3, none), Err(Refusal::Unknown));
+    assert_eq!(receiver.adu(2, none), Err(Refusal::NoStart));
+    assert_eq!(receiver.adu(1, none), Err(Refusal::Unknown));
+    // L 10 needs four symbols
     let mut long = receiver.clone();
-    assert_eq!(long.receive_repair(&all_ones(0, 1, &[[1, 0, 6, 0]])), known(1));
-    assert_eq!(long.adu(0, none), Err(Refusal::Padding));
+    assert_eq!(long.receive_repair(&all_ones(1, 1, &[[1, 0, 10, 0]])), known(1));
+    assert_eq!(long.adu(1, none), Err(Refusal::Padding));
     // L 2 needs two: the second unknown, then with padding that is not zero, then whole
-    assert_eq!(receiver.receive_repair(&all_ones(0, 1, &[[1, 0, 2, 7]])), known(1));
-    assert_eq!(receiver.adu(0, none), Err(Refusal::Unknown));
+    assert_eq!(receiver.receive_repair(&all_ones(1, 1, &[[1, 0, 2, 7]])), known(1));
+    assert_eq!(receiver.adu(1, none), Err(Refusal::Unknown));
     let mut padded = receiver.clone();
-    assert_eq!(padded.receive_repair(&all_ones(1, 1, &[[8, 0, 1, 0]])), known(1));
-    assert_eq!(padded.adu(0, none), Err(Refusal::Padding));
-    assert_eq!(receiver.receive_repair(&all_ones(1, 1, &[[8, 0, 0, 0]])), known(1));
-    assert_eq!(receiver.adu(0, none), Err(Refusal::Short));
+    assert_eq!(padded.receive_repair(&all_ones(2, 1, &[[8, 0, 1, 0]])), known(1));
+    assert_eq!(padded.adu(1, none), Err(Refusal::Padding));
+    assert_eq!(receiver.receive_repair(&all_ones(2, 1, &[[8, 0, 0, 0]])), known(1));
+    assert_eq!(receiver.adu(1, none), Err(Refusal::Short));
     let mut out = [9; 3];
-    assert_eq!(receiver.adu(0, &mut out[..1]), Err(Refusal::Short));
+    assert_eq!(receiver.adu(1, &mut out[..1]), Err(Refusal::Short));
     assert_eq!(out, [9; 3]);
-    assert_eq!(receiver.adu(0, &mut out), Ok(Adu { flow: 1, bytes: &[7, 8] }));
+    assert_eq!(receiver.adu(1, &mut out), Ok(Adu { flow: 1, bytes: &[7, 8] }));
     assert_eq!(out, [7, 8, 9]);
 }
 
@@ -241,11 +249,15 @@ fn marks_of_starts() {
     assert_eq!(receiver.adu(2, &mut out), Err(Refusal::Unknown));
     assert_eq!(receiver.receive_repair(&all_ones(2, 1, &[[3, 0, 1, 9]])), known(1));
     assert_eq!(receiver.adu(2, &mut out), Ok(Adu { flow: 3, bytes: &[9] }));
-    // A chain through repaired symbols, from position 0
+    // A chain through repaired symbols, from position 0: there is none until a source packet marks that
     let mut chain = Receiver::open(Scheme::Gf2, 4, 6).unwrap();
-    for (position, symbol) in [(4, [5, 0, 0, 0]), (2, [0, 0, 0, 0]), (1, [6, 0, 3, 1]), (0, [4, 0, 0, 0]), (3, [4, 0, 1, 7])] {
+    for (position, symbol) in [(0, [4, 0, 0, 0]), (4, [5, 0, 0, 0]), (2, [0, 0, 0, 0]), (1, [6, 0, 3, 1]), (3, [4, 0, 1, 7])] {
         assert_eq!(chain.receive_repair(&all_ones(position, 1, &[symbol])), known(1));
     }
+    for esi in 0..6 {
+        assert_eq!(chain.adu(esi, &mut out), Err(Refusal::NoStart));
+    }
+    assert_eq!(chain.receive_source(4, &source_packet(&[], 0)), known(0));
     assert_eq!(chain.adu(0, &mut out), Ok(Adu { flow: 4, bytes: &[] }));
     assert_eq!(chain.adu(1, &mut out), Ok(Adu { flow: 6, bytes: &[1, 0, 0] }));
     assert_eq!(chain.adu(2, &mut out), Err(Refusal::NoStart));

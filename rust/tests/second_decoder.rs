@@ -1,5 +1,5 @@
-//! The second sender and receiver against RFC 8681's figures, document 01's bench sheet and plain elimination, and its generator against
-//! what program `survey` prints. The library has no part in this file.
+//! The second sender and receiver against RFC 8681's figures, document 01's bench sheet, joining as document 02 words it and plain
+//! elimination, and its generator against what program `survey` prints. The library has no part in this file.
 
 mod reference;
 
@@ -9,6 +9,7 @@ use reference::figures::{FIGURE_10, FIGURE_9};
 use reference::generator::Generator;
 use reference::random::Random;
 use reference::{dense, field, repair_packet, Field, Receiver, Sender, Setting};
+use std::collections::BTreeSet;
 use std::ops::RangeInclusive;
 use std::path::Path;
 use std::{fs, thread};
@@ -132,6 +133,7 @@ fn c9_longest_adu() {
 fn c10_places() {
     for (esi, answer) in [(65_535, Ok((1, 0))), (65_536, Err(9)), (2_147_483_647, Err(9)), (2_147_483_648, Err(8))] {
         let (_, mut receiver) = open(10, 4, 3);
+        assert_eq!(receiver.receive_source(ROOM, ROOM, 1, &reference::source_packet(&[0], 0)), Ok((1, 0)));
         assert_eq!(receiver.receive_source(ROOM, ROOM, 1, &reference::source_packet(&[1], esi)), answer);
     }
 }
@@ -220,17 +222,56 @@ fn marks_of_starts() {
     assert_eq!((adu.flow, adu.bytes), (3, vec![9]));
     assert_eq!(receiver.adu(ROOM, 1, ROOM), Err(13));
     assert_eq!(receiver.adu(ROOM, 0, ROOM), Err(8));
-    // A fresh receiver: position 0 is marked and not known, position 1 no start though known by repair.
+    // No start though known by repair, and a start that is not known.
     let (_, mut receiver) = open(9, 4, 2);
-    assert_eq!((receiver.adu(ROOM, 0, ROOM), receiver.adu(ROOM, 1, ROOM), receiver.adu(ROOM, 2, ROOM)), (Err(12), Err(13), Err(12)));
     receiver.receive_repair(ROOM, ROOM, &repair_packet(0, 15, 1, 1, &[vec![1, 0, 0, 0]])).unwrap();
-    assert_eq!(receiver.adu(ROOM, 1, ROOM), Err(13));
-    // Both kinds of 14, and the output's length last.
+    assert_eq!((receiver.adu(ROOM, 1, ROOM), receiver.adu(ROOM, 2, ROOM)), (Err(13), Err(13)));
+    let (_, mut receiver) = open(9, 4, 2);
+    receiver.receive_source(ROOM, ROOM, 1, &reference::source_packet(&[], 0)).unwrap();
+    assert_eq!(receiver.adu(ROOM, 1, ROOM), Err(12));
+    // Both kinds of 14, and the output's length last, at a start that a source packet marks and a repair packet makes known.
     for (width, symbol, room, refusal) in
         [(1, [1, 0, 2, 0], 9, 14), (1, [1, 0, 0, 5], 9, 14), (2, [1, 0, 2, 0], 9, 12), (1, [1, 0, 1, 5], 0, 2)]
     {
         let (_, mut receiver) = open(9, 4, width);
-        receiver.receive_repair(ROOM, ROOM, &repair_packet(0, 15, 1, 0, &[symbol.to_vec()])).unwrap();
-        assert_eq!(receiver.adu(ROOM, 0, room), Err(refusal));
+        receiver.receive_source(ROOM, ROOM, 1, &reference::source_packet(&[], 0)).unwrap();
+        receiver.receive_repair(ROOM, ROOM, &repair_packet(0, 15, 1, 1, &[symbol.to_vec()])).unwrap();
+        assert_eq!(receiver.adu(ROOM, 1, room), Err(refusal));
     }
+}
+
+/// Document 02, No. 2, by hand: no base, then one that the first packet taken sets, whatever its ESI.
+#[test]
+fn joining() {
+    let (_, mut receiver) = open(9, 4, 2);
+    let empty = |receiver: &Receiver| {
+        for esi in [0, 1, 7, 65_536, (1 << 31) - 1, 1 << 31, u32::MAX] {
+            assert_eq!((receiver.symbol(ROOM, esi), receiver.adu(ROOM, esi, ROOM)), (Err(12), Err(12)));
+            assert_eq!((receiver.symbol(83, esi), receiver.adu(83, esi, ROOM)), (Err(3), Err(3)));
+        }
+        assert!(receiver.base.is_none() && receiver.marks.is_empty() && receiver.system.row_count() + receiver.system.known_count() == 0);
+    };
+    empty(&receiver);
+    // What is refused sets no base: neither by form nor by contradiction
+    assert_eq!(receiver.receive_source(ROOM, 93, 1, &reference::source_packet(&[7], 3)), Err(2));
+    assert_eq!(receiver.receive_source(ROOM, ROOM, 1, &[0; 3]), Err(5));
+    assert_eq!(receiver.receive_source(ROOM, ROOM, 1, &reference::source_packet(&[0; 6], 3)), Err(4));
+    assert_eq!(receiver.receive_repair(ROOM, ROOM, &repair_packet(0, 15, 3, 3, &[vec![1; 4]])), Err(6));
+    assert_eq!(receiver.receive_repair(ROOM, ROOM, &repair_packet(0, 15, 2, 3, &[vec![1; 4], vec![2; 4]])), Err(11));
+    empty(&receiver);
+    // Two symbols at the last ESI: positions 4294967295 and 4294967296, and nothing before
+    assert_eq!(receiver.receive_repair(ROOM, ROOM, &repair_packet(0, 15, 2, 4_294_967_295, &[vec![1, 0, 1, 0x43]])), Ok((0, 0)));
+    assert_eq!(receiver.base, Some(4_294_967_295));
+    assert_eq!(receiver.symbol(ROOM, 4_294_967_294), Err(8));
+    assert_eq!(receiver.receive_source(ROOM, ROOM, 1, &reference::source_packet(&[7], 4_294_967_294)), Err(8));
+    // ESI 0 is the position after it; only a source packet marks, its own first and the one after its last
+    assert_eq!(receiver.receive_source(ROOM, ROOM, 0, &reference::source_packet(&[], 0)), Ok((2, 0)));
+    assert_eq!(receiver.marks, BTreeSet::from([4_294_967_296, 4_294_967_297]));
+    assert_eq!((receiver.symbol(ROOM, u32::MAX), receiver.symbol(ROOM, 0)), (Ok(&[1, 0, 1, 0x43][..]), Ok(&[0; 4][..])));
+    assert_eq!((receiver.adu(ROOM, u32::MAX, ROOM), receiver.adu(ROOM, 0, 0).map(|adu| adu.flow)), (Err(13), Ok(0)));
+    // Far ahead is counted from the base: 65,535 more is taken, one more is not
+    let ahead = 4_294_967_295 + 65_536;
+    assert_eq!(receiver.receive_source(ROOM, ROOM, 1, &reference::source_packet(&[1], ahead)), Err(9));
+    assert_eq!(receiver.receive_source(ROOM, ROOM, 1, &reference::source_packet(&[1], ahead - 1)), Ok((1, 0)));
+    assert_eq!(receiver.base, Some(ahead - 2));
 }

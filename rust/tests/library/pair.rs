@@ -108,6 +108,11 @@ pub struct Tally {
     /// Packets by answer: accepted with nothing new, with one and with more symbols new; refused, by number.
     pub accepted: [u64; 3],
     pub refused: [u64; 15],
+    /// Of these: source and repair packets that set the base, packets refused while there was none, by number, and packets accepted with
+    /// a base whose ESI had wrapped.
+    pub joined: [u64; 2],
+    pub refused_first: [u64; 15],
+    pub wrapped: u64,
     /// The draws of the packets accepted.
     pub draws: u64,
     /// Symbol calls that showed one; ADU calls by refusal, place 0 for those handed out.
@@ -122,9 +127,20 @@ impl Tally {
 
     /// Prints what happened, for `--nocapture`.
     pub fn told(&self, name: &str) {
-        let Tally { accepted, refused, draws, shown, adus } = self;
+        let Tally { accepted, refused, joined, refused_first, wrapped, draws, shown, adus } = self;
         let packets = self.packets();
         println!("{name}: {packets} packets, accepted {accepted:?}, refused {refused:?}, {draws} draws, shown {shown}, ADU calls {adus:?}");
+        println!("{name}: joined {joined:?}, refused before {refused_first:?}, accepted past the wrap {wrapped}");
+    }
+
+    /// Panics where no source packet or no repair packet set a base, none was accepted past the wrap, or one of these refusals never came
+    /// before any base (in whole runs).
+    pub fn met_joining(&self, refused: &[usize]) {
+        if std::env::var_os("RLC8681_SEED").is_none() {
+            assert!(self.joined.iter().all(|&count| count > 0), "joined {:?}", self.joined);
+            assert!(self.wrapped > 0, "no base passed the wrap");
+            assert!(refused.iter().all(|&number| self.refused_first[number] > 0), "refused before {:?}", self.refused_first);
+        }
     }
 
     /// Panics where one of these refusals of packets, or of these answers of the ADU call, was never met, or nothing drawn (in whole runs).
@@ -139,7 +155,10 @@ impl Tally {
     pub fn add(&mut self, other: &Tally) {
         self.accepted.iter_mut().zip(other.accepted).for_each(|(a, b)| *a += b);
         self.refused.iter_mut().zip(other.refused).for_each(|(a, b)| *a += b);
+        self.joined.iter_mut().zip(other.joined).for_each(|(a, b)| *a += b);
+        self.refused_first.iter_mut().zip(other.refused_first).for_each(|(a, b)| *a += b);
         self.adus.iter_mut().zip(other.adus).for_each(|(a, b)| *a += b);
+        self.wrapped += other.wrapped;
         self.draws += other.draws;
         self.shown += other.shown;
     }
@@ -176,7 +195,8 @@ impl Receivers {
         self.reference.setting
     }
 
-    pub fn base(&self) -> u64 {
+    /// The base; none before a packet was accepted.
+    pub fn base(&self) -> Option<u64> {
         self.reference.base
     }
 
@@ -189,6 +209,7 @@ impl Receivers {
         if random.chance(2) {
             self.lend_too_little(random, flow, packet);
         }
+        let fresh = self.base().is_none();
         let lent = self.memory.get().len();
         let work_past = self.work.get()[work_size..].to_vec();
         let (expected, answer, safe) = match flow {
@@ -203,7 +224,7 @@ impl Receivers {
                 self.safe.receive_repair(packet),
             ),
         };
-        assert_eq!(answer, as_c(expected), "a receiver's answer; flow {flow:?}, packet {packet:02x?}, base {}", self.base());
+        assert_eq!(answer, as_c(expected), "a receiver's answer; flow {flow:?}, packet {packet:02x?}, base {:?}", self.base());
         assert_eq!(from_safe(safe.map(|received| (received.known, received.draws))), answer, "the Rust type's answer");
         self.memory.check();
         self.work.check();
@@ -214,10 +235,13 @@ impl Receivers {
                 self.before.copy_from_slice(self.memory.get());
                 self.tally.accepted[count.min(2) as usize] += 1;
                 self.tally.draws += draws;
+                self.tally.joined[usize::from(flow.is_none())] += u64::from(fresh);
+                self.tally.wrapped += u64::from(self.base() >= Some(1 << 32));
             }
             Err(number) => {
                 assert!(self.memory.get() == self.before, "a refusal changed the receiver's memory");
                 self.tally.refused[number as usize] += 1;
+                self.tally.refused_first[number as usize] += u64::from(fresh);
             }
         }
         expected
@@ -285,7 +309,7 @@ impl Receivers {
                 self.tally.adus[0] += 1;
             }
             Err(number) => {
-                assert_eq!(answer, -i64::from(*number), "ADU {esi}, base {}", self.reference.base);
+                assert_eq!(answer, -i64::from(*number), "ADU {esi}, base {:?}", self.reference.base);
                 assert_eq!(safe.map_err(|r| u32::from(r.number())).err(), Some(*number));
                 self.tally.adus[*number as usize] += 1;
             }
@@ -296,17 +320,13 @@ impl Receivers {
         assert!(self.memory.get() == self.before, "a showing call changed the receiver's memory");
     }
 
-    /// Looks at the whole window, at its edges and at ESIs far away.
+    /// Looks at the whole window, at its edges and at ESIs far away; before any base, as if it stood somewhere.
     pub fn look_around(&mut self, random: &mut Random) {
-        let (base, width) = (self.base(), self.setting().width as u64);
+        let base = self.base().unwrap_or_else(|| random.below(1 << 32));
+        let width = self.setting().width as u64;
         for position in base..base + width {
             self.look(random, position as u32);
         }
-        self.look_past_the_edges(random);
-    }
-
-    pub fn look_past_the_edges(&mut self, random: &mut Random) {
-        let (base, width) = (self.base(), self.setting().width as u64);
         let half = 1u64 << 31;
         for ahead in [width, width + 1, 65_535, 65_536, half - 1, half, half + 1] {
             self.look(random, (base + ahead) as u32);

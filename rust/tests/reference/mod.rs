@@ -1,4 +1,4 @@
-//! A second sender and a second receiver, written from document 01 and RFC 8681 alone, for the tests to hold the library against.
+//! A second sender and a second receiver, written from documents 01 and 02 and RFC 8681 alone, for the tests to hold the library against.
 //!
 //! Nothing here is fast or small. Positions are whole numbers that never wrap, products are computed by shifting and adding, and the
 //! receiver keeps every equation that it ever accepted.
@@ -84,6 +84,15 @@ impl Setting {
 pub fn source_packet(adu: &[u8], position: u64) -> Vec<u8> {
     let mut packet = adu.to_vec();
     packet.extend_from_slice(&((position % (1 << 32)) as u32).to_be_bytes());
+    packet
+}
+
+/// A packet as its sender would have written it if its first symbol had had this ESI: nothing but the ESI in it depends on that.
+pub fn moved(source: bool, packet: &[u8], by: u32) -> Vec<u8> {
+    let mut packet = packet.to_vec();
+    let at = if source { packet.len() - 4 } else { 4 };
+    let esi = u32::from_be_bytes(packet[at..at + 4].try_into().unwrap());
+    packet[at..at + 4].copy_from_slice(&esi.wrapping_add(by).to_be_bytes());
     packet
 }
 

@@ -1,4 +1,4 @@
-//! The receiver of document 01's "plain history", with its marks of starts.
+//! The receiver of document 01's "plain history", with its marks of starts. It joins at its first packet (document 02, No. 2).
 
 use super::coefficients::{drawn_list, keys};
 use super::equations::{Equation, System};
@@ -8,8 +8,8 @@ use std::collections::BTreeSet;
 #[derive(Clone)]
 pub struct Receiver {
     pub setting: Setting,
-    /// The window is base .. base + width - 1; positions never wrap.
-    pub base: u64,
+    /// None until a packet is accepted. Then the window is base .. base + width - 1; positions never wrap.
+    pub base: Option<u64>,
     pub system: System,
     /// The positions marked as starts, from base to base + width.
     pub marks: BTreeSet<u64>,
@@ -24,33 +24,31 @@ pub struct Adu {
 
 impl Receiver {
     pub fn open(setting: Setting) -> Receiver {
-        Receiver { setting, base: 0, system: System::new(setting.field()), marks: BTreeSet::from([0]) }
+        Receiver { setting, base: None, system: System::new(setting.field()), marks: BTreeSet::new() }
     }
 
-    /// How far an ESI lies past base.
-    fn distance(&self, esi: u32) -> u64 {
-        u64::from(esi.wrapping_sub((self.base % (1 << 32)) as u32))
-    }
-
-    /// The first position of a packet that names n symbols from this ESI on, or refusal 8 or 9.
+    /// The first position of a packet that names n symbols from this ESI on, or refusal 8 or 9. Before any base it is the ESI itself.
     fn place(&self, esi: u32, n: usize) -> Result<u64, u32> {
-        let d = self.distance(esi);
+        let Some(base) = self.base else { return Ok(u64::from(esi)) };
+        let d = distance(base, esi);
         if d >= 1 << 31 {
             return Err(8);
         }
         if d + n as u64 - 1 > 65_535 {
             return Err(9);
         }
-        Ok(self.base + d)
+        Ok(base + d)
     }
 
-    /// Takes a packet that names n symbols from `first` on, or refuses it (11). Gives how many positions of the window became known.
+    /// Takes a packet that names n symbols from `first` on, or refuses it (11). The first one that is taken sets the base to its own first
+    /// position. Gives how many positions of the window became known.
     fn accept(&mut self, first: u64, n: usize, equations: Vec<Equation>, source: bool) -> Result<u64, u32> {
         let solved = self.system.admit_all(equations).map_err(|_| 11u32)?;
         let width = self.setting.width as u64;
         let end = first + n as u64;
-        self.base = self.base.max(end.saturating_sub(width));
-        let window = self.base..self.base + width;
+        let base = self.base.unwrap_or(first).max(end.saturating_sub(width));
+        self.base = Some(base);
+        let window = base..base + width;
         if source {
             self.marks.insert(first);
             self.marks.insert(end);
@@ -117,15 +115,16 @@ impl Receiver {
         Ok((self.accept(first, nss, equations, false)?, draws))
     }
 
-    /// The position of an ESI in the window, or refusal 8 or 12.
+    /// The position of an ESI in the window, or refusal 3, 8 or 12. Before any base the window is empty.
     fn position(&self, memory: usize, esi: u32) -> Result<u64, u32> {
         if memory < self.setting.receiver_memory() {
             return Err(3);
         }
-        match self.distance(esi) {
+        let base = self.base.ok_or(12u32)?;
+        match distance(base, esi) {
             d if d >= 1 << 31 => Err(8),
             d if d >= self.setting.width as u64 => Err(12),
-            d => Ok(self.base + d),
+            d => Ok(base + d),
         }
     }
 
@@ -158,6 +157,11 @@ impl Receiver {
         }
         Ok(Adu { flow: adui[0], bytes: adui[3..3 + length].to_vec() })
     }
+}
+
+/// How far an ESI lies past base.
+fn distance(base: u64, esi: u32) -> u64 {
+    u64::from(esi.wrapping_sub((base % (1 << 32)) as u32))
 }
 
 /// L, in the first symbol of an ADUI.
