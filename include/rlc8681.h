@@ -48,7 +48,7 @@ enum rlc_refusal {
     RLC_AHEAD = 9,          /* too far ahead */
     RLC_DRAWS = 10,         /* sixteen zero draws */
     RLC_CONTRADICTION = 11, /* contradiction with the packets accepted before */
-    RLC_UNKNOWN = 12,       /* not known, or past the window */
+    RLC_UNKNOWN = 12,       /* not known, past the window, or no window yet */
     RLC_NO_START = 13,      /* no start */
     RLC_PADDING = 14        /* ADUI needs more than the width, or padding not zero */
 };
@@ -91,6 +91,8 @@ int64_t rlc_sender_make_repair(const uint8_t *memory, size_t memory_length, uint
 
 /*
  * Opens a receiver in memory, whatever it held. Scheme and E are the sender's; the width is the receiver's own. Answers 0.
+ * The receiver has no window yet, and can join a stream anywhere: the first packet that it accepts begins its window, at the first ESI that the packet
+ * names. Until then no packet is RLC_BEHIND or RLC_AHEAD, and every symbol and ADU is RLC_UNKNOWN; then symbols before that ESI are RLC_BEHIND.
  * Refusals: RLC_VALUES, RLC_SHORT (memory).
  */
 int64_t rlc_receiver_open(uint8_t *memory, size_t memory_length, uint32_t scheme, uint32_t symbol_size, uint32_t width);
@@ -112,7 +114,7 @@ int64_t rlc_receive_repair(uint8_t *memory, size_t memory_length, uint8_t *work,
 
 /*
  * Whether the symbol with an ESI is known to the receiver. Answers 0 where it is.
- * Refusals: RLC_UNOPENED, RLC_BEHIND, RLC_UNKNOWN.
+ * Refusals: RLC_UNOPENED, RLC_UNKNOWN (no window yet), RLC_BEHIND, RLC_UNKNOWN.
  */
 int64_t rlc_symbol(const uint8_t *memory, size_t memory_length, uint32_t esi);
 
@@ -126,11 +128,12 @@ int64_t rlc_symbol_place(const uint8_t *memory, size_t memory_length, uint32_t e
 /*
  * Hands out the ADU whose first symbol has an ESI, where all its symbols are known: writes it at the front of out. Answers flow x 65,536 + length of the
  * ADU, which has 0 to 65,535 bytes.
- * Which ESI to ask for: the stream's first ADU is at ESI 0, and a source packet's last 4 bytes are the ESI of its ADU; the ADU after one of L bytes at an
- * ESI is at ESI + (3 + L + E - 1) / E, modulo 2^32. RLC_BEHIND says that it has left the window for good; RLC_UNKNOWN and RLC_NO_START may be answered
- * otherwise after a later packet.
- * Refusals: RLC_UNOPENED, RLC_BEHIND, RLC_UNKNOWN (past the window), RLC_NO_START, RLC_UNKNOWN (first symbol), RLC_PADDING (more symbols than the width),
- * RLC_UNKNOWN (another symbol), RLC_PADDING (padding not zero), RLC_SHORT (out).
+ * Which ESI to ask for: a source packet's last 4 bytes are the ESI of its ADU (a sender's first is at ESI 0); the ADU after one of L bytes at an ESI is
+ * at ESI + (3 + L + E - 1) / E, modulo 2^32. Where ADUs start is told by source packets, and from there on by the length in each ADU's first
+ * symbol, once known: before the first source packet accepted, nothing is handed out.
+ * RLC_BEHIND says that the ESI is before the window, which only moves on; RLC_UNKNOWN and RLC_NO_START may be answered otherwise after a later packet.
+ * Refusals: RLC_UNOPENED, RLC_UNKNOWN (no window yet), RLC_BEHIND, RLC_UNKNOWN (past the window), RLC_NO_START, RLC_UNKNOWN (first symbol),
+ * RLC_PADDING (more symbols than the width), RLC_UNKNOWN (another symbol), RLC_PADDING (padding not zero), RLC_SHORT (out).
  */
 int64_t rlc_adu(const uint8_t *memory, size_t memory_length, uint32_t esi, uint8_t *out, size_t out_length);
 

@@ -1,5 +1,5 @@
-// The library as a C program links it: the bench sheet's cases C7 to C9 and C12, the draws, and the ADU call's refusals, through the header alone; each
-// answer and each byte is compared.
+// The library as a C program links it: the bench sheet's cases C7 to C10 and C12, joining, the draws, and the ADU call's refusals, through the header
+// alone; each answer and each byte is compared.
 #include "rlc8681.h"
 #include <stdio.h>
 #include <stdlib.h>
@@ -133,7 +133,9 @@ static void seven_and_eight(void) {
   SAYS(rlc_receiver_open(receiver.bytes, receiver.length - 1, 9, 4, 2), -RLC_SHORT);
   SAYS(rlc_receiver_open(LENT(receiver), 9, 4, 2), 0);
   HIDES(receiver, 0, RLC_UNKNOWN);
+  HIDES(receiver, 0xffffffff, RLC_UNKNOWN);
   WITHHOLDS(receiver, 0, RLC_UNKNOWN);
+  WITHHOLDS(receiver, 0xffffffff, RLC_UNKNOWN);
   SAYS(rlc_receive_source(LENT(receiver), work.bytes, work.length - 1, 1, one.bytes, 5), -RLC_SHORT);
   SAYS(rlc_receive_source(LENT(receiver), LENT(work), 1, one.bytes, 3), -RLC_FORM);
   SAYS(rlc_receive_repair(LENT(receiver), LENT(work), repair.bytes, 9), -RLC_FORM);
@@ -172,6 +174,40 @@ static void nine(void) {
   BYTES(out.bytes, 0, 0, 0, 2);
   SAYS(rlc_receive_source(LENT(receiver), LENT(work), 0, out.bytes, 4), 1);
   SAYS(rlc_adu(LENT(receiver), 2, out.bytes, 0), 0);
+}
+
+// Writes an ESI at the end of a source packet or in a repair packet.
+static void number(uint8_t *at, uint32_t esi) {
+  for (int i = 0; i < 4; i++) at[i] = (uint8_t)(esi >> (24 - 8 * i));
+}
+
+// C10, after a packet at ESI 0 and after one at any other: the first packet that is accepted sets the base. Before that there is none: no packet is
+// behind or ahead, a refused one changes no byte, and no symbol is shown, whatever its ESI.
+static void ten(void) {
+  struct room receiver = receiver_of(4, 2), work = work_of(4, 2), fresh = receiver_of(4, 2);
+  const uint32_t begin[] = {0, 4100000, 0x7fffffff, 0x80000000, 0xfffffffe, 0xffffffff}, half = 0x80000000;
+  const struct { uint32_t ahead; int64_t says; } place[] = {
+    {65535, 1}, {65536, -RLC_AHEAD}, {half - 1, -RLC_AHEAD}, {half, -RLC_BEHIND}, {0xffffffff, -RLC_BEHIND}};
+  uint8_t source[] = {0x41, 0, 0, 0, 0}, unlike[] = {0, 0, 0xf0, 2, 0, 0, 0, 0, 0, 0, 0, 3, 0, 0, 0, 4};
+  for (size_t i = 0; i < sizeof begin / sizeof *begin; i++)
+    for (size_t k = 0; k < sizeof place / sizeof *place; k++) {
+      SAYS(rlc_receiver_open(LENT(receiver), 9, 4, 2), 0);
+      memcpy(fresh.bytes, receiver.bytes, receiver.length);
+      number(unlike + 4, begin[i] + 1000000);
+      SAYS(rlc_receive_repair(LENT(receiver), LENT(work), unlike, sizeof unlike), -RLC_CONTRADICTION);
+      check(memcmp(fresh.bytes, receiver.bytes, receiver.length) == 0, "a refused packet changes nothing");
+      HIDES(receiver, begin[i] + 1000000, RLC_UNKNOWN);
+      WITHHOLDS(receiver, begin[i] - 1, RLC_UNKNOWN);
+      number(source + 1, begin[i]);
+      SAYS(rlc_receive_source(LENT(receiver), LENT(work), 1, source, sizeof source), 1);
+      SHOWS(receiver, begin[i], 1, 0, 1, 0x41);
+      HANDS(receiver, begin[i], 1, 0x41);
+      HIDES(receiver, begin[i] - 1, RLC_BEHIND);
+      WITHHOLDS(receiver, begin[i] + 1, RLC_UNKNOWN);
+      number(source + 1, begin[i] + place[k].ahead);
+      SAYS(rlc_receive_source(LENT(receiver), LENT(work), 1, source, sizeof source), place[k].says);
+    }
+  check(untouched(receiver, receiver.length) && untouched(work, work.length), "the receiver stays in its memory");
 }
 
 // C12: what two repair packets say of symbols that have left the window still counts.
@@ -214,7 +250,7 @@ static void draws(void) {
   for (uint8_t i = 0; i < 5; i++) {
     const uint8_t adu = 0x41 + i;
     SAYS(rlc_sender_add_adu(LENT(sender), 1, &adu, 1, LENT(source)), 5);
-    if (i == 1) TELLS(rlc_receive_source(LENT(receiver), LENT(work), 1, LENT(source)), 1, 0);
+    if (i <= 1) TELLS(rlc_receive_source(LENT(receiver), LENT(work), 1, LENT(source)), 1, 0);
   }
   SAYS(rlc_sender_make_repair(LENT(sender), 1, 4, 1, LENT(repair)), INT64_C(30064771084));
   TELLS(rlc_sender_make_repair(LENT(sender), 1, 4, 1, LENT(repair)), 12, 7);
@@ -244,27 +280,35 @@ static void many_draws(void) {
   }
 }
 
-// The ADU call's own small examples: a start that only repair knows, an ADUI of more symbols than the width, and padding that is not zero.
+// The ADU call's own small examples: a joining repair packet makes a symbol known and no start, until its source packet comes; and at the start that a
+// source packet marks after its own, an ADUI of more symbols than the width, and padding that is not zero.
 static void thirteen_and_fourteen(void) {
   struct room receiver = receiver_of(4, 2), narrow = receiver_of(4, 1), work = work_of(4, 2);
-  const uint8_t second[] = {0, 0, 0xf0, 1, 0, 0, 0, 1, 1, 0, 1, 0x42};
-  const uint8_t longer[] = {0, 0, 0xf0, 1, 0, 0, 0, 0, 1, 0, 2, 0x41}, padded[] = {0, 0, 0xf0, 1, 0, 0, 0, 0, 1, 0, 0, 7};
+  const uint8_t second[] = {0, 0, 0xf0, 1, 0, 0, 0, 1, 1, 0, 1, 0x42}, heard[] = {0x42, 0, 0, 0, 1}, empty[] = {0, 0, 0, 0};
+  const uint8_t longer[] = {0, 0, 0xf0, 1, 0, 0, 0, 1, 1, 0, 2, 0x41}, padded[] = {0, 0, 0xf0, 1, 0, 0, 0, 1, 1, 0, 0, 7};
   SAYS(rlc_receiver_open(LENT(receiver), 9, 4, 2), 0);
   SAYS(rlc_receive_repair(LENT(receiver), LENT(work), second, sizeof second), 1);
   SHOWS(receiver, 1, 1, 0, 1, 0x42);
   WITHHOLDS(receiver, 1, RLC_NO_START);
+  WITHHOLDS(receiver, 2, RLC_NO_START);
+  SAYS(rlc_receive_source(LENT(receiver), LENT(work), 1, heard, sizeof heard), 0);
+  HANDS(receiver, 1, 1, 0x42);
+  WITHHOLDS(receiver, 2, RLC_UNKNOWN);
   SAYS(rlc_receiver_open(LENT(narrow), 9, 4, 1), 0);
+  SAYS(rlc_receive_source(LENT(narrow), LENT(work), 1, empty, sizeof empty), 1);
   SAYS(rlc_receive_repair(LENT(narrow), LENT(work), longer, sizeof longer), 1);
-  WITHHOLDS(narrow, 0, RLC_PADDING);
+  WITHHOLDS(narrow, 1, RLC_PADDING);
   SAYS(rlc_receiver_open(LENT(narrow), 9, 4, 1), 0);
+  SAYS(rlc_receive_source(LENT(narrow), LENT(work), 1, empty, sizeof empty), 1);
   SAYS(rlc_receive_repair(LENT(narrow), LENT(work), padded, sizeof padded), 1);
-  WITHHOLDS(narrow, 0, RLC_PADDING);
+  WITHHOLDS(narrow, 1, RLC_PADDING);
 }
 
 int main(void) {
   sizes();
   seven_and_eight();
   nine();
+  ten();
   twelve();
   draws();
   many_draws();
