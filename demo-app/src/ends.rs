@@ -174,13 +174,20 @@ impl<'a> Sending<'a> {
         let (sender, out) = (&mut self.sender, &mut self.datagram[HEAD..]);
         let written = self.log.add.of(|| sender.add_adu(adu.flow, &adu.bytes, out)).map_err(refused("adding an ADU"))?;
         let symbols = symbols_of(adu.bytes.len(), self.options.symbol_size as usize);
-        let packet = Packet { kind: Kind::Source, lost: false, first: self.log.symbols, symbols: symbols as u32 };
+        let unheard = self.log.adus < self.options.join;
+        let packet = Packet { kind: Kind::Source, lost: false, unheard, first: self.log.symbols, symbols: symbols as u32 };
         let flow = adu.flow;
         self.log.adus += 1;
         self.log.bytes += adu.bytes.len() as u64;
         self.log.symbols += symbols as u64;
         self.log.flows.insert(flow);
-        self.shared.ledger().0.push_back((packet.first, adu));
+        let mut ledger = self.shared.ledger();
+        ledger.0.push_back((packet.first, adu));
+        if unheard {
+            // No packet to come reaches further back.
+            ledger.pass(self.log.symbols.saturating_sub(u64::from(self.options.width)), self.options.symbol_size as usize);
+        }
+        drop(ledger);
         self.send(packet, flow, written)
     }
 
@@ -190,20 +197,22 @@ impl<'a> Sending<'a> {
         let repair = self.log.make.of(|| sender.make_repair(key, density, repairs, out)).map_err(refused("making repair"))?;
         self.key = key.wrapping_add(repairs as u16);
         let symbols = self.log.symbols.min(u64::from(width));
-        let packet = Packet { kind: Kind::Repair, lost: false, first: self.log.symbols - symbols, symbols: symbols as u32 };
+        let (unheard, first) = (self.log.adus < self.options.join, self.log.symbols - symbols);
+        let packet = Packet { kind: Kind::Repair, lost: false, unheard, first, symbols: symbols as u32 };
         self.send(packet, 0, repair.bytes)
     }
 
     /// Gives the packet at hand to the link, which may lose it.
     fn send(&mut self, mut packet: Packet, flow: u8, length: usize) -> Result<(), Failure> {
         let number = self.log.packets.len() as u32;
-        packet.lost = self.loss.loses();
+        packet.lost = self.loss.loses() && !packet.unheard;
         self.log.packets.push(packet);
         self.log.link_bytes += (HEAD + length) as u64;
         self.shared.progress.packets.fetch_add(1, Relaxed);
         if packet.lost {
             self.shared.progress.lost.fetch_add(1, Relaxed);
-        } else {
+        }
+        if packet.arrives() {
             link::write_head(&mut self.datagram, number, packet.kind, flow);
             self.datagram(HEAD + length)?;
         }
@@ -281,7 +290,7 @@ impl<'a> Receiving<'a> {
         }
     }
 
-    /// The positions that a packet names, by the ESI in it that is nearest.
+    /// The positions that a packet names, by the ESI in it that is nearest; a joining one, by its ESI itself.
     fn named(&self, kind: Kind, packet: &[u8]) -> Option<Range<u64>> {
         let size = self.options.symbol_size as usize;
         let (esi, symbols) = match kind {
@@ -289,13 +298,14 @@ impl<'a> Receiving<'a> {
             _ => (packet.get(4..8)?, usize::from(u16::from_be_bytes([packet[2], packet[3]]) & 0xfff)),
         };
         let esi = u32::from_be_bytes(esi.try_into().ok()?);
-        let first = self.top.checked_add_signed(i64::from(esi.wrapping_sub(self.top as u32) as i32))?;
+        let near = || self.top.checked_add_signed(i64::from(esi.wrapping_sub(self.top as u32) as i32));
+        let first = self.log.joined.map_or(Some(u64::from(esi)), |_| near())?;
         Some(first..first + symbols as u64)
     }
 
     fn packet(&mut self, number: u32, kind: Kind, flow: u8, packet: &[u8]) {
         let Some(named) = self.named(kind, packet) else { return };
-        if named.end <= self.top + REACH {
+        if self.log.joined.is_some() && named.end <= self.top + REACH {
             self.leave(named.end.saturating_sub(u64::from(self.options.width)));
         }
         let (receiver, log) = (&mut self.receiver, &mut self.log);
@@ -307,10 +317,17 @@ impl<'a> Receiving<'a> {
             Ok(received) => received.known as u64,
             Err(why) => {
                 self.log.refused[usize::from(why.number()).min(15)] += 1;
+                let early = why == Refusal::Behind && self.log.joined.is_some_and(|joined| named.start < joined);
+                self.log.early += u64::from(early);
                 return;
             }
         };
         self.log.counted += count;
+        if self.log.joined.is_none() {
+            // Nothing before the joining packet's first position will ever be shown.
+            self.log.joined = Some(named.start);
+            (self.top, self.next) = (named.start, named.start);
+        }
         if named.end > self.top {
             self.awaited.extend(self.top..named.end);
             self.log.fates.resize(usize::try_from(named.end).unwrap_or(usize::MAX), Fate::Never);

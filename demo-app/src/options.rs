@@ -17,6 +17,7 @@ pub struct Options {
     pub loss: f64,
     pub burst: f64,
     pub mbit: Option<f64>,
+    pub join: u64,
     pub scheme: Scheme,
     pub symbol_size: u32,
     pub width: u32,
@@ -37,6 +38,7 @@ impl Default for Options {
             loss: 5.0,
             burst: 2.0,
             mbit: None,
+            join: 0,
             scheme: Scheme::Gf256,
             symbol_size: 1400,
             width: 64,
@@ -99,6 +101,7 @@ pub fn read(words: impl IntoIterator<Item = OsString>) -> Result<Wish, String> {
             "--loss" => options.loss = number(name, &value()?, 0.0, 100.0)?,
             "--burst" => options.burst = number(name, &value()?, 1.0, 1_000_000.0)?,
             "--mbit" => options.mbit = Some(number(name, &value()?, 0.001, 1_000_000.0)?),
+            "--join" => options.join = number(name, &value()?, 0, 100_000_000)?,
             "--scheme" => {
                 options.scheme = match number(name, &value()?, 9, 10)? {
                     9u32 => Scheme::Gf2,
@@ -131,8 +134,8 @@ mod tests {
 
     #[test]
     fn options_are_read() {
-        let Ok(Wish::Run(o)) = words("--scheme 9 --loss=7.5 --width 255 a-file --svg x.svg --svg y.svg") else { panic!() };
-        assert_eq!((o.scheme, o.loss, o.width, o.density), (Scheme::Gf2, 7.5, 255, 7));
+        let Ok(Wish::Run(o)) = words("--scheme 9 --loss=7.5 --width 255 --join 70 a-file --svg x.svg --svg y.svg") else { panic!() };
+        assert_eq!((o.scheme, o.loss, o.width, o.density, o.join), (Scheme::Gf2, 7.5, 255, 7, 70));
         assert_eq!((o.file.unwrap().to_str(), o.svg.to_str()), (Some("a-file"), Some("y.svg")));
         let Ok(Wish::Run(o)) = words("-- --loss") else { panic!() };
         assert_eq!(o.file.unwrap().to_str(), Some("--loss"));
@@ -145,7 +148,7 @@ mod tests {
         for line in ["--loss", "--loss x", "--loss -1", "--loss 101", "--loss nan", "--width 0", "--width 256", "--symbol-size 3"] {
             assert!(words(line).is_err(), "{line}");
         }
-        for line in ["--scheme 8", "--density 16", "--every 0", "--repairs 17", "--seed -1", "a b", "--nothing 1", "-x"] {
+        for line in ["--scheme 8", "--density 16", "--every 0", "--repairs 17", "--seed -1", "--join -1", "a b", "--nothing 1", "-x"] {
             assert!(words(line).is_err(), "{line}");
         }
     }

@@ -2,7 +2,7 @@
 
 use crate::link::Kind;
 use crate::options::Options;
-use crate::report::{counted, each, field, grouped, losses, percent};
+use crate::report::{counted, each, field, grouped, losses, percent, switched_on};
 use crate::stream::ceiling;
 use crate::tally::{Fate, Packet, Run};
 use std::fmt::Write;
@@ -30,9 +30,19 @@ const MOST_CELLS: usize = 20_000;
 const SOON: u64 = 10;
 const LATER: u64 = 25;
 
-/// The class of a colour: heard, rebuilt (by delay), never known; the worst of several symbols is the largest.
+/// The class of a colour: heard, rebuilt (by delay), never known, and that because it came before the receiver joined; the worst of several
+/// symbols is the largest.
 const HEARD: usize = 0;
 const NEVER: usize = 4;
+const BEFORE: usize = 5;
+
+/// The class attribute of a colour; what came before joining is a paler never known.
+fn colour(class: usize) -> String {
+    match class {
+        BEFORE => format!("f{NEVER}\" opacity=\".35"),
+        class => format!("f{class}"),
+    }
+}
 
 fn rebuilt_class(delay: u64) -> usize {
     match delay {
@@ -122,6 +132,7 @@ impl Seen<'_> {
     fn class(&self, position: u64) -> usize {
         match self.run.fate(position) {
             Fate::Heard => HEARD,
+            Fate::Never if position < self.run.before() => BEFORE,
             Fate::Never => NEVER,
             Fate::Rebuilt(_) => rebuilt_class(self.delay(position).unwrap_or(0)),
         }
@@ -156,23 +167,24 @@ pub fn draw(options: &Options, run: &Run) -> String {
 /// Title and figures. Gives where they end.
 fn heading(svg: &mut Svg, options: &Options, run: &Run) -> f64 {
     let (heard, rebuilt, never) = run.symbols();
-    let (source, source_lost) = run.packets(Kind::Source);
-    let (repair, repair_lost) = run.packets(Kind::Repair);
-    let (packets, lost) = ((source + repair) as u64, (source_lost + repair_lost) as u64);
+    let (source, _, source_lost) = run.packets(Kind::Source);
+    let (repair, _, repair_lost) = run.packets(Kind::Repair);
+    let (packets, lost) = (source + repair, source_lost + repair_lost);
     svg.text("t", MARGIN, 56.0, "RFC 8681 over a lossy link");
     let Options { scheme, symbol_size, width, every, repairs, seed, .. } = options;
     let told = format!(
-        "scheme {}, {}; symbols of {} bytes, window of {width}; {} after every {}; {}; seed {seed}",
+        "scheme {}, {}; symbols of {} bytes, window of {width}; {} after every {}; {}{}; seed {seed}",
         scheme.number(),
         field(*scheme),
         grouped(u64::from(*symbol_size)),
         counted(*repairs, "repair symbol"),
         each(*every, "ADU"),
-        losses(options)
+        losses(options),
+        switched_on(options)
     );
     svg.text("m", MARGIN, 80.0, &told);
     let tiles = [
-        (grouped(packets), format!("packets, {} of them repair", grouped(repair as u64))),
+        (grouped(packets), format!("packets, {} of them repair", grouped(repair))),
         (grouped(lost), format!("packets lost, {}", percent(lost, packets))),
         (grouped(heard), format!("of {} symbols heard", grouped(run.sent.symbols))),
         (grouped(rebuilt), format!("rebuilt, {} never known", grouped(never))),
@@ -199,13 +211,14 @@ fn map(svg: &mut Svg, seen: &Seen, y: f64) -> f64 {
         .collect();
     let what = if in_cell == 1 { String::from("a cell is a symbol") } else { format!("a cell is the worst of {in_cell} symbols") };
     svg.text("h", MARGIN, y, "Every source symbol");
-    svg.text("m", MARGIN + 184.0, y, &format!("{what}, in the order sent"));
-    legend(svg, y);
+    let before = classes.contains(&BEFORE);
+    svg.text("m", MARGIN + 184.0, y, &format!("{what}{}", if before { "" } else { ", in the order sent" }));
+    legend(svg, y, before);
 
     let (left, step) = (MARGIN + 56.0, 7.0);
     let (wide, tall) = ((WIDE - MARGIN - left) / ROW as f64, 5.6);
     let top = y + 16.0;
-    let mut paths = vec![String::new(); NEVER + 1];
+    let mut paths = vec![String::new(); BEFORE + 1];
     for (row, line) in classes.chunks(ROW).enumerate() {
         let y = top + row as f64 * step;
         for run in runs(line) {
@@ -216,7 +229,7 @@ fn map(svg: &mut Svg, seen: &Seen, y: f64) -> f64 {
         }
     }
     for (class, path) in paths.iter().enumerate() {
-        svg.path(&format!("f{class}"), path);
+        svg.path(&colour(class), path);
     }
     let bottom = top + ceiling(cells, ROW) as f64 * step;
     let mut lines = String::new();
@@ -227,17 +240,20 @@ fn map(svg: &mut Svg, seen: &Seen, y: f64) -> f64 {
     bottom
 }
 
-fn legend(svg: &mut Svg, y: f64) {
-    let names = [
+fn legend(svg: &mut Svg, y: f64, before: bool) {
+    let mut names = vec![
         (String::from("heard"), HEARD),
         (format!("rebuilt within {SOON} packets"), 1),
         (format!("within {LATER}"), 2),
         (String::from("later"), 3),
         (String::from("never known"), NEVER),
     ];
+    if before {
+        names.push((String::from("before joining"), BEFORE));
+    }
     let mut x = WIDE - MARGIN + 18.0 - names.iter().map(|(name, _)| width(name) + 35.0).sum::<f64>();
     for (name, class) in names {
-        svg.rect(&format!("f{class}"), x, y - 10.0, 11.0, 11.0);
+        svg.rect(&colour(class), x, y - 10.0, 11.0, 11.0);
         svg.text("m", x + 17.0, y, &name);
         x += width(&name) + 35.0;
     }
@@ -288,6 +304,7 @@ fn burst(svg: &mut Svg, seen: &Seen, y: f64, left: f64, wide: f64) -> f64 {
         let (x, middle) = (x_of(number), x_of(number) + column / 2.0);
         let (from, to) = (y_of(packet.first), y_of(packet.end()));
         match (packet.kind, packet.lost) {
+            _ if packet.unheard => {}
             (Kind::Source, false) => bar(&mut heard, x + 1.0, from + 0.5, column - 2.0, to - from - 1.0),
             (Kind::Source, true) => bar(&mut outline, x + 1.5, from + 1.0, column - 3.0, to - from - 2.0),
             (_, false) => {

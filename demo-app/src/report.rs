@@ -2,7 +2,7 @@
 
 use crate::link::Kind;
 use crate::options::Options;
-use crate::tally::{Run, Times};
+use crate::tally::{Got, Run, Times};
 use rlc8681::Scheme;
 use std::fmt::Write;
 
@@ -43,6 +43,14 @@ pub fn losses(options: &Options) -> String {
         format!("{loss} % of packets lost in bursts of {burst} on average")
     } else {
         format!("{loss} % of packets lost, each for itself")
+    }
+}
+
+/// When the receiver is switched on; nothing where it always is.
+pub fn switched_on(options: &Options) -> String {
+    match options.join {
+        0 => String::new(),
+        join => format!("; receiver on after {} ADUs", grouped(join)),
     }
 }
 
@@ -87,7 +95,7 @@ pub fn settings(options: &Options) -> String {
     let _ = writeln!(text, "RFC 8681 over a lossy link: scheme {scheme}, {field}; symbols of {bytes} bytes, window of {width}");
     let _ = writeln!(text, "  stream  {stream}; seed {}", options.seed);
     let _ = writeln!(text, "  repair  a packet of {of} after every {}, DT {density}", each(*every, "ADU"));
-    let _ = writeln!(text, "  link    UDP on 127.0.0.1, {}, {pace}", losses(options));
+    let _ = writeln!(text, "  link    UDP on 127.0.0.1, {}, {pace}{}", losses(options), switched_on(options));
     text
 }
 
@@ -107,13 +115,22 @@ pub fn result(options: &Options, run: &Run) -> String {
         let _ = writeln!(text, "{name:<9}{:>11} {rest}", grouped(count));
     };
     for (name, what, kind) in [("packets", "source", Kind::Source), ("", "repair", Kind::Repair)] {
-        let (all, lost) = run.packets(kind);
-        line(name, all as u64, format!("{what} sent: {} arrived, {} lost", grouped((all - lost) as u64), grouped(lost as u64)));
+        let (all, arrived, lost) = run.packets(kind);
+        let unheard = match all - arrived - lost {
+            0 => String::new(),
+            unheard => format!(", {} before the receiver was on", grouped(unheard)),
+        };
+        line(name, all, format!("{what} sent: {} arrived, {} lost{unheard}", grouped(arrived), grouped(lost)));
     }
     let (heard, rebuilt, never) = run.symbols();
-    let share =
-        if rebuilt + never > 0 { format!("; {} of the lost ones rebuilt", percent(rebuilt, rebuilt + never)) } else { String::new() };
-    let known = format!("sent: {} heard, {} rebuilt, {} never known{share}", grouped(heard), grouped(rebuilt), grouped(never));
+    // What lies before the position joined at is not held against repair.
+    let share = percent(rebuilt, rebuilt + never.saturating_sub(run.before()));
+    let told = match run.before() {
+        0 if rebuilt + never == 0 => String::new(),
+        0 => format!("; {share} of the lost ones rebuilt"),
+        before => format!(", {} of them before joining; from there on {share} of those not heard rebuilt", grouped(before)),
+    };
+    let known = format!("sent: {} heard, {} rebuilt, {} never known{told}", grouped(heard), grouped(rebuilt), grouped(never));
     line("symbols", sent.symbols, known);
     let (missing, flows) = (sent.adus.saturating_sub(got.adus), counted(sent.flows.len() as u32, "flow"));
     line("ADUs", sent.adus, format!("sent: {} handed out, {} missing; {flows}", grouped(got.adus), grouped(missing)));
@@ -139,9 +156,23 @@ pub fn result(options: &Options, run: &Run) -> String {
     times(&mut text, "receiver: repair packet", &got.repair, symbol);
     times(&mut text, "receiver: ADU, handed out", &got.adu, symbol);
     times(&mut text, "receiver: ADU, not yet", &got.adu_refused, symbol);
-    let reach: u64 = [8, 9].iter().map(|&number| got.refused[number]).sum();
-    if reach > 0 {
-        let _ = writeln!(text, "{} packets arrived out of the window's reach (refusals 8 and 9)", grouped(reach));
+    text.push_str(&out_of_reach(got));
+    text
+}
+
+/// The packets that were refused for their place, where there are any.
+fn out_of_reach(got: &Got) -> String {
+    let mut text = String::new();
+    let (behind, ahead) = (got.refused[8], got.refused[9]);
+    if behind > 0 {
+        let early = match got.early {
+            0 => String::new(),
+            early => format!(", {} of them reaching back before the joining packet's first symbol", grouped(early)),
+        };
+        let _ = writeln!(text, "{} packets arrived behind the window (refusal 8){early}", grouped(behind));
+    }
+    if ahead > 0 {
+        let _ = writeln!(text, "{} packets arrived too far ahead of the window (refusal 9)", grouped(ahead));
     }
     text
 }
@@ -164,6 +195,25 @@ pub fn verdict(run: &Run) -> String {
 
 #[cfg(test)]
 mod tests {
+    use crate::tally::Got;
+
+    /// The joining packet is named for those packets alone that reach back before it, even where there are symbols before it.
+    #[test]
+    fn packets_out_of_reach() {
+        let told = |behind, early, ahead| {
+            let mut got = Got { joined: Some(5), early, ..Got::default() };
+            (got.refused[8], got.refused[9]) = (behind, ahead);
+            super::out_of_reach(&got)
+        };
+        let behind = "1,200 packets arrived behind the window (refusal 8)";
+        let early = ", 37 of them reaching back before the joining packet's first symbol";
+        let ahead = "3 packets arrived too far ahead of the window (refusal 9)\n";
+        assert_eq!(told(0, 0, 0), "");
+        assert_eq!(told(0, 0, 3), ahead);
+        assert_eq!(told(1200, 0, 0), format!("{behind}\n"));
+        assert_eq!(told(1200, 37, 3), format!("{behind}{early}\n{ahead}"));
+    }
+
     #[test]
     fn digits_are_grouped() {
         assert_eq!([0u64, 999, 1000, 1_234_567].map(super::grouped), ["0", "999", "1,000", "1,234,567"].map(String::from));

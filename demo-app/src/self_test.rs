@@ -12,7 +12,7 @@ type Check = fn() -> Result<(), String>;
 
 /// Prints what came out wrong, or that nothing did. True where nothing did.
 pub fn run() -> bool {
-    let checks: [(&str, Check); 10] = [
+    let checks: [(&str, Check); 13] = [
         ("scheme 10 rebuilds", || rebuilds(short())),
         ("scheme 9 rebuilds", || rebuilds(Options { scheme: Scheme::Gf2, density: 7, ..short() })),
         ("small symbols, odd width, many repairs", || {
@@ -21,6 +21,10 @@ pub fn run() -> bool {
         ("heavy loss, long bursts", || right(&Options { loss: 60.0, burst: 20.0, ..short() }).map(drop)),
         ("no loss, nothing missing", || lossless(Options { loss: 0.0, ..short() })),
         ("all lost, nothing handed out", || silent(Options { loss: 100.0, ..short() })),
+        ("joining at a source packet", || joins(Options { join: 301, ..short() }, Kind::Source)),
+        ("joining at a repair packet", || joins(Options { join: 300, ..short() }, Kind::Repair)),
+        // Here the link loses the first packet, and the second arrives
+        ("joining at the second packet", || joins(Options { loss: 30.0, seed: 48, ..short() }, Kind::Source)),
         ("the same seed, the same run", || repeats(short())),
         ("a damaged source packet is noticed", || noticed(Damage::Source)),
         ("a damaged repair packet that solves is noticed", || noticed(Damage::Solving)),
@@ -60,13 +64,32 @@ fn demand(holds: bool, otherwise: impl FnOnce() -> String) -> Result<(), String>
     }
 }
 
-/// A run without fault, which hands out at least the ADUs whose source packets arrived.
+/// A run without fault, which joins at the first packet that arrives, knows nothing of what is before that packet's first symbol, and hands
+/// out at least the ADUs whose source packets arrived. The link keeps the order, so that nothing else is behind (8).
 fn right(options: &Options) -> Result<Run, String> {
     let run = silently(options)?;
     demand(run.faults().is_empty(), || run.faults().join("; "))?;
-    let (source, lost) = run.packets(Kind::Source);
-    demand(run.got.adus >= (source - lost) as u64, || format!("{} ADUs of {} source packets", run.got.adus, source - lost))?;
+    let first = run.sent.packets.iter().find(|p| p.arrives()).map(|p| p.first);
+    demand(run.got.joined == first, || format!("joined at {:?} and not at {first:?}", run.got.joined))?;
+    demand((0..run.before()).all(|p| run.fate(p) == Fate::Never), || String::from("a symbol before the joining packet's first is known"))?;
+    let (behind, early) = (run.got.refused[8], run.got.early);
+    demand(behind == early, || format!("{behind} times refusal 8, {early} of them by joining"))?;
+    let (_, arrived, _) = run.packets(Kind::Source);
+    demand(run.got.adus >= arrived, || format!("{} ADUs of {arrived} source packets", run.got.adus))?;
     Ok(run)
+}
+
+/// A receiver that does not hear the beginning joins at a packet of this kind. After a source packet the repair that reaches back before it
+/// is refused; a repair packet joins where it begins, so that it takes all that follows.
+fn joins(options: Options, by: Kind) -> Result<(), String> {
+    let run = right(&options)?;
+    let joining = run.sent.packets.iter().find(|p| p.arrives()).ok_or("nothing arrived")?;
+    demand(joining.kind == by && run.before() > 0, || format!("joined at {} by another kind", run.before()))?;
+    demand((run.got.refused[8] > 0) == (by == Kind::Source), || format!("{} times refusal 8", run.got.refused[8]))?;
+    let svg = picture::draw(&options, &run);
+    demand(svg.contains("before joining"), || String::from("the picture does not tell"))?;
+    let (heard, rebuilt, never) = run.symbols();
+    demand(rebuilt > 0 && never >= run.before() && heard + rebuilt + never == run.sent.symbols, || format!("{:?}", run.symbols()))
 }
 
 fn rebuilds(options: Options) -> Result<(), String> {
@@ -118,7 +141,7 @@ fn noticed(damage: Damage) -> Result<(), String> {
         Damage::Solving => p.kind == Kind::Repair && whole.got.fates.contains(&Fate::Rebuilt(number)),
         Damage::Implied => p.kind == Kind::Repair && known_before(number, p),
     };
-    let arriving = (0..).zip(&whole.sent.packets).filter(|(_, p)| !p.lost);
+    let arriving = (0..).zip(&whole.sent.packets).filter(|(_, p)| p.arrives());
     let mut fitting = arriving.enumerate().filter(|(_, (number, p))| fits(*number, p));
     let (place, _) = fitting.nth(20).ok_or("no such packet")?;
     let run = silently(&Options { corrupt: Some(place as u64), ..options })?;

@@ -9,6 +9,8 @@ use std::time::{Duration, Instant};
 pub struct Packet {
     pub kind: Kind,
     pub lost: bool,
+    /// It was sent before the receiver was switched on.
+    pub unheard: bool,
     /// The first of the symbols that it brings or protects, and how many.
     pub first: u64,
     pub symbols: u32,
@@ -18,12 +20,16 @@ impl Packet {
     pub fn end(&self) -> u64 {
         self.first + u64::from(self.symbols)
     }
+
+    pub fn arrives(&self) -> bool {
+        !self.lost && !self.unheard
+    }
 }
 
 /// What became of a source symbol.
 #[derive(Clone, Copy, Debug, PartialEq, Eq)]
 pub enum Fate {
-    /// It was not known before it left the window, or by the end.
+    /// It was not known before it left the window, or by the end; or it lies before the joining packet's first position.
     Never,
     /// Its source packet arrived.
     Heard,
@@ -77,13 +83,16 @@ pub struct Sent {
 /// What the receiving end knows after the run.
 #[derive(Default)]
 pub struct Got {
+    /// The first position of the packet that the receiver joined at; those before it are never known.
+    pub joined: Option<u64>,
     /// The fate of each position that a packet told of.
     pub fates: Vec<Fate>,
     /// Packets that arrived, and the positions that their calls counted as newly known.
     pub arrived: u64,
     pub counted: u64,
-    /// How often a packet call gave each refusal.
+    /// How often a packet call gave each refusal; of refusal 8, how often to a packet that begins before the position joined at.
     pub refused: [u64; 16],
+    pub early: u64,
     pub adus: u64,
     pub bytes: u64,
     /// ADUs and rebuilt symbols that are not what was sent: how many, and the first in words.
@@ -110,10 +119,10 @@ pub struct Run {
 }
 
 impl Run {
-    /// Packets of a kind: sent and lost.
-    pub fn packets(&self, kind: Kind) -> (usize, usize) {
-        let all = self.sent.packets.iter().filter(|p| p.kind == kind);
-        (all.clone().count(), all.filter(|p| p.lost).count())
+    /// Packets of a kind: sent, arrived, and lost; the others came before the receiver was switched on.
+    pub fn packets(&self, kind: Kind) -> (u64, u64, u64) {
+        let count = |f: fn(&Packet) -> bool| self.sent.packets.iter().filter(|p| p.kind == kind && f(p)).count() as u64;
+        (count(|_| true), count(Packet::arrives), count(|p| p.lost))
     }
 
     pub fn fate(&self, position: u64) -> Fate {
@@ -127,6 +136,11 @@ impl Run {
         (heard, rebuilt, self.sent.symbols.saturating_sub(heard + rebuilt))
     }
 
+    /// Of those never known, the ones before the position that the receiver joined at.
+    pub fn before(&self) -> u64 {
+        self.got.joined.unwrap_or(0)
+    }
+
     /// Everything that speaks against the run, in words. A packet out of reach (refusals 8 and 9) is a loss like any other.
     pub fn faults(&self) -> Vec<String> {
         let mut faults = Vec::new();
@@ -137,7 +151,7 @@ impl Run {
         for (number, count) in got.refused.iter().enumerate().filter(|(number, count)| **count > 0 && ![8, 9].contains(number)) {
             faults.push(format!("{count} packets of the sender met refusal {number}"));
         }
-        let through = self.sent.packets.iter().filter(|p| !p.lost).count() as u64;
+        let through = self.sent.packets.iter().filter(|p| p.arrives()).count() as u64;
         if through != got.arrived {
             faults.push(format!("{through} packets passed the link and {} arrived", got.arrived));
         }
