@@ -57,10 +57,11 @@ static void run_adu(void *of) {
   answer(r, r->library->adu(r->memory, r->memory_size, r->esi - r->slot, r->adu, n), n);
   r->slot = r->slot + 1 == r->setting.width ? 0 : r->slot + 1;
 }
-// The window's newest position is taken for one that a packet has just brought: the window began a row before.
+// The window's newest position is taken for one that a packet has just brought: the window began a row before. Bytes 8 and 9 of the memory are one more
+// than the base's row.
 static void run_marks(void *of) {
   struct receiver *r = of;
-  size_t w = r->setting.width, row = r->memory[8] * 256 + r->memory[9];
+  size_t w = r->setting.width, row = r->memory[8] * 256 + r->memory[9] - 1;
   r->library->marks(r->memory, r->memory_size, r->setting.size, w, row ? row - 1 : w - 1);
 }
 static void run_burst(void *of) {
@@ -186,6 +187,28 @@ static void fill_longest(struct table *t, struct setting s) {
   add_ways(add_line(t, s), run_longest, run_copies, ready_burst, ends);
 }
 
+// Both join alike, just below the wrap: nothing is shown before, and a repair packet of two unlike symbols sets no base.
+static void check_joining(void) {
+  const struct setting s = {9, 4, 4};
+  const struct library *ways[2] = {&proved, &plain};
+  const size_t size = 64 + s.width * row_size(s), work_size = size + row_size(s), refused = 1000000;
+  const u8 unlike[] = {0, 0, 0xf0, 2, 0, 0, 1, 0, 0, 0, 0, 3, 0, 0, 0, 4};
+  u8 *memory[2] = {room(size), room(size)}, *work = room(work_size), adu;
+  for (int k = 0; k < 2; k++) {
+    const struct library *l = ways[k];
+    expect("receiver_open", l->receiver_open(memory[k], size, s.scheme, s.size, s.width) == 0);
+    expect("receive_repair", l->receive_repair(memory[k], size, work, work_size, unlike, sizeof unlike) == refused);
+    expect("symbol", l->symbol(memory[k], size, 256) == refused && l->symbol(memory[k], size, 0xfffffffe) == refused);
+    for (uint32_t i = 0; i < 7; i++) {
+      const uint32_t esi = 0xfffffffe + i;
+      const u8 source[] = {0x41 + i, esi >> 24, esi >> 16, esi >> 8, esi};
+      expect("receive_source", l->receive_source(memory[k], size, work, work_size, 1, source, sizeof source) == 1);
+      expect("adu", l->adu(memory[k], size, esi, &adu, 1) == 1 && adu == 0x41 + i && l->symbol(memory[k], size, 0xfffffffd) == refused);
+    }
+  }
+  expect("joining", !memcmp(memory[0], memory[1], size));
+}
+
 #define NAMES {"", "plain Rust", "memcpy"}
 int main(void) {
   static struct table news = {"New source packet of one symbol", NAMES}, repeated = {"Repeated source packet of one symbol", NAMES},
@@ -193,6 +216,7 @@ int main(void) {
     adu = {"Handing out an ADU of one symbol", NAMES},
     longest = {"Longest call: a repair packet of 16 symbols with which all symbols of the window become known, none of them heard", NAMES},
     marks = {"The work on marks in a new source packet of one symbol, all positions marked and known", {"", "plain Rust", "the whole call for a new source packet"}};
+  check_joining();
   make(&news, fill_new);
   make(&marks, fill_marks);
   make(&repeated, fill_repeated);
