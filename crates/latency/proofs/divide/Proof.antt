@@ -1,0 +1,11 @@
+-- `latency::divide` meets its contract.
+use mathlib.Core.Path.{refl}
+use native.Mathlib.Omega.{arith}
+use Rattle.latency.proofs.divide.Statement.{statement}
+use Rattle.latency.proofs.divide.Tie as tie
+
+returns : tie.Need-returns
+returns c = refl
+
+pub divide-spec : {M : Type 1} → statement M
+divide-spec = tie.close (tie.spec (λ c. omega arith) (λ c. omega arith) (λ c. omega arith) (λ c. omega arith) (λ c. omega arith) returns)

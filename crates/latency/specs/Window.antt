@@ -1,0 +1,27 @@
+-- The largest size of the decoding window (RFC 8681, appendix C.1): dw_max_size = (max_lat * br_in) / (8 * E), with the latency budget max_lat in seconds and
+-- the input bitrate br_in in bits per second. Here the budget is in microseconds (document 02, No. 3), so dividend and divisor are in millionths of a bit.
+use mathlib.Core.Bool.{Bool, cond, _&&_}
+use Prim.Native.Nat.{ℕ, _*_, _/_, _%_}
+use Rattle.wire.specs.Numbers.{within}
+use Rattle.wire.specs.declared.Refusal.the-variants.{Values}
+use Rattle.latency.specs.declared.WindowAnswer.{WindowAnswer}
+use Rattle.latency.specs.declared.WindowAnswer.the-variants.{Divided, NotDivided}
+
+-- the bits that come in within the budget, in millionths
+abbrev pub dividend : (budget bitrate : ℕ) → ℕ
+dividend budget bitrate = budget * bitrate
+
+-- the bits of a symbol, in millionths
+abbrev pub divisor : (E : ℕ) → ℕ
+divisor E = 8 * E * 1000000
+
+-- all three values are allowed
+abbrev pub allowed : (budget bitrate E : ℕ) → Bool
+allowed budget bitrate E = within 1 10000000 budget && (within 1 10000000000 bitrate && within 4 1500 E)
+
+-- the quotient and the remainder, or refusal 1
+abbrev pub windowOf : (budget bitrate E : ℕ) → WindowAnswer
+windowOf budget bitrate E =
+    let n = dividend budget bitrate in
+    let d = divisor E in
+    cond (allowed budget bitrate E) (Divided (n / d) (n % d)) (NotDivided Values)
