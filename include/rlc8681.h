@@ -21,9 +21,10 @@
  *
  * What is asked of the caller. A pointer and the length after it are a slice: that many bytes, all of which the process can read and, where the
  * pointer is not to const, write. The pointer is not NULL, even where the length is 0; then it is not followed. Where a slice is written, it overlaps no
- * other slice of the call, and nobody else reads or writes it during the call; nobody writes the others. All else is checked: every value of every
- * number is allowed, and so are any bytes in any slice, memory that was never opened or was changed by others among them: a call then still ends, stays
- * within its slices and answers.
+ * other slice of the call, and nobody else reads or writes it during the call; nobody writes the others. The one pointer without a length, remainder of
+ * rlc_dw_max_size, is not NULL and points to a uint64_t, aligned as such, that nobody else reads or writes during the call. All else is checked: every
+ * value of every number is allowed, and so are any bytes in any slice, memory that was never opened or was changed by others among them: a call then
+ * still ends, stays within its slices (and *remainder) and answers.
  */
 #ifndef RLC8681_H
 #define RLC8681_H
@@ -37,7 +38,7 @@ extern "C" {
 
 /* Why a call says no. A refusal is minus its number: compare -answer with these (minus a variable of this type is no int64_t). */
 enum rlc_refusal {
-    RLC_VALUES = 1,         /* scheme, E or width outside its values */
+    RLC_VALUES = 1,         /* scheme, E, width, latency budget or bitrate outside its values */
     RLC_SHORT = 2,          /* memory for opening, working memory or output too short */
     RLC_UNOPENED = 3,       /* state memory all zero, of the other end, or shorter than opening asked */
     RLC_LONG = 4,           /* ADU over 65,535 bytes or needing more symbols than the width */
@@ -65,6 +66,17 @@ static inline uint32_t rlc_draws(int64_t answer) { return answer < 0 ? 0 : (uint
 int64_t rlc_sender_memory(uint32_t symbol_size, uint32_t width);
 int64_t rlc_receiver_memory(uint32_t symbol_size, uint32_t width);
 int64_t rlc_working_memory(uint32_t symbol_size, uint32_t width);
+
+/*
+ * The largest decoding window that a latency budget allows: dw_max_size of RFC 8681, appendix C.1, for a flow of constant bitrate, with the times of
+ * encoding and decoding neglected. The budget (max_lat) is 1 to 10,000,000 microseconds; the bitrate (br_in) is 1 to 10,000,000,000 bits per second, that
+ * of the ADUs as the sender takes them, without repair; symbol_size (E) is 4 to 1500.
+ * Answers the quotient of budget x bitrate by 8 x E x 1,000,000, rounded down: how many times the 8 x E bits of a symbol go into the bits that come in
+ * within the budget; what a symbol carries beside an ADU's bytes is not counted. Writes the exact remainder of that division to *remainder.
+ * The quotient is at most 3,125,000,000 and the remainder below 12,000,000,000. A window has 1 to 255 symbols; a quotient of 0 or over 255 is given too.
+ * Refusal: RLC_VALUES where budget, bitrate or symbol_size is outside its values; *remainder is then as it was.
+ */
+int64_t rlc_dw_max_size(uint64_t budget, uint64_t bitrate, uint32_t symbol_size, uint64_t *remainder);
 
 /*
  * Opens a sender in memory, whatever it held. Scheme is 9 or 10. Answers 0.

@@ -1,5 +1,5 @@
-// The library as a C program links it: the bench sheet's cases C7 to C10 and C12, joining, the draws, and the ADU call's refusals, through the header
-// alone; each answer and each byte is compared.
+// The library as a C program links it: the bench sheet's cases C7 to C10 and C12, joining, the draws, the window of a latency budget, and the ADU
+// call's refusals, through the header alone; each answer and each byte is compared.
 #include "rlc8681.h"
 #include <stdio.h>
 #include <stdlib.h>
@@ -100,6 +100,51 @@ static void sizes(void) {
     SAYS(rlc_sender_memory(wrong[i][0], wrong[i][1]), -RLC_VALUES);
     SAYS(rlc_receiver_memory(wrong[i][0], wrong[i][1]), -RLC_VALUES);
     SAYS(rlc_working_memory(wrong[i][0], wrong[i][1]), -RLC_VALUES);
+  }
+}
+
+// The window that a latency budget allows: quotient and remainder, as document 02 has them and at the limits; a refusal leaves the remainder.
+static void windows(void) {
+  static const struct {
+    uint64_t budget, bitrate;
+    uint32_t symbol_size;
+    int64_t quotient;
+    uint64_t remainder;
+  } windows[] = {
+      {100001, 33600000, 1400, 300, 33600000},
+      {85333, 33600000, 1400, 255, UINT64_C(11188800000)},
+      {85334, 33600000, 1400, 256, 22400000},
+      {1, 1, 4, 0, 1},
+      {1, UINT64_C(10000000000), 1500, 0, UINT64_C(10000000000)},
+      {10000000, UINT64_C(10000000000), 4, INT64_C(3125000000), 0},
+      {10000000, UINT64_C(10000000000), 1500, 8333333, UINT64_C(4000000000)},
+  };
+  for (size_t i = 0; i < sizeof windows / sizeof *windows; i++) {
+    uint64_t remainder = UINT64_MAX;
+    SAYS(rlc_dw_max_size(windows[i].budget, windows[i].bitrate, windows[i].symbol_size, &remainder), windows[i].quotient);
+    check(remainder == windows[i].remainder, "the remainder of the division");
+  }
+  static const struct {
+    uint64_t budget, bitrate;
+    uint32_t symbol_size;
+  } outside[] = {
+      {0, 33600000, 1400},
+      {10000001, 33600000, 1400},
+      {UINT64_C(4294967297), 33600000, 1400},
+      {UINT64_MAX, 33600000, 1400},
+      {100001, 0, 1400},
+      {100001, UINT64_C(10000000001), 1400},
+      {100001, UINT64_MAX, 1400},
+      {100001, 33600000, 3},
+      {100001, 33600000, 1501},
+      {100001, 33600000, 65536 + 1400},
+      {100001, 33600000, UINT32_MAX},
+      {0, 0, 0},
+  };
+  for (size_t i = 0; i < sizeof outside / sizeof *outside; i++) {
+    uint64_t remainder = UINT64_C(0xa5a5a5a5a5a5a5a5);
+    SAYS(rlc_dw_max_size(outside[i].budget, outside[i].bitrate, outside[i].symbol_size, &remainder), -RLC_VALUES);
+    check(remainder == UINT64_C(0xa5a5a5a5a5a5a5a5), "a refusal leaves the remainder");
   }
 }
 
@@ -306,6 +351,7 @@ static void thirteen_and_fourteen(void) {
 
 int main(void) {
   sizes();
+  windows();
   seven_and_eight();
   nine();
   ten();

@@ -6,6 +6,8 @@ use Prim.Native.Nat.{ℕ, _+_, _*_, _%_, _/_, _≤_, _<_, min}
 use lib.IntN.{ℤ, pos, negℤ}
 use Rattle.wire.specs.declared.Setting.{Setting}
 use Rattle.wire.specs.Numbers.{numberOf}
+use Rattle.latency.specs.declared.WindowAnswer.{WindowAnswer}
+use Rattle.latency.specs.declared.WindowAnswer.the-variants.{Divided, NotDivided}
 use Rattle.sender.specs.declared.Answer.{Answer}
 use Rattle.sender.specs.declared.RepairAnswer.{RepairAnswer}
 use Rattle.sender.specs.declared.RepairAnswer.the-variants.{Made, NotMade}
@@ -37,6 +39,15 @@ packetSaid (NotAccepted r) = refusal (numberOf r)
 abbrev pub repairSaid : RepairAnswer → Said
 repairSaid (Made n draws) = withDraws n draws
 repairSaid (NotMade r) = refusal (numberOf r)
+
+-- What the call for the window answers as a number, and what it leaves where the remainder goes: a refusal leaves what was there.
+abbrev pub windowSaid : WindowAnswer → Said
+windowSaid (Divided q r) = value q
+windowSaid (NotDivided why) = refusal (numberOf why)
+
+abbrev pub remainderAfter : WindowAnswer → ℕ → ℕ
+remainderAfter (Divided q r) before = r
+remainderAfter (NotDivided why) before = before
 
 -- A code is read back: no refusal has the code of a value, and neither two refusals nor two values up to the largest number share one.
 -- The code of an ADU, divided by 65,536, is its flow, and the remainder its length; that of a value with draws, divided by 2^32, is the draws, and the

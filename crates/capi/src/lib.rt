@@ -1,15 +1,17 @@
-// The calls of sender and receiver under C names (include/rlc8681.h): each takes numbers and slices, and answers one signed number. What a function
-// promises is the promise of the call that it wraps, of the answer that its number codes.
+// The calls of sender and receiver, and that for the window, under C names (include/rlc8681.h): each takes numbers and slices, that one a number to
+// write, and answers one signed number. What a function promises is the promise of the call that it wraps, of the answer that its number codes.
 ghost use mathlib.Core.Path.{_≡_};
 ghost use Prim.Native.Nat.{_+_, _*_, _≤_};
 ghost use Rattle.wire.specs.Numbers.{numberOf};
 ghost use Rattle.wire.specs.Settings.{settingOf};
+ghost use Rattle.latency.specs.Promises.{WindowAnswered};
 ghost use Rattle.sender.specs.State as sender;
 ghost use Rattle.sender.specs.Promises.{Opens, Adds, RepairMade};
 ghost use Rattle.receiver.specs.History.{value, refusal, memorySize, workingSize, source-call, repair-call};
 ghost use Rattle.receiver.specs.Promises.{Opened, PacketAnswered, SymbolAnswered, PlaceAnswered, AduAnswered, said, handedSaid};
 ghost use Rattle.receiver.specs.Layout.{receiverLayout};
-ghost use Rattle.capi.specs.Coding.{coded, senderSaid, withDraws, packetSaid, repairSaid, Codes, asked};
+ghost use Rattle.capi.specs.Coding.{coded, senderSaid, withDraws, packetSaid, repairSaid, windowSaid, remainderAfter, Codes, asked};
+use latency::WindowAnswer;
 use starts::Handed;
 use wire::Checked;
 use wire::Esi;
@@ -157,6 +159,23 @@ pub extern "C" fn rlc_working_memory(size: u32, width: u32) -> i64
         return coded_refusal(Refusal::Values);
     };
     coded_size(64, setting.width + 1, setting.width + setting.size + 4)
+}
+
+#[no_mangle]
+pub extern "C" fn rlc_dw_max_size(budget: u64, bitrate: u64, size: u32, remainder: &mut u64) -> i64
+    ensures { λ r. ⌜ Codes windowSaid
+        (λ a. WindowAnswered budget bitrate size a × (now (remainder .exit) ≡ remainderAfter a (now (remainder .entry)))) r ⌝ }
+{
+    match latency::dw_max_size(budget, bitrate, size as usize) {
+        WindowAnswer::Divided {
+            quotient,
+            remainder: rest,
+        } => {
+            *remainder = rest;
+            coded_value(quotient as usize)
+        }
+        WindowAnswer::NotDivided(why) => coded_refusal(why),
+    }
 }
 
 #[no_mangle]
