@@ -6,6 +6,8 @@ extern "C" {
     pub fn rlc_receiver_memory(symbol_size: u32, width: u32) -> i64;
     pub fn rlc_working_memory(symbol_size: u32, width: u32) -> i64;
 
+    pub fn rlc_dw_max_size(budget: u64, bitrate: u64, symbol_size: u32, remainder: *mut u64) -> i64;
+
     pub fn rlc_sender_open(memory: *mut u8, memory_len: usize, scheme: u32, symbol_size: u32, width: u32) -> i64;
     pub fn rlc_sender_add_adu(
         memory: *mut u8,

@@ -4,7 +4,8 @@
 //! A [`Sender`] takes application packets (ADUs), writes a source packet for each and, when asked, repair packets over its window of the
 //! last `width` symbols. A [`Receiver`] takes source and repair packets in any order, with losses and repeats, and shows every symbol of
 //! its window that the packets determine; it can join a running stream, at the first packet that it accepts. All working is exact: what it
-//! shows is what the packets imply, and a packet that contradicts them is refused.
+//! shows is what the packets imply, and a packet that contradicts them is refused. [`dw_max_size`] tells how wide a window may be under a
+//! latency budget.
 //!
 //! ```
 //! use rlc8681::{Receiver, Scheme, Sender};
@@ -29,10 +30,12 @@
 #![deny(missing_docs)]
 
 mod ffi;
+mod latency;
 mod receiver;
 mod refusal;
 mod sender;
 
+pub use latency::{dw_max_size, WindowSize};
 pub use receiver::{Adu, Received, Receiver};
 pub use refusal::Refusal;
 pub use sender::{Repair, Sender};
@@ -77,9 +80,9 @@ impl Scheme {
 
 /// A call's answer: its value, or a refusal.
 ///
-/// The library promises that a negative answer is minus a refusal's number, that a place lies in the memory and that an ADU lies in the
-/// output. An answer that breaks this cannot come; here, in `Receiver::symbol` and in `Receiver::adu` it would be `Refusal::Unopened`,
-/// which no call gives on the memory that these types own.
+/// The library promises that a negative answer is minus a refusal's number, that a place lies in the memory, that an ADU lies in the output
+/// and that a window has at most 3,125,000,000 symbols. An answer that breaks this cannot come; here, in `Receiver::symbol`, `Receiver::adu`
+/// and `dw_max_size` it would be `Refusal::Unopened`, which no call gives on the memory that these types own.
 fn answer(raw: i64) -> Result<usize, Refusal> {
     match usize::try_from(raw) {
         Ok(value) => Ok(value),

@@ -5,7 +5,7 @@ use std::fmt;
 #[derive(Clone, Copy, Debug, PartialEq, Eq, Hash, PartialOrd, Ord)]
 #[non_exhaustive]
 pub enum Refusal {
-    /// 1: symbol size or width outside its values.
+    /// 1: symbol size, width, latency budget or bitrate outside its values.
     Values = 1,
     /// 2: the output is too short.
     Short = 2,
@@ -79,7 +79,7 @@ impl Refusal {
 impl fmt::Display for Refusal {
     fn fmt(&self, f: &mut fmt::Formatter<'_>) -> fmt::Result {
         f.write_str(match self {
-            Refusal::Values => "scheme, E or width outside its values",
+            Refusal::Values => "scheme, E, width, latency budget or bitrate outside its values",
             Refusal::Short => "memory for opening, working memory or output too short",
             Refusal::Unopened => "state memory all zero, of the other end, or shorter than opening asked",
             Refusal::Long => "ADU over 65,535 bytes or needing more symbols than the width",

@@ -59,8 +59,9 @@ fn numbers_and_words() {
     let numbers: Vec<u8> = all.iter().map(|refusal| refusal.number()).collect();
     assert_eq!(numbers, (1..=14).collect::<Vec<u8>>());
     let words: Vec<String> = all.iter().map(Refusal::to_string).collect();
-    let document_01 = [
-        "scheme, E or width outside its values",
+    // Document 01's words; to 1, document 02's No. 3 adds budget and bitrate
+    let expected = [
+        "scheme, E, width, latency budget or bitrate outside its values",
         "memory for opening, working memory or output too short",
         "state memory all zero, of the other end, or shorter than opening asked",
         "ADU over 65,535 bytes or needing more symbols than the width",
@@ -75,7 +76,7 @@ fn numbers_and_words() {
         "no start",
         "ADUI needs more than the width, or padding not zero",
     ];
-    assert_eq!(words, document_01);
+    assert_eq!(words, expected);
 }
 
 #[test]

@@ -14,6 +14,7 @@ mod raw {
         pub fn rlc_sender_memory(symbol_size: u32, width: u32) -> i64;
         pub fn rlc_receiver_memory(symbol_size: u32, width: u32) -> i64;
         pub fn rlc_working_memory(symbol_size: u32, width: u32) -> i64;
+        pub fn rlc_dw_max_size(budget: u64, bitrate: u64, symbol_size: u32, remainder: *mut u64) -> i64;
         pub fn rlc_sender_open(memory: *mut u8, len: usize, scheme: u32, symbol_size: u32, width: u32) -> i64;
         pub fn rlc_sender_add_adu(
             memory: *mut u8,
@@ -55,6 +56,10 @@ pub fn receiver_memory(symbol_size: u32, width: u32) -> i64 {
 
 pub fn working_memory(symbol_size: u32, width: u32) -> i64 {
     unsafe { raw::rlc_working_memory(symbol_size, width) }
+}
+
+pub fn dw_max_size(budget: u64, bitrate: u64, symbol_size: u32, remainder: &mut u64) -> i64 {
+    unsafe { raw::rlc_dw_max_size(budget, bitrate, symbol_size, remainder) }
 }
 
 pub fn sender_open(memory: &mut [u8], scheme: u32, symbol_size: u32, width: u32) -> i64 {
