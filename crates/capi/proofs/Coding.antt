@@ -11,15 +11,21 @@ use lib.Signed.{mag}
 use mir.Val.{toZ, ofZ}
 use mir.Facts.{toZ-pos, toZ-ofZ}
 use Rattle.wire.specs.declared.Refusal.{Refusal}
+use Rattle.wire.specs.declared.Refusal.the-variants.{Values, Short, Unopened, Long, Form, Range, Empty}
+use Rattle.wire.specs.declared.Refusal.the-variants.{Behind, Ahead, Draws, Contradiction, Unknown, NoStart, Padding}
 use Rattle.wire.specs.declared.Setting.{Setting}
 use Rattle.wire.specs.declared.Checked.{Checked}
 use Rattle.wire.specs.declared.Checked.the-variants.{Good, Bad}
 use Rattle.wire.specs.Numbers.{numberOf}
 use Rattle.wire.specs.Settings.{Valid, settingOf, checkedOf}
 use Rattle.wire.proofs.Settings.{setting-names}
+use Rattle.latency.specs.declared.WindowAnswer.{WindowAnswer}
+use Rattle.latency.specs.declared.WindowAnswer.the-variants.{Divided, NotDivided}
+use Rattle.latency.specs.Window.{dividend, divisor}
+use Rattle.latency.specs.Promises.{Division, WindowAnswered}
 use Rattle.receiver.specs.History.{Said, value, refusal}
 use Rattle.receiver.proofs.Headers.{setting-good, setting-bad}
-use Rattle.capi.specs.Coding.{largest, coded, asked, Readable}
+use Rattle.capi.specs.Coding.{largest, coded, windowSaid, remainderAfter, asked, Readable}
 
 -- A value below the largest number is itself; from there on it stands as that one.
 pub value-small : (n : ℕ) → n < largest → toZ w64 n ≡ coded (value n)
@@ -53,6 +59,22 @@ abbrev NotNegative : ℤ → Type 0
 NotNegative (pos n) = Unit {0}
 NotNegative (negsuc n) = ⊥
 
+refusal-negative : (why : Refusal) → NotNegative (coded (refusal (numberOf why))) → ⊥
+refusal-negative Values n = n
+refusal-negative Short n = n
+refusal-negative Unopened n = n
+refusal-negative Long n = n
+refusal-negative Form n = n
+refusal-negative Range n = n
+refusal-negative Empty n = n
+refusal-negative Behind n = n
+refusal-negative Ahead n = n
+refusal-negative Draws n = n
+refusal-negative Contradiction n = n
+refusal-negative Unknown n = n
+refusal-negative NoStart n = n
+refusal-negative Padding n = n
+
 refusal-size : (n : ℕ) → natAbs (coded (refusal n)) ≡ n
 refusal-size zero = refl
 refusal-size (suc n) = refl
@@ -64,11 +86,25 @@ readable = record {
   values = λ n k a b e. let f : min n largest ≡ min k largest = ap natAbs e in omega (arith, f, a, b);
   adus = λ flow L k a b e. let f : min (flow * 65536 + L) largest ≡ k = ap natAbs e in (omega (arith, f, a, b), omega (arith, f, a, b));
   draws = λ n d k a b e. let f : min (n + 4294967296 * d) largest ≡ k = ap natAbs e in (omega (arith, f, a, b), omega (arith, f, a, b));
+  windows = windows;
+  kept = kept;
 }
   where
     apart : (n k : ℕ) → 1 ≤ k → coded (value n) ≢ coded (refusal k)
     apart n zero l e = absurd (omega (arith, l))
     apart n (suc k) l e = subst NotNegative e tt
+
+    windows : (budget bitrate E : ℕ) (a : WindowAnswer) (k before : ℕ) → WindowAnswered budget bitrate E a → coded (windowSaid a) ≡ pos k
+        → Division (dividend budget bitrate) (divisor E) k (remainderAfter a before)
+    windows budget bitrate E (Divided q r) k before w e =
+        let f : min q largest ≡ k = ap natAbs e in
+        let same : q ≡ k = omega (arith, f, w .small q r refl .0) in
+        subst (λ x. Division (dividend budget bitrate) (divisor E) x r) same (w .divided q r .0 refl .1)
+    windows budget bitrate E (NotDivided why) k before w e = absurd (refusal-negative why (subst NotNegative (sym e) tt))
+
+    kept : (a : WindowAnswer) (k before : ℕ) → 1 ≤ k → coded (windowSaid a) ≡ coded (refusal k) → remainderAfter a before ≡ before
+    kept (Divided q r) k before l e = absurd (apart q k l e)
+    kept (NotDivided why) k before l e = refl
 
 -- ---- the sizes
 

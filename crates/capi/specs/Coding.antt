@@ -8,6 +8,8 @@ use Rattle.wire.specs.declared.Setting.{Setting}
 use Rattle.wire.specs.Numbers.{numberOf}
 use Rattle.latency.specs.declared.WindowAnswer.{WindowAnswer}
 use Rattle.latency.specs.declared.WindowAnswer.the-variants.{Divided, NotDivided}
+use Rattle.latency.specs.Window.{dividend, divisor}
+use Rattle.latency.specs.Promises.{Division, WindowAnswered}
 use Rattle.sender.specs.declared.Answer.{Answer}
 use Rattle.sender.specs.declared.RepairAnswer.{RepairAnswer}
 use Rattle.sender.specs.declared.RepairAnswer.the-variants.{Made, NotMade}
@@ -51,13 +53,17 @@ remainderAfter (NotDivided why) before = before
 
 -- A code is read back: no refusal has the code of a value, and neither two refusals nor two values up to the largest number share one.
 -- The code of an ADU, divided by 65,536, is its flow, and the remainder its length; that of a value with draws, divided by 2^32, is the draws, and the
--- remainder the value, where both are as small as the promises say.
+-- remainder the value, where both are as small as the promises say. Where the call for the window answers a value, that and what it leaves where the
+-- remainder goes are quotient and remainder of the division; where it answers a refusal, what was there is left.
 pub record Readable : Type 0 where
   pub apart : (n k : ℕ) → 1 ≤ k → coded (value n) ≢ coded (refusal k)
   pub refusals : (n k : ℕ) → coded (refusal n) ≡ coded (refusal k) → n ≡ k
   pub values : (n k : ℕ) → n ≤ largest → k ≤ largest → coded (value n) ≡ coded (value k) → n ≡ k
   pub adus : (flow L k : ℕ) → flow < 256 → L ≤ 65535 → coded (handedSaid (Adu flow L)) ≡ pos k → (flow ≡ k / 65536) × (L ≡ k % 65536)
   pub draws : (n d k : ℕ) → n ≤ 65535 → d ≤ 69360 → coded (withDraws n d) ≡ pos k → (n ≡ k % 4294967296) × (d ≡ k / 4294967296)
+  pub windows : (budget bitrate E : ℕ) (a : WindowAnswer) (k before : ℕ) → WindowAnswered budget bitrate E a → coded (windowSaid a) ≡ pos k
+      → Division (dividend budget bitrate) (divisor E) k (remainderAfter a before)
+  pub kept : (a : WindowAnswer) (k before : ℕ) → 1 ≤ k → coded (windowSaid a) ≡ coded (refusal k) → remainderAfter a before ≡ before
 
 -- What an answer of the sender says, in the receiver's words.
 abbrev pub ofSender : sender.Said → Said
