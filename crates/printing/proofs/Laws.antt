@@ -1,0 +1,44 @@
+-- Laws of texts that are put into a buffer one after the other.
+use mathlib.Core.Path.{_≡_, refl}
+use mathlib.Core.List.{List, [], _∷_, _++_, append-assoc}
+use Prim.Native.Nat.{ℕ, _+_, _^_, _≤_, _<_}
+use native.Mathlib.Numerals.{add-one}
+use native.Mathlib.Omega.{arith}
+use lib.ListN.{length, take, set, length-append, length-take, length-set}
+use lib.Seq.{take-at, take-suc-set}
+use Rattle.memory.specs.Part.{splice}
+use Rattle.memory.proofs.Parts.{length-splice}
+use Rattle.text.specs.Text.{ascii, decimal}
+use Rattle.printing.specs.Printed.{recordLine, lastLine}
+use Rattle.printing.specs.Inner.{Put}
+use Rattle.text.proofs.Decimals.{decimal-length}
+
+-- a text, and another from where it ends
+pub put-then : {a b c : List ℕ} {at mid next : ℕ} {t u : List ℕ} → Put a b at mid t → Put b c mid next u → Put a c at next (t ++ u)
+put-then p q = record { bytes = cc (append-assoc _ _ _); ends = rw length-append (omega arith); within = q .within }
+
+-- a part of the buffer that is replaced
+pub put-splice : (at : ℕ) (x m : List ℕ) → at + length x ≤ length m → Put m (splice at x m) at (at + length x) x
+unfolding splice
+put-splice at x m h = record {
+  bytes =
+      let l : length (take at m ++ x) ≡ at + length x = simp (length-append, length-take) (omega arith) in
+      rw (← append-assoc (take at m)) (take-at (take at m ++ x) _ (at + length x) l);
+  ends = refl;
+  within = rw (length-splice at x m h) h;
+}
+
+-- a byte that is stored
+pub put-byte : (at v : ℕ) (m : List ℕ) → at < length m → Put m (set m at v) at (at + 1) (v ∷ [])
+put-byte at v m h = record { bytes = rw add-one (take-suc-set m at v h); ends = refl; within = rw (length-set m at v) (omega arith) }
+
+-- where a name and a number end
+pub put-room : (name : List ℕ) (n : ℕ) {a b : List ℕ} {at next : ℕ} → Put a b at next (name ++ decimal n) → n < 2 ^ 64
+    → next ≤ at + (length name + 20)
+put-room name n p h = omega (arith, p .ends, length-append name (decimal n), decimal-length n h)
+
+-- how long the lines are
+pub record-length : (n answer known : ℕ) → n < 2 ^ 64 → answer < 2 ^ 64 → known < 2 ^ 64 → length (recordLine n answer known) ≤ 78
+unfolding recordLine
+record-length n answer known h k l =
+    simp length-append (omega (arith, decimal-length n h, decimal-length answer k, decimal-length known l))

@@ -1,0 +1,36 @@
+-- Text as bytes: characters, decimal numbers and hexadecimal bytes (document 02, No. 4).
+use mathlib.Core.Bool.{cond}
+use mathlib.Core.List.{List, [], _∷_, _++_}
+use Prim.Native.Char.{code}
+use Prim.Native.Nat.{ℕ, zero, suc, _+_, _/_, _%_}
+use Prim.Native.String.{String, [] as empty, _∷_ as _then_}
+use lib.Dec.{ltb}
+
+-- the characters of a text, one byte each
+abbrev pub ascii : String → List ℕ
+ascii empty = []
+ascii (c then t) = code c ∷ ascii t
+
+-- the digit of a number below 16: 0 to 9, A to F
+unfoldable pub digit : ℕ → ℕ
+digit d = cond (ltb d 10) (48 + d) (55 + d)
+
+-- n in decimal, with no leading zero, where it has at most k digits before the last
+unfoldable pub decimalWithin : (k n : ℕ) → List ℕ
+decimalWithin zero n = digit (n % 10) ∷ []
+decimalWithin (suc k) n =
+    let more = decimalWithin k (n / 10) ++ (digit (n % 10) ∷ []) in
+    cond (ltb n 10) (digit (n % 10) ∷ []) more
+
+-- n in decimal: it has fewer than n + 1 digits before the last
+unfoldable pub decimal : ℕ → List ℕ
+decimal n = decimalWithin n n
+
+-- bytes in hexadecimal, two digits each
+unfoldable pub hexadecimal : List ℕ → List ℕ
+hexadecimal [] = []
+hexadecimal (b ∷ l) = digit (b / 16) ∷ (digit (b % 16) ∷ hexadecimal l)
+
+-- a name and a number
+abbrev pub field : String → ℕ → List ℕ
+field name n = ascii name ++ decimal n

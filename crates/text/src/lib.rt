@@ -1,0 +1,1 @@
+// Text as bytes. No code: the definitions stand in specs/.
