@@ -1,0 +1,26 @@
+-- Computed from how lines are read: document 02's sample, and lines that have not the form.
+use mathlib.Core.Path.{_≡_, refl}
+use mathlib.Core.List.{List, [], _∷_, map}
+use mathlib.Core.Option.{none, some}
+use Prim.Native.String.{String}
+use Rattle.text.specs.Text.{ascii}
+use Rattle.receiver.specs.History.{source-call, repair-call}
+use Rattle.lines.specs.Lines.{linesFrom, linesOf}
+use Rattle.lines.specs.Reading.{after, numberFrom, numberIn, valueOf, bytesIn, valuesIn, repairIn, sourceIn, callIn}
+
+-- a line without 0A, an empty line, and no line after the last 0A
+pub ends : linesOf (ascii "a\n\nb") ∷ linesOf (ascii "a\n\n") ∷ linesOf (ascii "\n") ∷ linesOf [] ∷ []
+    ≡ (ascii "a" ∷ [] ∷ ascii "b" ∷ []) ∷ (ascii "a" ∷ [] ∷ []) ∷ ([] ∷ []) ∷ [] ∷ []
+unfolding linesFrom
+ends = refl
+
+pub first : valuesIn (ascii "scheme=9 e=4 width=2") ≡ some (record { scheme = 9; size = 4; width = 2 })
+unfolding after numberFrom numberIn valuesIn
+first = refl
+
+pub packets : map (λ t. callIn (ascii t))
+    ("kind=source flow=1 packet=4100000000" ∷ "kind=repair packet=0000F0020000000000000003" ∷ "kind=repair packet=" ∷ [])
+    ≡ some (source-call 1 (65 ∷ 0 ∷ 0 ∷ 0 ∷ 0 ∷ [])) ∷ some (repair-call (0 ∷ 0 ∷ 240 ∷ 2 ∷ 0 ∷ 0 ∷ 0 ∷ 0 ∷ 0 ∷ 0 ∷ 0 ∷ 3 ∷ []))
+    ∷ some (repair-call []) ∷ []
+unfolding after numberFrom numberIn valueOf bytesIn repairIn sourceIn callIn
+packets = refl
