@@ -1,0 +1,63 @@
+-- The input's end.
+use mathlib.Core.Path.{_≡_, refl, sym, ap, _∙_, subst}
+use mathlib.Core.List.{List, [], _∷_, _++_, append-nil}
+use Prim.Native.Nat.{ℕ, zero, suc, _-_, _≤_, _<_}
+use native.Mathlib.Omega.{arith}
+use lib.ListN.{length, take}
+use Rattle.printing.specs.Printed.{lastLine}
+use Rattle.printing.specs.Inner.{Put}
+use Rattle.lines.specs.Lines.{linesFrom}
+use Rattle.replay.specs.declared.Progress.{Progress}
+use Rattle.replay.specs.declared.Ended.{Ended}
+use Rattle.replay.specs.Replay.{most, accepted, refused, known, recordLines, summary, recordsFrom, printedLines}
+use Rattle.replay.specs.Standing.{Standing, opening, closed, working, toCome, Stands, Kept}
+use Rattle.replay.specs.Promises.{Held, Finished}
+use Rattle.replay.specs.Inner.{LineEnded, InputEnded}
+
+take-none : (n : ℕ) → _≡_ {A = List (List ℕ)} (take n []) []
+take-none zero = refl
+take-none (suc n) = refl
+
+-- with no line to come, the sums are printed
+pub last-line : (p : Progress) (m : List ℕ) (w : Standing) → Stands p m w → toCome w [] ≡ lastLine (p .lines) (p .accepted) (p .refused) (p .known)
+unfolding toCome printedLines summary recordLines recordsFrom
+last-line p m opening k = let c = k .1 in rw (c .lines, c .accepts, c .refuses, c .knows)
+last-line p m closed k = let c = k .1 in rw (c .lines, c .accepts, c .refuses, c .knows)
+last-line p m (working s t rs) k =
+    let c = k .counts in rw (take-none (most - length rs), append-nil rs, c .lines, c .accepts, c .refuses, c .knows)
+
+-- no byte is kept of a line that has not begun
+begun : (line q : List ℕ) → Kept 0 line q → q ≡ []
+begun line [] k = refl
+begun line (b ∷ q) k = let c = k .count in absurd (omega arith)
+
+pub nothing-left : (p : Progress) (line m out : List ℕ) → p .have ≡ 0 → InputEnded p line m out (record { progress = p; at = 0 })
+unfolding linesFrom
+nothing-left p line m out e = record {
+  room = omega arith;
+  prints = λ w q h.
+      let n : q ≡ [] = begun line q (subst (λ x. Kept x line q) e (h .kept)) in
+      rw n (last-line p m w (h .stands));
+}
+
+-- the line that has not ended
+one-line : (q : List ℕ) (have : ℕ) (line : List ℕ) → Kept have line q → (have ≡ 0 → ⊥) → linesFrom q [] ≡ q ∷ []
+unfolding linesFrom
+one-line [] have line k h = absurd (h (omega (arith, k .count)))
+one-line (b ∷ q) have line k h = refl
+
+pub line-left : (p : Progress) (line m m′ out out′ : List ℕ) (r : Ended) → (p .have ≡ 0 → ⊥) → LineEnded p line m m′ out out′ 0 r
+    → InputEnded p line m out′ r
+line-left p line m m′ out out′ r e f = record {
+  room = f .room;
+  prints = λ w q h.
+      let x = f .goes w q tt (h .stands) (h .kept) in
+      rw (one-line q (p .have) line (h .kept) e)
+      (x .prints [] ∙ ap (λ (y : List ℕ). take (r .at) out′ ++ y) (last-line (r .progress) m′ (x .standing) (x .stands)));
+}
+
+-- and the sums
+pub finished : (p : Progress) (line m out out′ : List ℕ) (r : Ended) (next : ℕ) → InputEnded p line m out r
+    → Put out out′ (r .at) next (lastLine (r .progress .lines) (r .progress .accepted) (r .progress .refused) (r .progress .known))
+    → Finished p line m out′ next
+finished p line m out out′ r next i put = record { room = put .within; prints = λ w q h. put .bytes ∙ sym (i .prints w q h) }

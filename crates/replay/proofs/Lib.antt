@@ -1,0 +1,9 @@
+pub mod Judging
+pub mod Claims
+pub mod Steps
+pub mod Keeping
+pub mod Answering
+pub mod Openings
+pub mod Ending
+pub mod Feeding
+pub mod Finishing

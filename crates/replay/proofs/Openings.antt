@@ -1,0 +1,108 @@
+-- A first line's opening.
+use mathlib.Core.Path.{_≡_, refl, sym, ap, _∙_, subst}
+use mathlib.Core.Bool.{Bool, true, false, cond, _&&_}
+use mathlib.Core.List.{List}
+use mathlib.Core.Option.{Option, none, some}
+use Prim.Native.Nat.{ℕ, _≤_, _<_}
+use native.Mathlib.Omega.{arith}
+use lib.Dec.{leb, ltb}
+use lib.ListN.{length}
+use borrow.Author.Tests.{lt-leb, le-leb, ltb-true, ltb-false}
+use Rattle.wire.specs.declared.Setting.{Setting}
+use Rattle.wire.specs.declared.Checked.{Checked}
+use Rattle.wire.specs.declared.Checked.the-variants.{Good, Bad}
+use Rattle.wire.specs.Settings.{settingOf, checkedOf}
+use Rattle.receiver.specs.declared.Answer.{Answer}
+use Rattle.receiver.specs.declared.Answer.the-variants.{Done, Refused}
+use Rattle.wire.specs.declared.Refusal.{Refusal}
+use Rattle.receiver.specs.History.{memorySize, workingSize, Said, value, refusal}
+use Rattle.receiver.specs.Model.{opened}
+use Rattle.receiver.specs.Promises.{said, opening, Opened}
+use Rattle.receiver.specs.Layout.{Holds, receiverLayout}
+use Rattle.lines.specs.declared.First.{First}
+use Rattle.lines.specs.declared.First.the-variants as first
+use Rattle.lines.specs.Forms.{Values, longest}
+use Rattle.lines.specs.Reading.{on, valuesIn}
+use Rattle.lines.specs.Inner.{valuesOf}
+use Rattle.replay.specs.Replay.{room, fitting, settingWith, settingIn}
+use Rattle.replay.specs.Standing.{Kept}
+use Rattle.replay.specs.Inner.{Opening, OpenedBy}
+
+-- no line that can be kept so opens a receiver
+pub opens-none : {have : ℕ} {line : List ℕ} (m′ : List ℕ) → ((l : List ℕ) → Kept have line l → settingIn l ≡ none) → OpenedBy have line m′ false
+opens-none m′ h = λ l k. subst (λ o. Opening o m′ false) (sym (h l k)) refl
+
+cond-none : (b : Bool) → _≡_ {A = Option Setting} (cond b none none) none
+cond-none true = refl
+cond-none false = refl
+
+-- ---- The setting of a line
+
+-- a line that is too long, one that is not of the form, one whose values opening refuses
+pub long-opens-none : (l : List ℕ) → longest < length l → settingIn l ≡ none
+unfolding settingIn
+long-opens-none l h = rw (lt-leb (length l) longest h)
+
+pub no-values : (x : First) (l : List ℕ) → x ≡ first.NoValues → valuesOf x ≡ valuesIn l → settingIn l ≡ none
+unfolding settingIn
+no-values x l e h = let n : valuesIn l ≡ none = sym h ∙ ap valuesOf e in rw n (cond-none (leb (length l) longest))
+
+pub with-values : (x : First) (l : List ℕ) (a b c : ℕ) → x ≡ first.Values a b c → valuesOf x ≡ valuesIn l
+    → settingIn l ≡ cond (leb (length l) longest) (on (settingOf a b c) fitting) none
+unfolding settingIn
+with-values x l a b c e h = let n : valuesIn l ≡ some (record { scheme = a; size = b; width = c }) = sym h ∙ ap valuesOf e in rw n
+
+pub no-setting : (l : List ℕ) (a b c : ℕ) (x : Checked) → settingIn l ≡ cond (leb (length l) longest) (on (settingOf a b c) fitting) none
+    → x ≡ Bad → x ≡ checkedOf (settingOf a b c) → settingIn l ≡ none
+no-setting l a b c x e h k = e ∙ go (settingOf a b c) (sym k ∙ h)
+  where
+    go : (o : Option Setting) → checkedOf o ≡ Bad → cond (leb (length l) longest) (on o fitting) none ≡ none
+    go none q = cond-none (leb (length l) longest)
+    go (some s) q = let z : _≡_ {A = ℕ} 0 1 = cc in absurd (omega arith)
+
+pub good-setting : (a b c : ℕ) (x : Checked) (s : Setting) → x ≡ Good s → x ≡ checkedOf (settingOf a b c) → settingOf a b c ≡ some s
+good-setting a b c x s h k = go (settingOf a b c) (sym k ∙ h)
+  where
+    go : (o : Option Setting) → checkedOf o ≡ Good s → o ≡ some s
+    go none q = let z : _≡_ {A = ℕ} 0 1 = cc in absurd (omega arith)
+    go (some s′) q = let z : s′ ≡ s = cc in ap some z
+
+-- ---- Its memories
+
+and-false : (b : Bool) → b && false ≡ false
+and-false true = refl
+and-false false = refl
+
+pub large-working : (s : Setting) → room < workingSize s → fitting s ≡ none
+large-working s h = rw (lt-leb (workingSize s) room h, and-false (leb (memorySize s) room))
+
+pub large-memory : (s : Setting) → room < memorySize s → fitting s ≡ none
+large-memory s h = rw (lt-leb (memorySize s) room h)
+
+pub both-fit : (s : Setting) → memorySize s ≤ room → workingSize s ≤ room → fitting s ≡ some s
+both-fit s h k = rw (le-leb (memorySize s) room h, le-leb (workingSize s) room k)
+
+pub not-fitting : (l : List ℕ) (a b c : ℕ) (s : Setting) → settingIn l ≡ cond (leb (length l) longest) (on (settingOf a b c) fitting) none
+    → settingOf a b c ≡ some s → fitting s ≡ none → settingIn l ≡ none
+not-fitting l a b c s e g f = e ∙ rw (g, f) (cond-none (leb (length l) longest))
+
+-- ---- What opening answered
+
+pub open-refused : (a : Answer) (r : Refusal) (s : Setting) (n : ℕ) → a ≡ Refused r → said a ≡ opening (some s) n → n < memorySize s
+open-refused a r s n e h = go (ltb n (memorySize s)) refl (sym (ap said e) ∙ h)
+  where
+    go : (b : Bool) → ltb n (memorySize s) ≡ b → said (Refused r) ≡ cond b (refusal 2) (value 0) → n < memorySize s
+    go true t q = ltb-true n (memorySize s) t
+    go false t q = let z : _≡_ {A = ℕ} 0 1 = cc in absurd (omega arith)
+
+pub open-done : (a : Answer) (k : ℕ) (s : Setting) (n : ℕ) → a ≡ Done k → said a ≡ opening (some s) n → (memorySize s ≤ n) × (said a ≡ value 0)
+open-done a k s n e h = go (ltb n (memorySize s)) refl (sym (ap said e) ∙ h)
+  where
+    go : (b : Bool) → ltb n (memorySize s) ≡ b → said (Done k) ≡ cond b (refusal 2) (value 0) → (memorySize s ≤ n) × (said a ≡ value 0)
+    go true t q = let z : _≡_ {A = ℕ} 0 1 = cc in absurd (omega arith)
+    go false t q = (ltb-false n (memorySize s) t, ap said e ∙ q)
+
+-- the line opens the receiver
+pub opens : {have : ℕ} {line : List ℕ} (m′ : List ℕ) (s : Setting) → ((l : List ℕ) → Kept have line l → settingIn l ≡ some s) → Holds m′ s (opened s)
+    → OpenedBy have line m′ true
+opens m′ s h held = λ l k. subst (λ o. Opening o m′ true) (sym (h l k)) (refl, held)

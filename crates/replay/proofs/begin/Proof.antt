@@ -1,0 +1,18 @@
+-- `replay::begin` meets its contract.
+use mathlib.Core.Path.{refl}
+use mathlib.Core.List.{[]}
+use native.Mathlib.Omega.{arith}
+use Rattle.replay.specs.Replay.{accepted, refused, known}
+use Rattle.replay.proofs.Keeping.{kept-none}
+use Rattle.replay.proofs.begin.Statement.{statement}
+use Rattle.replay.proofs.begin.Tie as tie
+
+returns : tie.Need-returns
+unfolding accepted refused known
+returns c = λ line m. record {
+  stands = (refl, record { lines = refl; accepts = refl; refuses = refl; knows = refl; few = omega arith; small = omega arith });
+  kept = kept-none line;
+}
+
+pub begin-spec : {M : Type 1} → statement M
+begin-spec = tie.close (tie.spec returns)

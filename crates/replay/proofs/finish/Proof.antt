@@ -1,0 +1,16 @@
+-- `replay::finish` meets its contract.
+use Rattle.replay.proofs.Finishing.{finished}
+use borrow.Author.Needs.{needs}
+use Rattle.replay.proofs.finish.Statement.{statement}
+use Rattle.replay.proofs.finish.Tie as tie
+
+returns : tie.Need-returns
+returns c = finished _ _ _ _ _ _ _ (c .before .before .before .end-unended .ensures) (c .put-last .ensures)
+
+pub finish-spec : {M : Type 1} → statement M
+finish-spec =
+    tie.close
+    (tie.spec
+    (λ c κs. search needs)
+    (λ c κs. search needs)
+    returns)

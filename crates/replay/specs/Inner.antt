@@ -1,0 +1,109 @@
+-- Contracts of inner functions.
+use mathlib.Core.Path.{_≡_}
+use mathlib.Core.Bool.{Bool, true, false}
+use mathlib.Core.List.{List, [], _∷_, _++_}
+use mathlib.Core.Option.{Option, none, some}
+use Prim.Native.Nat.{ℕ, _+_, _≤_, _<_}
+use lib.ListN.{length, take}
+use Rattle.wire.specs.declared.Setting.{Setting}
+use Rattle.receiver.specs.Model.{State, opened}
+use Rattle.receiver.specs.Layout.{Holds}
+use Rattle.printing.specs.Printed.{lastLine}
+use Rattle.lines.specs.Lines.{linesFrom}
+use Rattle.lines.specs.Reading.{callIn}
+use Rattle.replay.specs.declared.Record.{Record}
+use Rattle.replay.specs.declared.Stage.{Stage}
+use Rattle.replay.specs.declared.Stage.the-variants.{Working}
+use Rattle.replay.specs.declared.Progress.{Progress}
+use Rattle.replay.specs.declared.Pass.{Pass}
+use Rattle.replay.specs.declared.Ended.{Ended}
+use Rattle.replay.specs.Replay.{most, recordAt, stateAt, settingIn}
+use Rattle.replay.specs.Standing.{Standing, opening, closed, working, toCome, Counts, Stands, Kept}
+use Rattle.replay.specs.Promises.{Held}
+
+-- more bytes of a line are kept
+abbrev pub KeptMore : (have have′ : ℕ) (line line′ bytes : List ℕ) → Type 0
+KeptMore have have′ line line′ bytes = (q : List ℕ) → Kept have line q → Kept have′ line′ (q ++ bytes)
+
+-- a first line opened a receiver in m′, or did not
+abbrev pub Opening : Option Setting → (m′ : List ℕ) → Bool → Type 0
+Opening none m′ r = r ≡ false
+Opening (some s) m′ r = (r ≡ true) × Holds m′ s (opened s)
+
+abbrev pub OpenedBy : (have : ℕ) (line m′ : List ℕ) → Bool → Type 0
+OpenedBy have line m′ r = (l : List ℕ) → Kept have line l → Opening (settingIn l) m′ r
+
+-- a packet line was answered
+pub record Answered (have : ℕ) (line m m′ : List ℕ) (r : Record) : Type 0 where
+  pub small : r .known ≤ 65535
+  -- a line that is not of the form does not touch the receiver
+  pub other : (l : List ℕ) → Kept have line l → callIn l ≡ none → m′ ≡ m
+  pub answer : (l : List ℕ) (s : Setting) (t : State s) → Kept have line l → Holds m s t
+      → (r ≡ recordAt s t (callIn l)) × Holds m′ s (stateAt s t (callIn l))
+
+-- a record was counted
+pub record Counted (p : Progress) (r : Record) (p′ : Progress) : Type 0 where
+  pub stage : p′ .stage ≡ Working
+  pub have : p′ .have ≡ 0
+  pub counts : (rs : List Record) → Counts p rs → length rs < most → r .known ≤ 65535 → Counts p′ (rs ++ (r ∷ []))
+
+-- a progress in a stage, with so many bytes kept
+abbrev pub movedTo : Progress → Stage → (have : ℕ) → Progress
+movedTo p stage have =
+    record { stage = stage; have = have; lines = p .lines; accepted = p .accepted; refused = p .refused; known = p .known }
+
+-- the memories that are lent
+pub record Lent (line m v packet : List ℕ) : Type 0 where
+  pub characters : 8192 ≤ length line
+  pub memory : length m ≡ 65536
+  pub working : length v ≡ 65536
+  pub bytes : 4096 ≤ length packet
+
+-- a capture that stood at w before the line l stands somewhere after it: what was to be printed is what is written and what is still to be printed
+pub record Passed (w : Standing) (l before after : List ℕ) (p′ : Progress) (m′ : List ℕ) : Type 0 where
+  pub standing : Standing
+  pub stands : Stands p′ m′ standing
+  pub prints : (ls : List (List ℕ)) → before ++ toCome w (l ∷ ls) ≡ after ++ toCome standing ls
+
+-- the first line has ended
+pub record FirstEnded (p : Progress) (line m m′ : List ℕ) (r : Progress) : Type 0 where
+  pub have : r .have ≡ 0
+  pub goes : (l : List ℕ) → Counts p [] → Kept (p .have) line l → Passed opening l [] [] r m′
+
+-- a line has ended, of a capture that stood at one of these
+pub record EndedAt (At : Standing → Type 0) (p : Progress) (line m m′ out out′ : List ℕ) (at : ℕ) (r : Ended) : Type 0 where
+  pub room : r .at ≤ at + 78
+  pub have : r .progress .have ≡ 0
+  pub goes : (w : Standing) (l : List ℕ) → At w → Stands p m w → Kept (p .have) line l → Passed w l (take at out) (take (r .at) out′) (r .progress) m′
+
+abbrev pub AtPackets : Standing → Type 0
+AtPackets opening = ⊥
+AtPackets closed = ⊥
+AtPackets (working s t rs) = Unit {0}
+
+abbrev pub PacketEnded : (p : Progress) (line m m′ out out′ : List ℕ) (at : ℕ) (r : Ended) → Type 0
+PacketEnded = EndedAt AtPackets
+
+abbrev pub LineEnded : (p : Progress) (line m m′ out out′ : List ℕ) (at : ℕ) (r : Ended) → Type 0
+LineEnded = EndedAt (λ w. Unit {0})
+
+-- a capture goes on, with what is written before and after
+pub record GoesFrom (w : Standing) (q before taken after : List ℕ) (p′ : Progress) (line′ m′ : List ℕ) : Type 0 where
+  pub standing : Standing
+  pub unended : List ℕ
+  pub held : Held p′ line′ m′ standing unended
+  pub prints : (z : List ℕ) → before ++ toCome w (linesFrom q (taken ++ z)) ≡ after ++ toCome standing (linesFrom unended z)
+
+-- a line was taken, as far as the piece of the input has it
+pub record LineFed (p : Progress) (line line′ m m′ input out out′ : List ℕ) (at : ℕ) (r : Pass) : Type 0 where
+  pub taken : r .taken ≤ length input
+  pub moves : 0 < length input → 0 < r .taken
+  pub room : r .written ≤ at + 78
+  pub goes : (w : Standing) (q : List ℕ) → Held p line m w q
+      → GoesFrom w q (take at out) (take (r .taken) input) (take (r .written) out′) (r .progress) line′ m′
+
+-- the input has ended
+pub record InputEnded (p : Progress) (line m out′ : List ℕ) (r : Ended) : Type 0 where
+  pub room : r .at ≤ 78
+  pub prints : (w : Standing) (q : List ℕ) → Held p line m w q
+      → toCome w (linesFrom q []) ≡ take (r .at) out′ ++ lastLine (r .progress .lines) (r .progress .accepted) (r .progress .refused) (r .progress .known)

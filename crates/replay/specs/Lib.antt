@@ -1,0 +1,5 @@
+pub mod Replay
+pub mod Claims
+pub mod Standing
+pub mod Promises
+pub mod Inner
