@@ -1,0 +1,20 @@
+-- `capture::print_last` is safe and ends.
+use lib.Seq.{length-take-le}
+use mathlib.Core.Path.{sym}
+use borrow.Author.Needs.{needs}
+use Rattle.capture.proofs.print_last.Statement.{statement}
+use Rattle.capture.proofs.print_last.Tie as tie
+
+slice-aggregate-print : tie.Need-slice-aggregate-print
+slice-aggregate-print c = sym (length-take-le _ _ (c .before .finish .ensures .room))
+
+pub print-last-spec : {M : Type 1} → statement M
+print-last-spec =
+    tie.close
+    (tie.spec
+    (λ c κs. search needs)
+    (λ c κs. search needs)
+    (λ c. search needs)
+    slice-aggregate-print
+    (λ c κs. search needs)
+    (λ c. search needs))
