@@ -2,6 +2,7 @@
 #![allow(dead_code)]
 
 pub mod pair;
+pub mod program;
 
 // The crate's own link to the library serves these declarations too.
 use rlc8681 as _;

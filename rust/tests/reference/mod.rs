@@ -1,9 +1,11 @@
-//! A second sender and a second receiver, written from documents 01 and 02 and RFC 8681 alone, for the tests to hold the library against.
+//! A second sender and a second receiver, written from documents 01 and 02 and RFC 8681 alone, for the tests to hold the library against, and
+//! what the program that works through a capture prints over that receiver.
 //!
 //! Nothing here is fast or small. Positions are whole numbers that never wrap, products are computed by shifting and adding, and the
 //! receiver keeps every equation that it ever accepted.
 #![allow(dead_code, unused_imports)]
 
+pub mod capture;
 pub mod coefficients;
 pub mod dense;
 pub mod equations;
