@@ -1,7 +1,5 @@
 // What the printing programs share: numbers, bytes in hexadecimal and refusals on standard output, and calls whose answers are printed.
-ghost use mathlib.Core.Path.{_≡_};
 ghost use Prim.Native.Nat.{_<_};
-ghost use Rattle.wire.specs.Numbers.{numberOf};
 use libc::STDOUT_FILENO;
 use receiver::Answer;
 use receiver::PacketAnswer;
@@ -40,31 +38,9 @@ pub fn print_bytes(bytes: &[u8]) {
     }
 }
 
-// Document 01's number of a refusal.
-fn number(refusal: Refusal) -> usize
-    ensures { λ r. ⌜ r ≡ numberOf refusal ⌝ }
-{
-    match refusal {
-        Refusal::Values => 1,
-        Refusal::Short => 2,
-        Refusal::Unopened => 3,
-        Refusal::Long => 4,
-        Refusal::Form => 5,
-        Refusal::Range => 6,
-        Refusal::Empty => 7,
-        Refusal::Behind => 8,
-        Refusal::Ahead => 9,
-        Refusal::Draws => 10,
-        Refusal::Contradiction => 11,
-        Refusal::Unknown => 12,
-        Refusal::NoStart => 13,
-        Refusal::Padding => 14,
-    }
-}
-
 pub fn print_refusal(refusal: Refusal) {
     print(b" refusal");
-    print_number(number(refusal));
+    print_number(wire::refusal_number(refusal) as usize);
 }
 
 // What opening a sender or adding an ADU answered.
