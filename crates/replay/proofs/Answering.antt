@@ -1,13 +1,11 @@
 -- A packet line's answer, and a first line's opening.
 use mathlib.Core.Path.{_≡_, refl, sym, ap, _∙_, subst}
-use mathlib.Core.Bool.{Bool, true, false, cond}
-use mathlib.Core.List.{List, []}
+use mathlib.Core.List.{List}
 use mathlib.Core.Option.{Option, none, some, Option·none-ne-some}
 use Prim.Native.Nat.{ℕ, _≤_, _<_}
 use native.Mathlib.Omega.{arith}
-use lib.Dec.{leb}
 use lib.ListN.{length}
-use borrow.Author.Tests.{lt-leb, le-leb}
+use borrow.Author.Tests.{lt-leb}
 use Rattle.memory.specs.Part.{part}
 use Rattle.wire.specs.declared.Setting.{Setting}
 use Rattle.receiver.specs.declared.PacketAnswer.{PacketAnswer}
@@ -25,7 +23,6 @@ use Rattle.replay.specs.declared.Record.{Record}
 use Rattle.replay.specs.Replay.{room, recordOf, malformed, recordAt, stateAt}
 use Rattle.replay.specs.Standing.{Kept}
 use Rattle.replay.specs.Inner.{Answered}
-use Rattle.replay.proofs.Keeping.{kept-long}
 
 -- ---- Packet lines
 

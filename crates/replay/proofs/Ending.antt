@@ -1,9 +1,9 @@
 -- What a line's end makes of a capture's standing.
-use mathlib.Core.Path.{_≡_, refl, sym, ap, _∙_, subst}
+use mathlib.Core.Path.{_≡_, refl, sym, ap, subst}
 use mathlib.Core.Bool.{Bool, true, false, cond}
 use mathlib.Core.List.{List, [], _∷_, _++_, append-assoc}
 use mathlib.Core.Option.{Option, none, some}
-use Prim.Native.Nat.{ℕ, _+_, _-_, _*_, _%_, _^_, _≤_, _<_}
+use Prim.Native.Nat.{ℕ, _+_, _-_, _%_, _^_, _≤_, _<_}
 use native.Mathlib.Omega.{arith}
 use lib.Dec.{eqb}
 use lib.ListN.{length, take, length-append}
@@ -19,7 +19,7 @@ use Rattle.replay.specs.declared.Stage.the-variants.{Opening, Working, C
 use Rattle.replay.specs.declared.Progress.{Progress}
 use Rattle.replay.specs.declared.Ended.{Ended}
 use Rattle.replay.specs.Replay.{most, accepted, refused, known, recordAt, stateAt, settingIn}
-use Rattle.replay.specs.Standing.{Standing, opening, closed, working, toCome, Counts, Works, Stands, Kept}
+use Rattle.replay.specs.Standing.{Standing, opening, closed, working, toCome, Counts, Stands, Kept}
 use Rattle.replay.specs.Inner.{OpenedBy, Answered, Counted, movedTo, Passed, FirstEnded, PacketEnded, LineEnded}
 use Rattle.replay.specs.Inner as inner
 use Rattle.replay.proofs.Steps.{all-counted, accepted-more, refused-more, known-more, line-read, line-past, line-opens, line-bad}

@@ -18,7 +18,7 @@ use Rattle.replay.specs.declared.Progress.{Progress}
 use Rattle.replay.specs.declared.Pass.{Pass}
 use Rattle.replay.specs.declared.Ended.{Ended}
 use Rattle.replay.specs.Standing.{Standing, opening, closed, working, toCome, Stands, Kept, isOver}
-use Rattle.replay.specs.Promises.{Held, GoesOn, Fed}
+use Rattle.replay.specs.Promises.{Held, Fed}
 use Rattle.replay.specs.Inner.{KeptMore, movedTo, LineEnded, GoesFrom, LineFed}
 use Rattle.replay.proofs.Keeping.{kept-none}
 use Rattle.replay.proofs.Ending.{moved-counts}

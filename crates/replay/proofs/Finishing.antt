@@ -1,7 +1,7 @@
 -- The input's end.
 use mathlib.Core.Path.{_≡_, refl, sym, ap, _∙_, subst}
 use mathlib.Core.List.{List, [], _∷_, _++_, append-nil}
-use Prim.Native.Nat.{ℕ, zero, suc, _-_, _≤_, _<_}
+use Prim.Native.Nat.{ℕ, zero, suc, _-_}
 use native.Mathlib.Omega.{arith}
 use lib.ListN.{length, take}
 use Rattle.printing.specs.Printed.{lastLine}
@@ -11,7 +11,7 @@ use Rattle.replay.specs.declared.Progress.{Progress}
 use Rattle.replay.specs.declared.Ended.{Ended}
 use Rattle.replay.specs.Replay.{most, accepted, refused, known, recordLines, summary, recordsFrom, printedLines}
 use Rattle.replay.specs.Standing.{Standing, opening, closed, working, toCome, Stands, Kept}
-use Rattle.replay.specs.Promises.{Held, Finished}
+use Rattle.replay.specs.Promises.{Finished}
 use Rattle.replay.specs.Inner.{LineEnded, InputEnded}
 
 take-none : (n : ℕ) → _≡_ {A = List (List ℕ)} (take n []) []

@@ -1,6 +1,6 @@
 -- Each record is what the history asks of its line, and nothing else can be one.
 use mathlib.Core.Path.{_≡_, refl, sym, ap, ap₂, _∙_, subst}
-use mathlib.Core.Logic.{_↔_, _≢_}
+use mathlib.Core.Logic.{_≢_}
 use mathlib.Core.Bool.{Bool, true, false, cond}
 use mathlib.Core.List.{List, [], _∷_}
 use mathlib.Core.Option.{Option, none, some, Option·none-ne-some, Option·some-injective}
@@ -9,19 +9,18 @@ use native.Mathlib.Omega.{arith}
 use lib.Dec.{eqb}
 use borrow.Author.Tests.{ne-eqb}
 use Rattle.wire.specs.declared.Setting.{Setting}
-use Rattle.wire.specs.Settings.{Valid}
 use Rattle.receiver.specs.History.{Call, source-call, repair-call, OfBytes, esiOf, Place, behind, ahead, Reading, fails, located, check, placed}
-use Rattle.receiver.specs.History.{readSource, readRepair, readPacket, reading, Located, Log, Said, value, refusal, readAfter, logged, Judged}
+use Rattle.receiver.specs.History.{readSource, readRepair, reading, Located, Log, Said, value, refusal, readAfter, logged, Judged}
 use Rattle.decoder.specs.Receiver as decoder
-use Rattle.receiver.specs.Model.{packetOf, Joined, State, foundBy, Outcome, refused, done, saidOf, stateAfter, added, responds, answering, receiving}
+use Rattle.receiver.specs.Model.{packetOf, Joined, State, foundBy, saidOf, stateAfter, added, responds, answering, receiving}
 use Rattle.receiver.proofs.Answers.{Tracks, Passes, base-found, judged}
 use Rattle.receiver.proofs.Counting.{judged-once}
 use Rattle.receiver.proofs.Readings.{reading-passes}
 use Rattle.lines.specs.Forms.{Says}
 use Rattle.lines.specs.Reading.{callIn}
-use Rattle.lines.specs.Promises.{Read-exactly}
+use Rattle.lines.proofs.Promises.{read-exactly}
 use Rattle.replay.specs.declared.Record.{Record}
-use Rattle.replay.specs.Replay.{room, recordOf, malformed, recordAt, stateAt, recordsFrom}
+use Rattle.replay.specs.Replay.{room, recordOf, recordAt, stateAt, recordsFrom}
 use Rattle.replay.specs.Claims.{saidBy, loggedBy, Recorded, Records}
 
 -- ---- No refusal has the number 0
@@ -64,7 +63,7 @@ refused-nothing : (a : Said) → recordOf a .answer ≢ 0 → recordOf a .known 
 refused-nothing (value n) h = absurd (h refl)
 refused-nothing (refusal n) h = refl
 
-module _ (exact : Read-exactly) (s : Setting) (some-bytes : 0 < s .size) where
+module _ (s : Setting) (some-bytes : 0 < s .size) where
   -- the answer of a call is numbered
   positive : (t : State s) (c : Call) → Positive (saidOf (receiving s t room c))
   unfolding answering
@@ -97,20 +96,20 @@ module _ (exact : Read-exactly) (s : Setting) (some-bytes : 0 < s .size) where
       → Recorded s log l (recordAt s t o) × Tracks s some-bytes (loggedBy s log o (recordAt s t o)) (stateAt s t o)
   at-line log t l k none e = (
     record {
-      answered = λ c h. absurd (Option·none-ne-some c (sym e ∙ exact .calls l c .1 h));
+      answered = λ c h. absurd (Option·none-ne-some c (sym e ∙ read-exactly .calls l c .1 h));
       nothing = λ h. refl;
       other = λ h. refl;
     },
     k,
   )
   at-line log t l k (some c) e =
-      let says : Says l c = exact .calls l c .0 e in
+      let says : Says l c = read-exactly .calls l c .0 e in
       let a = saidOf (receiving s t room c) in
       let (j, n) = called log t c k (says .bytes) in
       let same : saidBy (recordOf a) ≡ a = told a (positive t c) in (
         record {
           answered = λ c′ h.
-              subst (λ x. Judged s log (readAfter s log room x) (saidBy (recordOf a))) (Option·some-injective _ _ (sym e ∙ exact .calls l c′ .1 h))
+              subst (λ x. Judged s log (readAfter s log room x) (saidBy (recordOf a))) (Option·some-injective _ _ (sym e ∙ read-exactly .calls l c′ .1 h))
               (subst (Judged s log (readAfter s log room c)) (sym same) j);
           nothing = refused-nothing a;
           other = λ h. absurd (h c says);
@@ -147,18 +146,18 @@ same-record r r′ h h′ e =
     let (a, k) = same-numbers (r .answer) (r .known) (r′ .answer) (r′ .known) h h′ e in
     ap₂ (λ (x y : ℕ). record { answer = x; known = y }) a k
 
-module _ (exact : Read-exactly) (s : Setting) where
+module _ (s : Setting) where
   -- a line has one record
   one-line : (log : Log) (l : List ℕ) (o : Option Call) → callIn l ≡ o → (r r′ : Record) → Recorded s log l r → Recorded s log l r′ → r ≡ r′
   one-line log l none e r r′ h h′ =
-      let never : (c : Call) → ¬ Says l c = λ c x. Option·none-ne-some c (sym e ∙ exact .calls l c .1 x) in
+      let never : (c : Call) → ¬ Says l c = λ c x. Option·none-ne-some c (sym e ∙ read-exactly .calls l c .1 x) in
       let a = h .other never in
       let a′ = h′ .other never in
       let n = h .nothing (λ x. omega arith) in
       let n′ = h′ .nothing (λ x. omega arith) in
       ap₂ (λ (x y : ℕ). record { answer = x; known = y }) (a ∙ sym a′) (n ∙ sym n′)
   one-line log l (some c) e r r′ h h′ =
-      let says : Says l c = exact .calls l c .0 e in
+      let says : Says l c = read-exactly .calls l c .0 e in
       same-record r r′ (h .nothing) (h′ .nothing)
       (judged-once s log (readAfter s log room c) (saidBy r) (saidBy r′) (h .answered c says) (h′ .answered c says))
 

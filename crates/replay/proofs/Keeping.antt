@@ -1,9 +1,9 @@
 -- The bytes that are kept of a line that has not ended.
-use mathlib.Core.Path.{_≡_, refl, sym, _∙_}
+use mathlib.Core.Path.{_≡_, refl}
 use mathlib.Core.List.{List, [], _++_}
 use Prim.Native.Nat.{ℕ, _+_, _-_, _≤_, _<_}
 use native.Mathlib.Omega.{arith}
-use lib.ListN.{length, take, length-append}
+use lib.ListN.{length, length-append}
 use Rattle.memory.specs.Part.{part, splice}
 use Rattle.memory.proofs.Parts.{whole}
 use Rattle.printing.proofs.Laws.{put-splice}

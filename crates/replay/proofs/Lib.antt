@@ -7,3 +7,4 @@ pub mod Openings
 pub mod Ending
 pub mod Feeding
 pub mod Finishing
+pub mod Pieces

@@ -15,26 +15,23 @@ use Rattle.wire.specs.Settings.{settingOf, checkedOf}
 use Rattle.receiver.specs.declared.Answer.{Answer}
 use Rattle.receiver.specs.declared.Answer.the-variants.{Done, Refused}
 use Rattle.wire.specs.declared.Refusal.{Refusal}
-use Rattle.receiver.specs.History.{memorySize, workingSize, Said, value, refusal}
+use Rattle.receiver.specs.History.{memorySize, workingSize, value, refusal}
 use Rattle.receiver.specs.Model.{opened}
-use Rattle.receiver.specs.Promises.{said, opening, Opened}
-use Rattle.receiver.specs.Layout.{Holds, receiverLayout}
+use Rattle.receiver.specs.Promises.{said, opening}
+use Rattle.receiver.specs.Layout.{Holds}
 use Rattle.lines.specs.declared.First.{First}
 use Rattle.lines.specs.declared.First.the-variants as first
 use Rattle.lines.specs.Forms.{Values, longest}
 use Rattle.lines.specs.Reading.{on, valuesIn}
 use Rattle.lines.specs.Inner.{valuesOf}
-use Rattle.replay.specs.Replay.{room, fitting, settingWith, settingIn}
+use Rattle.lines.proofs.Options.{cond-same}
+use Rattle.replay.specs.Replay.{room, fitting, settingIn}
 use Rattle.replay.specs.Standing.{Kept}
 use Rattle.replay.specs.Inner.{Opening, OpenedBy}
 
 -- no line that can be kept so opens a receiver
 pub opens-none : {have : ℕ} {line : List ℕ} (m′ : List ℕ) → ((l : List ℕ) → Kept have line l → settingIn l ≡ none) → OpenedBy have line m′ false
 opens-none m′ h = λ l k. subst (λ o. Opening o m′ false) (sym (h l k)) refl
-
-cond-none : (b : Bool) → _≡_ {A = Option Setting} (cond b none none) none
-cond-none true = refl
-cond-none false = refl
 
 -- ---- The setting of a line
 
@@ -45,7 +42,7 @@ long-opens-none l h = rw (lt-leb (length l) longest h)
 
 pub no-values : (x : First) (l : List ℕ) → x ≡ first.NoValues → valuesOf x ≡ valuesIn l → settingIn l ≡ none
 unfolding settingIn
-no-values x l e h = let n : valuesIn l ≡ none = sym h ∙ ap valuesOf e in rw n (cond-none (leb (length l) longest))
+no-values x l e h = let n : valuesIn l ≡ none = sym h ∙ ap valuesOf e in rw n (cond-same (leb (length l) longest) none)
 
 pub with-values : (x : First) (l : List ℕ) (a b c : ℕ) → x ≡ first.Values a b c → valuesOf x ≡ valuesIn l
     → settingIn l ≡ cond (leb (length l) longest) (on (settingOf a b c) fitting) none
@@ -57,7 +54,7 @@ pub no-setting : (l : List ℕ) (a b c : ℕ) (x : Checked) → settingIn l ≡ 
 no-setting l a b c x e h k = e ∙ go (settingOf a b c) (sym k ∙ h)
   where
     go : (o : Option Setting) → checkedOf o ≡ Bad → cond (leb (length l) longest) (on o fitting) none ≡ none
-    go none q = cond-none (leb (length l) longest)
+    go none q = cond-same (leb (length l) longest) none
     go (some s) q = let z : _≡_ {A = ℕ} 0 1 = cc in absurd (omega arith)
 
 pub good-setting : (a b c : ℕ) (x : Checked) (s : Setting) → x ≡ Good s → x ≡ checkedOf (settingOf a b c) → settingOf a b c ≡ some s
@@ -84,7 +81,7 @@ both-fit s h k = rw (le-leb (memorySize s) room h, le-leb (workingSize s) room k
 
 pub not-fitting : (l : List ℕ) (a b c : ℕ) (s : Setting) → settingIn l ≡ cond (leb (length l) longest) (on (settingOf a b c) fitting) none
     → settingOf a b c ≡ some s → fitting s ≡ none → settingIn l ≡ none
-not-fitting l a b c s e g f = e ∙ rw (g, f) (cond-none (leb (length l) longest))
+not-fitting l a b c s e g f = e ∙ rw (g, f) (cond-same (leb (length l) longest) none)
 
 -- ---- What opening answered
 

@@ -1,18 +1,18 @@
 -- What a line's end makes of a standing: what is printed of it, and the sums after it.
-use mathlib.Core.Path.{_≡_, refl, sym, ap, _∙_}
+use mathlib.Core.Path.{_≡_, refl, _∙_}
 use mathlib.Core.Bool.{Bool, true, false, cond}
 use mathlib.Core.List.{List, [], _∷_, _++_, append-assoc}
-use mathlib.Core.Option.{Option, none, some}
-use Prim.Native.Nat.{ℕ, suc, _+_, _-_, _*_, _≤_, _<_}
+use mathlib.Core.Option.{none, some}
+use Prim.Native.Nat.{ℕ, suc, _+_, _-_, _≤_, _<_}
 use native.Mathlib.Omega.{arith}
 use lib.Dec.{eqb}
-use lib.ListN.{length, take, length-append}
+use lib.ListN.{length, length-append}
 use Rattle.wire.specs.declared.Setting.{Setting}
 use Rattle.receiver.specs.Model.{State, opened}
 use Rattle.printing.specs.Printed.{recordLine}
 use Rattle.lines.specs.Reading.{callIn}
 use Rattle.replay.specs.declared.Record.{Record}
-use Rattle.replay.specs.Replay.{most, accepted, refused, known, recordLines, summary, recordAt, stateAt, recordsFrom, settingIn, printedWith, printedLines}
+use Rattle.replay.specs.Replay.{most, accepted, refused, known, recordLines, recordAt, stateAt, recordsFrom, settingIn, printedWith, printedLines}
 use Rattle.replay.specs.Standing.{opening, closed, working, toCome}
 
 -- ---- Sums

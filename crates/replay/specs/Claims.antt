@@ -66,6 +66,6 @@ pub record Prints : Type 0 where
   pub good : (input l : List ℕ) (packets : List (List ℕ)) (s : Setting) → linesOf input ≡ l ∷ packets → Opens l s → Printing s packets (printed input)
   -- a bad first line, or none: only the last line, with zeros
   pub bad : (input l : List ℕ) (packets : List (List ℕ)) → linesOf input ≡ l ∷ packets → ((s : Setting) → ¬ Opens l s) → printed input ≡ lastLine 0 0 0 0
-  pub missing : printed [] ≡ lastLine 0 0 0 0
+  pub missing : (input : List ℕ) → linesOf input ≡ [] → printed input ≡ lastLine 0 0 0 0
   -- nothing but these records can be printed
   pub once : (s : Setting) (ls : List (List ℕ)) (rs rs′ : List Record) → Records s fresh ls rs → Records s fresh ls rs′ → rs ≡ rs′

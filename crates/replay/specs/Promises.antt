@@ -1,7 +1,7 @@
 -- What the calls that work through a capture promise. p is the progress, line the bytes kept of a line that has not ended, m the receiver's memory;
 -- p′, line′, m′ these afterwards.
 use mathlib.Core.Path.{_≡_}
-use mathlib.Core.Bool.{true, false}
+use mathlib.Core.Bool.{false}
 use mathlib.Core.List.{List, [], _++_}
 use Prim.Native.Nat.{ℕ, _≤_, _<_}
 use lib.ListN.{length, take}

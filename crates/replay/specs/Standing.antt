@@ -1,7 +1,7 @@
 -- Where a capture stands after a part of it, and what is still to be printed. The claims need only that such a standing is kept: a reader need not believe it.
 use mathlib.Core.Path.{_≡_}
 use mathlib.Core.Bool.{Bool, true}
-use mathlib.Core.List.{List, [], _∷_, _++_}
+use mathlib.Core.List.{List, [], _++_}
 use Prim.Native.Nat.{ℕ, _+_, _-_, _*_, _≤_, min}
 use lib.Dec.{leb}
 use lib.ListN.{length, take}

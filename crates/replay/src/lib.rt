@@ -5,7 +5,6 @@ ghost use mathlib.Core.Bool.{cond, _&&_, not};
 ghost use Prim.Native.Nat.{_+_, _≤_};
 ghost use lib.Dec.{eqb, ltb, leb};
 ghost use lib.ListN.{length};
-ghost use Rattle.wire.specs.Numbers.{numberOf};
 ghost use Rattle.wire.specs.Settings.{Valid};
 ghost use Rattle.receiver.specs.History.{workingSize};
 ghost use Rattle.receiver.specs.Promises.{said, answerOf};
@@ -19,8 +18,21 @@ use lines::Spoken;
 use receiver::Answer;
 use receiver::PacketAnswer;
 use wire::Checked;
-use wire::Refusal;
 use wire::Setting;
+
+// The most characters that a line has, and what stands for more.
+const LONGEST: usize = 8192;
+
+const TOO_LONG: usize = 8193;
+
+// The most packet lines that are read.
+const MOST: u64 = 1000000;
+
+// The most bytes that a receiver's memory or the working memory may have.
+const ROOM: usize = 65536;
+
+// The answer to a line that is not of the form.
+const MALFORMED: u64 = 15;
 
 // What is printed of a packet line: 0 or the number of the refusal, 15 where the line is not of the form; and how many positions became known.
 pub struct Record {
@@ -59,28 +71,6 @@ struct Ended {
     at: usize,
 }
 
-// Document 01's number of a refusal.
-fn number(refusal: Refusal) -> u64
-    ensures { λ r. ⌜ r ≡ numberOf refusal ⌝ }
-{
-    match refusal {
-        Refusal::Values => 1,
-        Refusal::Short => 2,
-        Refusal::Unopened => 3,
-        Refusal::Long => 4,
-        Refusal::Form => 5,
-        Refusal::Range => 6,
-        Refusal::Empty => 7,
-        Refusal::Behind => 8,
-        Refusal::Ahead => 9,
-        Refusal::Draws => 10,
-        Refusal::Contradiction => 11,
-        Refusal::Unknown => 12,
-        Refusal::NoStart => 13,
-        Refusal::Padding => 14,
-    }
-}
-
 // The record of what a packet call answered.
 fn recorded(answer: PacketAnswer) -> Record
     ensures { λ r. ⌜ r ≡ recordOf (said (answerOf answer)) ⌝ }
@@ -91,7 +81,7 @@ fn recorded(answer: PacketAnswer) -> Record
             known: n as u64,
         },
         PacketAnswer::NotAccepted(refusal) => Record {
-            answer: number(refusal),
+            answer: wire::refusal_number(refusal) as u64,
             known: 0,
         },
     }
@@ -110,11 +100,11 @@ fn keep(line: &mut [u8], have: usize, bytes: &[u8]) -> usize
     requires { ⌜ 8192 ≤ length (now line) ⌝ }
     ensures { λ r. ⌜ KeptMore have r (now (line .entry)) (now (line .exit)) (now (bytes .entry)) ⌝ }
 {
-    if 8192 < have {
-        return 8193;
+    if LONGEST < have {
+        return TOO_LONG;
     }
-    if 8192 - have < bytes.len() {
-        return 8193;
+    if LONGEST - have < bytes.len() {
+        return TOO_LONG;
     }
     memory::copy_part(line, have, bytes, 0, bytes.len());
     have + bytes.len()
@@ -125,7 +115,7 @@ fn open_by(line: &[u8], have: usize, mem: &mut [u8]) -> bool
     requires { ⌜ (8192 ≤ length (now line)) × (length (now mem) ≡ 65536) ⌝ }
     ensures { λ r. ⌜ OpenedBy have (now (line .entry)) (now (mem .exit)) r ⌝ }
 {
-    if 8192 < have {
+    if LONGEST < have {
         return false;
     }
     let First::Values(scheme, size, width) = lines::read_first(memory::part(line, 0, have)) else {
@@ -134,7 +124,7 @@ fn open_by(line: &[u8], have: usize, mem: &mut [u8]) -> bool
     let Checked::Good(setting) = wire::setting_of(scheme, size, width) else {
         return false;
     };
-    if 65536 < working_size(setting) {
+    if ROOM < working_size(setting) {
         return false;
     }
     let Answer::Done(_) = receiver::open(mem, scheme, size, width) else {
@@ -154,9 +144,9 @@ fn answer_line(
     requires { ⌜ (8192 ≤ length (now line)) × (length (now work) ≡ 65536) × (4096 ≤ length (now packet)) ⌝ }
     ensures { λ r. ⌜ Answered have (now (line .entry)) (now (mem .entry)) (now (mem .exit)) r ⌝ }
 {
-    if 8192 < have {
+    if LONGEST < have {
         return Record {
-            answer: 15,
+            answer: MALFORMED,
             known: 0,
         };
     }
@@ -170,7 +160,7 @@ fn answer_line(
             memory::part(packet, 0, n),
         )),
         Spoken::Malformed => Record {
-            answer: 15,
+            answer: MALFORMED,
             known: 0,
         },
     }
@@ -237,7 +227,7 @@ fn end_packet(
     ensures { λ r. ⌜ PacketEnded p (now (line .entry)) (now (mem .entry)) (now (mem .exit)) (now (out .entry)) (now (out .exit)) at r ⌝ }
 {
     let n = p.lines;
-    if 1000000 <= n {
+    if MOST <= n {
         return Ended {
             progress: moved(p, Stage::Working, 0),
             at,
@@ -320,8 +310,8 @@ pub fn is_over(progress: Progress) -> bool
     let stage = progress.stage;
     let lines = progress.lines;
     match stage {
-        Stage::Opening => 1000000 <= lines,
-        Stage::Working => 1000000 <= lines,
+        Stage::Opening => MOST <= lines,
+        Stage::Working => MOST <= lines,
         Stage::Closed => true,
     }
 }

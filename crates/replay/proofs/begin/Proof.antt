@@ -1,6 +1,5 @@
 -- `replay::begin` meets its contract.
 use mathlib.Core.Path.{refl}
-use mathlib.Core.List.{[]}
 use native.Mathlib.Omega.{arith}
 use Rattle.replay.specs.Replay.{accepted, refused, known}
 use Rattle.replay.proofs.Keeping.{kept-none}

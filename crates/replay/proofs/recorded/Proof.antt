@@ -7,7 +7,7 @@ returns : tie.Need-returns
 returns c = rw (c .before .answer .given .1)
 
 returns-2 : tie.Need-returns-2
-returns-2 c = rw (c .before .before .answer2 .given .1, c .number .ensures)
+returns-2 c = rw (c .before .before .answer2 .given .1, c .refusal-number .ensures)
 
 pub recorded-spec : {M : Type 1} → statement M
-recorded-spec = tie.close (tie.spec (λ c. search needs) (λ c. search needs) (λ c κs. search needs) returns returns-2)
+recorded-spec = tie.close (tie.spec (λ c. search needs) (λ c. search needs) (λ c κs. search needs) (λ c. search needs) returns returns-2)

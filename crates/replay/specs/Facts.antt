@@ -1,0 +1,70 @@
+-- Computed from the definitions: document 02's sample, answers of each kind, inputs that end without 0A, and bad first lines.
+use mathlib.Core.Path.{_≡_, refl}
+use mathlib.Core.List.{List, [], _∷_, map}
+use Prim.Native.Nat.{ℕ}
+use Prim.Native.String.{String}
+use Rattle.tinymt.specs.Generator.{computing}
+use Rattle.field.specs.Gf256.{product, inverse, inverse-below}
+use Rattle.memory.specs.Part.{part}
+use Rattle.rows.specs.Combination.{combination}
+use mathlib.Core.Option.{none, some}
+use Rattle.wire.specs.declared.Scheme.the-variants.{Gf2, Gf256}
+use Rattle.wire.specs.Settings.{inRange, settingOf}
+use Rattle.wire.specs.Packets.{symbolCount, adui, sourceSymbols, sourceForm, sourceAdu, sourceEsi}
+use Rattle.wire.specs.Packets.{repairCount, repairForm, repairKey, densityThreshold, protectedCount, firstEsi, repairSymbols}
+use Rattle.coefficients.specs.Coefficients.{nonzeroFrom, bitOf, byteOf, extend, coefficientsOf}
+use Rattle.decoder.specs.Model as model
+use Rattle.decoder.specs.Receiver as decoder
+use Rattle.decoder.specs.Packets as packets
+use Rattle.receiver.specs.History.{placeOf, check, placed, readSource, readRepair, reading}
+use Rattle.receiver.specs.Model.{answering}
+use Rattle.text.specs.Text.{ascii, digit, decimalWithin, decimal}
+use Rattle.printing.specs.Printed.{recordLine, lastLine}
+use Rattle.lines.specs.Lines.{linesFrom}
+use Rattle.lines.specs.Reading.{after, numberFrom, numberIn, valueOf, bytesIn, valuesIn, repairIn, sourceIn, callIn}
+use Rattle.replay.specs.Replay.{accepted, refused, known, recordLines, summary, recordsFrom, settingIn, printedWith, printedLines, printed}
+
+-- what is printed of a text
+abbrev of : String → List ℕ
+of t = printed (ascii t)
+
+-- the sample; a last line without 0A, and an empty line; lines that are not of the form, and a packet without a byte (5); a contradiction (11), after
+-- which the receiver still stands as it was
+pub printings : of "scheme=9 e=4 width=2\nkind=source flow=1 packet=4100000000\nkind=repair packet=0000F0020000000000000003\n"
+    ∷ of "scheme=9 e=4 width=2\n\nkind=source flow=1 packet=4100000000"
+    ∷ of "scheme=10 e=4 width=1\nkind=source flow=256 packet=4100000000\nkind=repair packet=0f\nscheme=10 e=4 width=1\nkind=repair packet=\n"
+    ∷ of "scheme=9 e=4 width=2\nkind=source flow=1 packet=4100000000\nkind=source flow=2 packet=4100000000\nkind=source flow=1 packet=4200000001\n"
+    ∷ []
+    ≡ ascii "n=1 answer=0 known=1\nn=2 answer=0 known=1\nlines=2 accepted=2 refused=0 known=2\n"
+    ∷ ascii "n=1 answer=15 known=0\nn=2 answer=0 known=1\nlines=2 accepted=1 refused=1 known=1\n"
+    ∷ ascii "n=1 answer=15 known=0\nn=2 answer=15 known=0\nn=3 answer=15 known=0\nn=4 answer=5 known=0\nlines=4 accepted=0 refused=4 known=0\n"
+    ∷ ascii "n=1 answer=0 known=1\nn=2 answer=11 known=0\nn=3 answer=0 known=1\nlines=3 accepted=2 refused=1 known=2\n"
+    ∷ []
+unfolding
+    computing product inverse inverse-below nonzeroFrom bitOf byteOf extend coefficientsOf combination
+    symbolCount adui sourceSymbols sourceForm sourceAdu sourceEsi
+    repairCount repairForm repairKey densityThreshold protectedCount firstEsi repairSymbols
+    inRange settingOf part
+    placeOf check placed readSource readRepair reading answering
+    packets.source packets.source-rows packets.row packets.only packets.repair
+    decoder.empty decoder.receive decoder.rise decoder.newly decoder.count-new decoder.is-new
+    decoder.embed decoder.advance-by decoder.insert-all
+    model.insert model.known model.settle model.settle-by model.reduce model.place model.place-free model.lead model.at
+    model.axpy model.scale model.symbol model.push model.extend model.advance
+    digit decimalWithin decimal recordLine lastLine
+    linesFrom after numberFrom numberIn valueOf bytesIn valuesIn repairIn sourceIn callIn
+    accepted refused known recordLines summary recordsFrom settingIn printedWith printedLines
+printings = refl
+
+-- first lines that open a receiver, the memories of the last two being the largest, 65,536 bytes; and bad ones: values that opening refuses, memories that
+-- are too large, a leading zero, two blanks, a number past 64 bits, a byte after the form
+pub firstLines : map (λ t. settingIn (ascii t))
+    ("scheme=9 e=4 width=2" ∷ "scheme=10 e=13 width=247" ∷ "scheme=9 e=1441 width=43"
+    ∷ "scheme=8 e=4 width=2" ∷ "scheme=9 e=3 width=2" ∷ "scheme=9 e=4 width=0" ∷ "scheme=9 e=4 width=256"
+    ∷ "scheme=10 e=14 width=247" ∷ "scheme=9 e=1442 width=43" ∷ "scheme=9 e=4 width=252"
+    ∷ "scheme=09 e=4 width=2" ∷ "scheme=9  e=4 width=2" ∷ "scheme=18446744073709551625 e=4 width=2" ∷ "scheme=9 e=4 width=2\r" ∷ "" ∷ [])
+    ≡ some (record { scheme = Gf2; size = 4; width = 2 }) ∷ some (record { scheme = Gf256; size = 13; width = 247 })
+    ∷ some (record { scheme = Gf2; size = 1441; width = 43 })
+    ∷ none ∷ none ∷ none ∷ none ∷ none ∷ none ∷ none ∷ none ∷ none ∷ none ∷ none ∷ none ∷ []
+unfolding inRange settingOf after numberFrom numberIn valuesIn settingIn
+firstLines = refl
