@@ -8,8 +8,8 @@ use lib.ListN.{length, take, set, length-append, length-take, length-set}
 use lib.Seq.{take-at, take-suc-set}
 use Rattle.memory.specs.Part.{splice}
 use Rattle.memory.proofs.Parts.{length-splice}
-use Rattle.text.specs.Text.{decimal}
-use Rattle.printing.specs.Printed.{recordLine}
+use Rattle.text.specs.Text.{ascii, decimal}
+use Rattle.printing.specs.Printed.{recordLine, lastLine}
 use Rattle.printing.specs.Inner.{Put}
 use Rattle.text.proofs.Decimals.{decimal-length}
 

@@ -4,7 +4,7 @@ use mathlib.Core.List.{List, _++_}
 use Prim.Native.Nat.{ℕ, _+_, _≤_}
 use lib.ListN.{length, take}
 
--- `text` was put into `out` from `at` on, up to `next`, which has left `out′`
+-- `text` was put into `out` from `at` on, up to `next`; `out′` is the buffer afterwards
 pub record Put (out out′ : List ℕ) (at next : ℕ) (text : List ℕ) : Type 0 where
   pub bytes : take next out′ ≡ take at out ++ text
   pub ends : next ≡ at + length text

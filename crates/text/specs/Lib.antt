@@ -1,1 +1,3 @@
 pub mod Text
+pub mod Promises
+pub mod Facts

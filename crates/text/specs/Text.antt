@@ -22,7 +22,7 @@ decimalWithin (suc k) n =
     let more = decimalWithin k (n / 10) ++ (digit (n % 10) ∷ []) in
     cond (ltb n 10) (digit (n % 10) ∷ []) more
 
--- n in decimal: it has fewer than n + 1 digits before the last
+-- n in decimal: n digits before the last are always enough
 unfoldable pub decimal : ℕ → List ℕ
 decimal n = decimalWithin n n
 
