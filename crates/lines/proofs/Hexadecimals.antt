@@ -32,7 +32,7 @@ value-digit d h = go (ltb d 10) refl
         rw (e, le-leb 48 (55 + d) (omega arith), lt-leb (55 + d) 57 (omega arith), within-true 65 70 (55 + d) (omega arith) (omega arith), f)
 
 -- the digit of a value
-digit-value : (b : ℕ) → valueOf b < 16 → digit (valueOf b) ≡ b
+pub digit-value : (b : ℕ) → valueOf b < 16 → digit (valueOf b) ≡ b
 unfolding digit valueOf
 digit-value b h = go (within 48 57 b) refl
   where

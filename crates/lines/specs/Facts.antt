@@ -1,8 +1,8 @@
 -- Computed from how lines are read: document 02's sample, and lines that have not the form.
 use mathlib.Core.Path.{_≡_, refl}
-use mathlib.Core.List.{List, [], _∷_, map}
+use mathlib.Core.List.{[], _∷_, _++_, map}
 use mathlib.Core.Option.{none, some}
-use Prim.Native.String.{String}
+use lib.ListN.{replicate}
 use Rattle.text.specs.Text.{ascii}
 use Rattle.receiver.specs.History.{source-call, repair-call}
 use Rattle.lines.specs.Lines.{linesFrom, linesOf}
@@ -14,6 +14,7 @@ pub ends : linesOf (ascii "a\n\nb") ∷ linesOf (ascii "a\n\n") ∷ linesOf (asc
 unfolding linesFrom
 ends = refl
 
+-- the first line
 pub first : valuesIn (ascii "scheme=9 e=4 width=2") ≡ some (record { scheme = 9; size = 4; width = 2 })
 unfolding after numberFrom numberIn valuesIn
 first = refl
@@ -24,3 +25,17 @@ pub packets : map (λ t. callIn (ascii t))
     ∷ some (repair-call []) ∷ []
 unfolding after numberFrom numberIn valueOf bytesIn repairIn sourceIn callIn
 packets = refl
+
+-- lines that are not of the form: a flow past 255, a leading zero, no flow, a small letter, half a byte, a blank at the end, two blanks, another key, none
+pub others : map (λ t. callIn (ascii t))
+    ("kind=source flow=256 packet=4100000000" ∷ "kind=source flow=01 packet=4100000000" ∷ "kind=source flow= packet=" ∷ "kind=repair packet=0f"
+    ∷ "kind=repair packet=0" ∷ "kind=repair packet=00 " ∷ "kind=repair  packet=00" ∷ "kind=other packet=00" ∷ "" ∷ [])
+    ≡ none ∷ none ∷ none ∷ none ∷ none ∷ none ∷ none ∷ none ∷ none ∷ []
+unfolding after numberFrom numberIn valueOf bytesIn repairIn sourceIn callIn
+others = refl
+
+-- a line of 8,192 characters, and one of 8,193
+pub longestLines : callIn (ascii "kind=source flow=1 packet=" ++ replicate 8166 48) ∷ callIn (ascii "kind=source flow=10 packet=" ++ replicate 8166 48) ∷ []
+    ≡ some (source-call 1 (replicate 4083 0)) ∷ none ∷ []
+unfolding after numberFrom numberIn valueOf bytesIn repairIn sourceIn callIn
+longestLines = refl

@@ -1,8 +1,10 @@
 -- Contracts of the functions that read lines, over how lines are read (Reading).
 use mathlib.Core.Path.{_≡_}
-use mathlib.Core.List.{List}
+use mathlib.Core.Bool.{Bool, true, _&&_}
+use mathlib.Core.List.{List, [], _∷_}
 use mathlib.Core.Option.{Option, none, some}
 use Prim.Native.Nat.{ℕ, _≤_, _<_}
+use lib.Dec.{ltb}
 use lib.ListN.{length, getD, take, drop}
 use Rattle.receiver.specs.History.{Call, source-call, repair-call}
 use Rattle.lines.specs.declared.Number.{Number}
@@ -14,7 +16,11 @@ use Rattle.lines.specs.declared.First.the-variants as first
 use Rattle.lines.specs.declared.Spoken.{Spoken}
 use Rattle.lines.specs.declared.Spoken.the-variants.{Source, Repair, Malformed}
 use Rattle.lines.specs.Forms.{Values}
-use Rattle.lines.specs.Reading.{Numbered}
+use Rattle.lines.specs.Reading.{Numbered, valueOf}
+
+-- no line of the input x ends within its first n bytes
+abbrev pub NoEnd : (x : List ℕ) (n : ℕ) → Type 0
+NoEnd x n = (k : ℕ) → k < n → getD x k 0 ≡ 10 → ⊥
 
 -- the first line of the input x ends at r
 pub record Ends (x : List ℕ) (r : ℕ) : Type 0 where
@@ -35,6 +41,11 @@ Small l most NoNumber = Unit {0}
 pub record NumberRead (l : List ℕ) (most : ℕ) (o : Option Numbered) (r : Number) : Type 0 where
   pub number : numbered l r ≡ o
   pub small : Small l most r
+
+-- whether all bytes of a line are hexadecimal digits
+unfoldable pub allDigits : List ℕ → Bool
+allDigits [] = true
+allDigits (b ∷ l) = ltb (valueOf b) 16 && allDigits l
 
 -- bytes that were read to the front of p
 abbrev pub bytesOf : List ℕ → Packet → Option (List ℕ)

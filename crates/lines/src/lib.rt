@@ -1,11 +1,12 @@
 // The lines of a capture (document 02, No. 4): where a line ends, and what a first line and a packet line say.
 ghost use mathlib.Core.Path.{_≡_};
-ghost use mathlib.Core.Bool.{cond};
+ghost use mathlib.Core.Bool.{false, cond};
 ghost use mathlib.Core.Option.{none, some};
-ghost use Prim.Native.Nat.{_+_, _*_, _≤_};
+ghost use Prim.Native.Nat.{_+_, _*_, _≤_, _<_};
+ghost use lib.Dec.{ltb};
 ghost use lib.ListN.{length, drop};
 ghost use Rattle.lines.specs.Reading.{after, isDigit, numberFrom, numberIn, fieldIn, valueOf, bytesIn, packetIn, valuesIn, callIn};
-ghost use Rattle.lines.specs.Inner.{Ends, NumberRead, BytesRead, valuesOf, CallRead};
+ghost use Rattle.lines.specs.Inner.{NoEnd, Ends, NumberRead, allDigits, BytesRead, valuesOf, CallRead};
 
 // A number and the place after it, or that there is none.
 enum Number {
@@ -13,7 +14,7 @@ enum Number {
     NoNumber,
 }
 
-// How many bytes the digits of a line's end write, or that they write none.
+// How many bytes the digits up to a line's end write, or that they are not digits, two a byte.
 enum Packet {
     Has(usize),
     NoPacket,
@@ -32,11 +33,37 @@ pub enum Spoken {
     Malformed,
 }
 
+// Whether a line ends within the 32 bytes from `at` on. Nothing ends the loop early, so that a machine can look at many bytes at once.
+fn ends_within(input: &[u8], at: usize) -> bool
+    requires { ⌜ at + 32 ≤ length (now input) ⌝ }
+    ensures { λ r. ⌜ (r ≡ false → NoEnd (drop at (now (input .entry))) 32) ⌝ }
+{
+    let mut found = false;
+    for k in 0..32 {
+        found = found | (input[at + k] == 10);
+    }
+    found
+}
+
+// How many bytes at the input's front are passed over, 32 at a time, since no line ends there.
+fn passed_over(input: &[u8]) -> usize
+    ensures { λ r. ⌜ (r ≤ length (now (input .entry))) × NoEnd (now (input .entry)) r ⌝ }
+{
+    let mut i = 0;
+    while 32 <= input.len() - i {
+        if ends_within(input, i) {
+            return i;
+        }
+        i += 32;
+    }
+    i
+}
+
 // Where the first line of the input ends: at its first 0A, or else at the input's end.
 pub fn line_end(input: &[u8]) -> usize
     ensures { λ r. ⌜ Ends (now (input .entry)) r ⌝ }
 {
-    let mut i = 0;
+    let mut i = passed_over(input);
     while i < input.len() {
         if input[i] == 10 {
             return i;
@@ -123,23 +150,41 @@ fn read_field(line: &[u8], at: usize, name: &[u8], most: usize) -> Number
     read_number(line, at + name.len(), most)
 }
 
-// The value of a hexadecimal digit, and 16 for what is none.
-fn value_of(b: u8) -> u8
-    ensures { λ r. ⌜ (r ≡ valueOf b) × (r ≤ 16) ⌝ }
+// Whether a byte is a hexadecimal digit.
+fn is_hexadecimal(b: u8) -> bool
+    ensures { λ r. ⌜ r ≡ ltb (valueOf b) 16 ⌝ }
 {
-    if b < 48 {
-        return 16;
-    }
-    if b <= 57 {
-        return b - 48;
+    if is_digit(b) {
+        return true;
     }
     if b < 65 {
-        return 16;
+        return false;
     }
-    if b <= 70 {
-        return b - 55;
+    b <= 70
+}
+
+// Whether all bytes from `at` on are hexadecimal digits. Nothing ends the loop early, so that a machine can look at many bytes at once.
+fn all_hexadecimal(line: &[u8], at: usize) -> bool
+    requires { ⌜ at ≤ length (now line) ⌝ }
+    ensures { λ r. ⌜ r ≡ allDigits (drop at (now (line .entry))) ⌝ }
+{
+    let mut all = true;
+    for i in at..line.len() {
+        all = all & is_hexadecimal(line[i]);
     }
-    16
+    all
+}
+
+// The byte that two hexadecimal digits write. Both are worked on at once, as the bytes of one number, so that a machine can do many pairs at once; where
+// `^` comes first, LLVM loads both by one instruction. 28784 is 112 in both bytes, which makes 64 + v of a decimal digit of value v and 39 + v of a letter;
+// 10023 is 39 in both, and 25 more is taken off a decimal digit.
+fn byte_of(high: u8, low: u8) -> u8
+    requires { ⌜ (valueOf high < 16) × (valueOf low < 16) ⌝ }
+    ensures { λ r. ⌜ r ≡ valueOf high * 16 + valueOf low ⌝ }
+{
+    let pair = (low as u16 * 256 + high as u16) ^ 28784;
+    let values = pair - 10023 - (pair / 64 & 257) * 25;
+    (values % 256 * 16 + values / 256) as u8
 }
 
 // Reads the bytes that the digits from `at` on write.
@@ -151,17 +196,12 @@ fn read_bytes(line: &[u8], at: usize, packet: &mut [u8]) -> Packet
     if digits % 2 == 1 {
         return Packet::NoPacket;
     }
+    if !all_hexadecimal(line, at) {
+        return Packet::NoPacket;
+    }
     let count = digits / 2;
     for k in 0..count {
-        let high = value_of(line[at + 2 * k]);
-        let low = value_of(line[at + 2 * k + 1]);
-        if 15 < high {
-            return Packet::NoPacket;
-        }
-        if 15 < low {
-            return Packet::NoPacket;
-        }
-        packet[k] = high * 16 + low;
+        packet[k] = byte_of(line[at + 2 * k], line[at + 2 * k + 1]);
     }
     Packet::Has(count)
 }

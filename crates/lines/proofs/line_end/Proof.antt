@@ -1,20 +1,18 @@
 -- `lines::line_end` meets its contract. The loop's invariant: no byte before i is 0A.
-use mathlib.Core.Path.{_≡_}
-use Prim.Native.Nat.{ℕ, _-_, _≤_, _<_}
+use Prim.Native.Nat.{_-_, _≤_}
 use native.Mathlib.Omega.{arith}
-use lib.ListN.{length, getD}
-use borrow.Author.Count.{below-none, below-more}
+use lib.ListN.{length}
+use borrow.Author.Count.{below-more}
+use borrow.Author.Needs.{needs}
+use Rattle.lines.specs.Inner.{NoEnd}
 use Rattle.lines.proofs.line_end.Statement.{statement}
 use Rattle.lines.proofs.line_end.Tie as tie
 
 abbrev Inv-loop : tie.InvT-loop
-Inv-loop input i₀ i = (i ≤ length input) × ((k : ℕ) → k < i → getD input k 0 ≡ 10 → ⊥)
+Inv-loop input i₀ i = (i ≤ length input) × NoEnd input i
 
 abbrev μ-loop : tie.MeasureT-loop
 μ-loop input i₀ i = length input - i
-
-loop-holds : tie.Need-loop-holds Inv-loop μ-loop
-loop-holds c = (omega arith, below-none _)
 
 returns : tie.Need-returns Inv-loop μ-loop
 returns c = record { within = omega arith; before = c .before .before .before .loop .inv .1; found = λ h. c .if1 .taken }
@@ -28,4 +26,14 @@ returns-2 c = record { within = omega arith; before = c .before .loop .inv .1; f
 pub line-end-spec : {M : Type 1} → statement M
 line-end-spec =
     tie.close
-    (tie.spec Inv-loop μ-loop loop-holds (λ c. omega arith) returns (λ c. omega arith) (λ c. omega arith) loop-again returns-2)
+    (tie.spec
+    Inv-loop
+    μ-loop
+    (λ c κs. search needs)
+    (λ c. c .passed-over .ensures)
+    (λ c. omega arith)
+    returns
+    (λ c. omega arith)
+    (λ c. omega arith)
+    loop-again
+    returns-2)
