@@ -11,6 +11,7 @@ mod source;
 
 use coefficients::Filled;
 use elimination::Shape;
+pub use front::working_size;
 use packet::Gathered;
 use packet::PlaceFound;
 use starts::Handed;

@@ -20,7 +20,8 @@ use Rattle.lines.specs.Forms.{longest}
 use Rattle.lines.specs.Inner.{CallRead}
 use Rattle.lines.specs.Reading.{callIn}
 use Rattle.replay.specs.declared.Record.{Record}
-use Rattle.replay.specs.Replay.{room, recordOf, malformed, recordAt, stateAt}
+use Rattle.replay.specs.Records.{room}
+use Rattle.replay.specs.Replay.{recordOf, malformed, recordAt, stateAt}
 use Rattle.replay.specs.Standing.{Kept}
 use Rattle.replay.specs.Inner.{Answered}
 

@@ -18,12 +18,13 @@ use Rattle.receiver.specs.Model.{opened}
 use Rattle.receiver.proofs.Answers.{fresh-tracks}
 use Rattle.text.proofs.Decimals.{decimal-length}
 use Rattle.printing.specs.Printed.{lastLine}
-use Rattle.lines.specs.Lines.{linesFrom, linesOf}
+use Rattle.lines.specs.Lines.{linesOf}
 use Rattle.lines.specs.Forms.{Values, firstLine, longest}
 use Rattle.lines.specs.Reading.{on, valuesIn}
 use Rattle.lines.proofs.Options.{cond-some, on-some}
 use Rattle.lines.proofs.Promises.{read-exactly}
-use Rattle.replay.specs.Replay.{room, most, accepted, refused, known, summary, recordsFrom, fitting, settingWith, settingIn, printedWith, printedLines, printed}
+use Rattle.replay.specs.Records.{room, mostLines, total, summary}
+use Rattle.replay.specs.Replay.{recordsFrom, fitting, settingWith, settingNamed, printedWith, printedLines, printed}
 use Rattle.replay.specs.Claims.{valuesOf, Opens, Printing, Prints}
 use Rattle.replay.proofs.Steps.{all-counted}
 use Rattle.replay.proofs.Judging.{records, records-once}
@@ -39,8 +40,8 @@ fits s s′ e =
 values-of : (v : Values) (s : Setting) → Named (v .scheme) (v .size) (v .width) s → v ≡ valuesOf s
 values-of v s n = λ i. record { scheme = sym (n .scheme) i; size = sym (n .size) i; width = sym (n .width) i }
 
-opens : (l : List ℕ) (s : Setting) → settingIn l ≡ some s → Opens l s
-unfolding settingIn
+opens : (l : List ℕ) (s : Setting) → settingNamed l ≡ some s → Opens l s
+unfolding settingNamed
 opens l s e =
     let (_, e₁) = cond-some (leb (length l) longest) (on (valuesIn l) settingWith) s e in
     let (v, ev, e₂) = on-some (valuesIn l) settingWith s e₁ in
@@ -67,8 +68,8 @@ scheme-small s = go (s .scheme)
     go Gf2 = omega arith
     go Gf256 = omega arith
 
-opened-by : (l : List ℕ) (s : Setting) → Opens l s → settingIn l ≡ some s
-unfolding settingIn
+opened-by : (l : List ℕ) (s : Setting) → Opens l s → settingNamed l ≡ some s
+unfolding settingNamed
 opened-by l s o =
     let v = valuesOf s in
     let a : v .scheme ≤ 1500 = omega (arith, scheme-small s) in
@@ -85,29 +86,29 @@ good : (input l : List ℕ) (packets : List (List ℕ)) (s : Setting) → linesO
 unfolding printedLines printedWith summary
 good input l packets s e o =
     let some-bytes : 0 < s .size = omega (arith, o .valid .size-least) in
-    let rs = recordsFrom s (opened s) (take most packets) in
+    let rs = recordsFrom s (opened s) (take mostLines packets) in
     record {
       records = rs;
       lines = rw (e, opened-by l s o);
-      each = records s some-bytes (take most packets) fresh (opened s) (fresh-tracks s some-bytes);
+      each = records s some-bytes (take mostLines packets) fresh (opened s) (fresh-tracks s some-bytes);
       all = all-counted rs;
     }
 
 none-printed : (packets : List (List ℕ)) → printedWith none packets ≡ lastLine 0 0 0 0
-unfolding printedWith summary accepted refused known
+unfolding printedWith summary total
 none-printed packets = refl
 
 bad : (input l : List ℕ) (packets : List (List ℕ)) → linesOf input ≡ l ∷ packets → ((s : Setting) → ¬ Opens l s)
     → printed input ≡ lastLine 0 0 0 0
 unfolding printedLines
-bad input l packets e never = rw e (go (settingIn l) (λ s h. never s (opens l s h)))
+bad input l packets e never = rw e (go (settingNamed l) (λ s h. never s (opens l s h)))
   where
     go : (o : Option Setting) → ((s : Setting) → ¬ (o ≡ some s)) → printedWith o packets ≡ lastLine 0 0 0 0
     go none h = none-printed packets
     go (some s) h = absurd (h s refl)
 
 pub prints : Prints
-unfolding linesFrom printedLines summary accepted refused known
+unfolding printedLines summary total
 prints = record {
   settings = λ l s. (opens l s, opened-by l s);
   good = good;

@@ -1,14 +1,13 @@
--- What a line's end makes of a capture's standing.
-use mathlib.Core.Path.{_≡_, refl, sym, ap, subst}
+-- What a line's end makes of a capture's standing in memory.
+use mathlib.Core.Path.{_≡_, refl, sym, ap, _∙_, subst}
 use mathlib.Core.Bool.{Bool, true, false, cond}
-use mathlib.Core.List.{List, [], _∷_, _++_, append-assoc}
+use mathlib.Core.List.{List, [], _∷_, _++_, append-nil}
 use mathlib.Core.Option.{Option, none, some}
 use Prim.Native.Nat.{ℕ, _+_, _-_, _%_, _^_, _≤_, _<_}
 use native.Mathlib.Omega.{arith}
 use lib.Dec.{eqb}
 use lib.ListN.{length, take, length-append}
 use Rattle.wire.specs.declared.Setting.{Setting}
-use Rattle.receiver.specs.Model.{State, opened}
 use Rattle.printing.specs.Printed.{recordLine}
 use Rattle.printing.specs.Inner.{Put}
 use Rattle.printing.proofs.Laws.{record-length}
@@ -18,11 +17,11 @@ use Rattle.replay.specs.declared.Stage.{Stage}
 use Rattle.replay.specs.declared.Stage.the-variants.{Opening, Working, Closed}
 use Rattle.replay.specs.declared.Progress.{Progress}
 use Rattle.replay.specs.declared.Ended.{Ended}
-use Rattle.replay.specs.Replay.{most, accepted, refused, known, recordAt, stateAt, settingIn}
-use Rattle.replay.specs.Standing.{Standing, opening, closed, working, toCome, Counts, Stands, Kept}
-use Rattle.replay.specs.Inner.{OpenedBy, Answered, Counted, movedTo, Passed, FirstEnded, PacketEnded, LineEnded}
-use Rattle.replay.specs.Inner as inner
-use Rattle.replay.proofs.Steps.{all-counted, accepted-more, refused-more, known-more, line-read, line-past, line-opens, line-bad}
+use Rattle.replay.specs.Records.{mostLines}
+use Rattle.replay.specs.Replay.{stateAt, settingNamed}
+use Rattle.replay.specs.Standing.{Standing, opening, closed, working, afterLine, printedLine, Counts, Stands, Kept}
+use Rattle.replay.specs.Inner.{OpensOrNot, OpenedBy, Answered, Counted, movedTo, Passed, FirstEnded, AtPackets, PacketEnded, LineEnded}
+use Rattle.replay.proofs.Steps.{total-more, all-counted, line-read, line-past, line-opens}
 
 -- ---- Sums
 
@@ -35,7 +34,7 @@ pub one-or-none : (b : Bool) → (cond b 1 0 ≤ 1) × (cond b 0 1 ≡ 1 - cond 
 one-or-none true = (omega arith, refl)
 one-or-none false = (omega arith, refl)
 
--- a record more
+-- a record more: the sums are far from wrapping
 pub counted : (p : Progress) (r : Record) (p′ : Progress) (a : ℕ) → a ≡ cond (eqb (r .answer) 0) 1 0 → p′ .stage ≡ Working → p′ .have ≡ 0
     → p′ .lines ≡ (p .lines + 1) % 2 ^ 64 → p′ .accepted ≡ (p .accepted + a) % 2 ^ 64 → p′ .refused ≡ (p .refused + (1 - a)) % 2 ^ 64
     → p′ .known ≡ (p .known + r .known) % 2 ^ 64 → Counted p r p′
@@ -48,50 +47,49 @@ counted p r p′ a ea stage have l ac re kn = record {
       let one = one-or-none (eqb (r .answer) 0) in
       record {
         lines = omega (arith, k .lines);
-        accepts = omega (arith, k .accepts, k .few, accepted-more rs r);
-        refuses = omega (arith, k .refuses, k .few, refused-more rs r);
-        knows = omega (arith, k .knows, k .small, k .few, known-more rs r);
+        accepts = omega (arith, k .accepts, k .few, total-more (λ x. cond (eqb (x .answer) 0) 1 0) rs r);
+        refuses = omega (arith, k .refuses, k .few, total-more (λ x. cond (eqb (x .answer) 0) 0 1) rs r);
+        knows = omega (arith, k .knows, k .small, k .few, total-more (λ x. x .known) rs r);
         few = omega arith;
-        small = omega (arith, k .small, known-more rs r);
+        small = omega (arith, k .small, total-more (λ x. x .known) rs r);
       };
 }
 
 -- ---- The first line
 
+-- it opened a receiver, or did not
 pub first-opened : (p r : Progress) (line m m′ : List ℕ) (b : Bool) → OpenedBy (p .have) line m′ b → b ≡ true → r ≡ movedTo p Working 0
     → FirstEnded p line m m′ r
 first-opened p r line m m′ b o t e = record {
   have = ap (λ (x : Progress). x .have) e;
-  goes = λ l k h. subst (λ x. Passed opening l [] [] x m′) (sym e) (go l k (settingIn l) refl (o l h));
+  goes = λ l k h. subst (λ x. Stands x m′ (afterLine opening l)) (sym e) (go l k (settingNamed l) refl (o l h));
 }
   where
-    go : (l : List ℕ) → Counts p [] → (x : Option Setting) → settingIn l ≡ x → inner.Opening x m′ b → Passed opening l [] [] (movedTo p Working 0) m′
+    go : (l : List ℕ) → Counts p [] → (x : Option Setting) → settingNamed l ≡ x → OpensOrNot x m′ b → Stands (movedTo p Working 0) m′ (afterLine opening l)
     go l k none q f = let z : _≡_ {A = ℕ} 0 1 = cc in absurd (omega arith)
-    go l k (some s) q f = record {
-      standing = working s (opened s) [];
-      stands = record { stage = refl; holds = f .1; counts = moved-counts p Working 0 [] k };
-      prints = λ ls. line-opens l ls s q;
-    }
+    go l k (some s) q f =
+        subst (Stands (movedTo p Working 0) m′) (sym (line-opens l (some s) q))
+        (record { stage = refl; holds = f .1; counts = moved-counts p Working 0 [] k })
 
 pub first-closed : (p r : Progress) (line m m′ : List ℕ) (b : Bool) → OpenedBy (p .have) line m′ b → b ≡ false → r ≡ movedTo p Closed 0
     → FirstEnded p line m m′ r
 first-closed p r line m m′ b o t e = record {
   have = ap (λ (x : Progress). x .have) e;
-  goes = λ l k h. subst (λ x. Passed opening l [] [] x m′) (sym e) (go l k (settingIn l) refl (o l h));
+  goes = λ l k h. subst (λ x. Stands x m′ (afterLine opening l)) (sym e) (go l k (settingNamed l) refl (o l h));
 }
   where
-    go : (l : List ℕ) → Counts p [] → (x : Option Setting) → settingIn l ≡ x → inner.Opening x m′ b → Passed opening l [] [] (movedTo p Closed 0) m′
+    go : (l : List ℕ) → Counts p [] → (x : Option Setting) → settingNamed l ≡ x → OpensOrNot x m′ b → Stands (movedTo p Closed 0) m′ (afterLine opening l)
     go l k (some s) q f = let g = f .0 in let z : _≡_ {A = ℕ} 0 1 = cc in absurd (omega arith)
-    go l k none q f = record {
-      standing = closed;
-      stands = (refl, moved-counts p Closed 0 [] k);
-      prints = λ ls. line-bad l ls q;
-    }
+    go l k none q f = subst (Stands (movedTo p Closed 0) m′) (sym (line-opens l none q)) (refl, moved-counts p Closed 0 [] k)
 
 -- ---- A packet line
 
+-- nothing is printed of a line
+silent : (x y : List ℕ) → y ≡ [] → x ≡ x ++ y
+silent x y e = rw (e, append-nil x)
+
 -- the most have been read
-pub packet-past : (p r : Progress) (line m out : List ℕ) (at : ℕ) → most ≤ p .lines → r ≡ movedTo p Working 0
+pub packet-past : (p r : Progress) (line m out : List ℕ) (at : ℕ) → mostLines ≤ p .lines → r ≡ movedTo p Working 0
     → PacketEnded p line m m out out at (record { progress = r; at = at })
 packet-past p r line m out at h e = record {
   room = omega arith;
@@ -99,17 +97,19 @@ packet-past p r line m out at h e = record {
   goes = λ w l a k g. subst (λ x. Passed w l (take at out) (take at out) x m) (sym e) (go w l a k);
 }
   where
-    go : (w : Standing) (l : List ℕ) → inner.AtPackets w → Stands p m w → Passed w l (take at out) (take at out) (movedTo p Working 0) m
+    go : (w : Standing) (l : List ℕ) → AtPackets w → Stands p m w → Passed w l (take at out) (take at out) (movedTo p Working 0) m
     go opening l a k = absurd a
     go closed l a k = absurd a
-    go (working s t rs) l a k = record {
-      standing = working s t rs;
-      stands = record { stage = refl; holds = k .holds; counts = moved-counts p Working 0 rs (k .counts) };
-      prints = λ ls. ap (λ (x : List ℕ). take at out ++ x) (line-past s t rs (l ∷ ls) ls (omega (arith, k .counts .lines)));
-    }
+    go (working s t rs) l a k =
+        let (stays, prints) = line-past s t rs l (omega (arith, k .counts .lines)) in
+        record {
+          stands = subst (Stands (movedTo p Working 0) m) (sym stays)
+              (record { stage = refl; holds = k .holds; counts = moved-counts p Working 0 rs (k .counts) });
+          wrote = silent (take at out) _ prints;
+        }
 
 -- a record is printed
-pub packet-read : (p p′ : Progress) (line m m′ out out′ : List ℕ) (at next : ℕ) (r : Record) → p .lines < most → r .answer < 2 ^ 64 → r .known < 2 ^ 64
+pub packet-read : (p p′ : Progress) (line m m′ out out′ : List ℕ) (at next : ℕ) (r : Record) → p .lines < mostLines → r .answer < 2 ^ 64 → r .known < 2 ^ 64
     → Answered (p .have) line m m′ r → Put out out′ at next (recordLine (p .lines + 1) (r .answer) (r .known)) → Counted p r p′
     → PacketEnded p line m m′ out out′ at (record { progress = p′; at = next })
 packet-read p p′ line m m′ out out′ at next r few ra rk a put c = record {
@@ -118,36 +118,29 @@ packet-read p p′ line m m′ out out′ at next r few ra rk a put c = record {
   goes = go;
 }
   where
-    read : (s : Setting) (t : State s) (rs : List Record) (l : List ℕ) (ls : List (List ℕ)) → length rs < most → p .lines ≡ length rs
-        → r ≡ recordAt s t (callIn l)
-        → toCome (working s t rs) (l ∷ ls)
-        ≡ recordLine (p .lines + 1) (r .answer) (r .known) ++ toCome (working s (stateAt s t (callIn l)) (rs ++ (r ∷ []))) ls
-    read s t rs l ls h n e = rw (n, e) (line-read s t rs l ls h)
-
-    go : (w : Standing) (l : List ℕ) → inner.AtPackets w → Stands p m w → Kept (p .have) line l
-        → Passed w l (take at out) (take next out′) p′ m′
+    go : (w : Standing) (l : List ℕ) → AtPackets w → Stands p m w → Kept (p .have) line l → Passed w l (take at out) (take next out′) p′ m′
     go opening l n k g = absurd n
     go closed l n k g = absurd n
     go (working s t rs) l n k g =
         let (e, held) = a .answer l s t g (k .holds) in
-        let h : length rs < most = omega (arith, k .counts .lines) in
+        let h : length rs < mostLines = omega (arith, k .counts .lines) in
+        let (goes-on, prints) = line-read s t rs l h in
         record {
-          standing = working s (stateAt s t (callIn l)) (rs ++ (r ∷ []));
-          stands = record { stage = c .stage; holds = held; counts = c .counts rs (k .counts) h (a .small) };
-          prints = λ ls. rw (read s t rs l ls h (k .counts .lines) e, put .bytes) (sym (append-assoc (take at out) _ _));
+          stands = subst (Stands p′ m′) (sym goes-on)
+              (subst (λ (x : Record). Stands p′ m′ (working s (stateAt s t (callIn l)) (rs ++ (x ∷ [])))) e
+              (record { stage = c .stage; holds = held; counts = c .counts rs (k .counts) h (a .small) }));
+          wrote = put .bytes ∙ rw (prints, ← e, k .counts .lines);
         }
 
 -- ---- Any line
 
--- stages differ
 pub line-opening : (p r : Progress) (line m m′ out : List ℕ) (at : ℕ) → p .stage ≡ Opening → FirstEnded p line m m′ r
     → LineEnded p line m m′ out out at (record { progress = r; at = at })
+unfolding printedLine
 line-opening p r line m m′ out at e f = record { room = omega arith; have = f .have; goes = go }
   where
     go : (w : Standing) (l : List ℕ) → Unit {0} → Stands p m w → Kept (p .have) line l → Passed w l (take at out) (take at out) r m′
-    go opening l n k g =
-        let x = f .goes l (k .1) g in
-        record { standing = x .standing; stands = x .stands; prints = λ ls. ap (λ (y : List ℕ). take at out ++ y) (x .prints ls) }
+    go opening l n k g = record { stands = f .goes l (k .1) g; wrote = silent (take at out) [] refl }
     go closed l n k g = let q = k .0 in let z : _≡_ {A = ℕ} 0 1 = cc in absurd (omega arith)
     go (working s t rs) l n k g = let q = k .stage in let z : _≡_ {A = ℕ} 0 1 = cc in absurd (omega arith)
 
@@ -155,15 +148,14 @@ pub line-working : (p : Progress) (line m m′ out out′ : List ℕ) (at : ℕ)
     → LineEnded p line m m′ out out′ at r
 line-working p line m m′ out out′ at r e f = record { room = f .room; have = f .have; goes = go }
   where
-    go : (w : Standing) (l : List ℕ) → Unit {0} → Stands p m w → Kept (p .have) line l
-        → Passed w l (take at out) (take (r .at) out′) (r .progress) m′
+    go : (w : Standing) (l : List ℕ) → Unit {0} → Stands p m w → Kept (p .have) line l → Passed w l (take at out) (take (r .at) out′) (r .progress) m′
     go opening l n k g = let q = k .0 in let z : _≡_ {A = ℕ} 0 1 = cc in absurd (omega arith)
     go closed l n k g = let q = k .0 in let z : _≡_ {A = ℕ} 0 1 = cc in absurd (omega arith)
     go (working s t rs) l n k g = f .goes (working s t rs) l tt k g
 
 pub line-closed : (p r : Progress) (line m out : List ℕ) (at : ℕ) → p .stage ≡ Closed → r ≡ movedTo p Closed 0
     → LineEnded p line m m out out at (record { progress = r; at = at })
-unfolding toCome
+unfolding afterLine printedLine
 line-closed p r line m out at e f = record {
   room = omega arith;
   have = ap (λ (x : Progress). x .have) f;
@@ -172,5 +164,5 @@ line-closed p r line m out at e f = record {
   where
     go : (w : Standing) (l : List ℕ) → Stands p m w → Passed w l (take at out) (take at out) (movedTo p Closed 0) m
     go opening l k = let q = k .0 in let z : _≡_ {A = ℕ} 0 1 = cc in absurd (omega arith)
-    go closed l k = record { standing = closed; stands = (refl, moved-counts p Closed 0 [] (k .1)); prints = λ ls. refl }
+    go closed l k = record { stands = (refl, moved-counts p Closed 0 [] (k .1)); wrote = silent (take at out) [] refl }
     go (working s t rs) l k = let q = k .stage in let z : _≡_ {A = ℕ} 0 1 = cc in absurd (omega arith)

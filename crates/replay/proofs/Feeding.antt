@@ -1,7 +1,7 @@
 -- A piece of the input: up to the end of its first line, and line by line.
 use mathlib.Core.Path.{_≡_, refl, sym, ap, _∙_, subst}
 use mathlib.Core.Bool.{Bool, true, false, _&&_, not}
-use mathlib.Core.List.{List, [], _∷_, _++_, append-assoc}
+use mathlib.Core.List.{List, [], _∷_, _++_, append-assoc, append-nil}
 use Prim.Native.Nat.{ℕ, zero, suc, _+_, _-_, _≤_, _<_}
 use native.Mathlib.Numerals.{add-one}
 use native.Mathlib.Omega.{arith}
@@ -17,9 +17,10 @@ use Rattle.lines.proofs.Breaks.{ended, lines-go-on, front-unbroken}
 use Rattle.replay.specs.declared.Progress.{Progress}
 use Rattle.replay.specs.declared.Pass.{Pass}
 use Rattle.replay.specs.declared.Ended.{Ended}
-use Rattle.replay.specs.Standing.{Standing, opening, closed, working, toCome, Stands, Kept, isOver}
-use Rattle.replay.specs.Promises.{Held, Fed}
-use Rattle.replay.specs.Inner.{KeptMore, movedTo, LineEnded, GoesFrom, LineFed}
+use Rattle.replay.specs.Standing.{Standing, opening, closed, working, printedLine, after, printedBy, Stands, Kept}
+use Rattle.replay.specs.Promises.{isOver, Held, GoesFrom, Fed}
+use Rattle.replay.specs.Inner.{KeptMore, movedTo, LineEnded, LineFed}
+use Rattle.replay.proofs.Steps.{after-append, printed-append}
 use Rattle.replay.proofs.Keeping.{kept-none}
 use Rattle.replay.proofs.Ending.{moved-counts}
 
@@ -52,10 +53,11 @@ module _ (p kept : Progress) (line line′ m input bytes : List ℕ) (n have : �
     moves = λ h. omega arith;
     room = omega arith;
     goes = λ w q h. record {
-      standing = w;
+      lines = [];
       unended = q ++ take n input;
+      cut = goes-on q;
       held = kept-held w q h;
-      prints = λ z. rw (goes-on q z);
+      wrote = sym (append-nil (take at out));
     };
   }
 
@@ -78,10 +80,11 @@ module _ (p kept : Progress) (line line′ m input bytes : List ℕ) (n have : �
             let hd = kept-held w q g in
             let x = f .goes w (q ++ take n input) tt (hd .stands) (hd .kept) in
             record {
-              standing = x .standing;
+              lines = (q ++ take n input) ∷ [];
               unended = [];
+              cut = λ z. with-end q z h;
               held = record { stands = x .stands; kept = subst (λ y. Kept y line′ []) (sym (f .have)) (kept-none line′) };
-              prints = λ z. ap (λ (y : List (List ℕ)). take at out ++ toCome w y) (with-end q z h) ∙ x .prints (linesFrom [] z);
+              wrote = x .wrote ∙ ap (λ (y : List ℕ). take at out ++ y) (sym (append-nil (printedLine w (q ++ take n input))));
             };
       }
 
@@ -99,7 +102,7 @@ starts p line m input out = record {
   within = omega arith;
   room = omega arith;
   first = λ _. (refl, refl);
-  goes = λ w q h. record { standing = w; unended = q; held = h; prints = λ z. refl };
+  goes = λ w q h. record { lines = []; unended = q; cut = λ z. refl; held = h; wrote = refl };
 }
 
 -- what is left of the piece
@@ -126,15 +129,18 @@ runs p₀ line₀ m₀ input line line′ m m′ out out′ p taken written r k 
       first = λ e. absurd (omega arith);
       goes = λ w q h.
           let x = k .goes w q h in
-          let y = f .goes (x .standing) (x .unended) (x .held) in
+          let y = f .goes (after w (x .lines)) (x .unended) (x .held) in
           record {
-            standing = y .standing;
+            lines = x .lines ++ y .lines;
             unended = y .unended;
-            held = y .held;
-            prints = λ z.
-                ap (λ (l : List ℕ). toCome w (linesFrom q (l ++ z))) (take-add taken (r .taken) input)
-                ∙ ap (λ (l : List ℕ). toCome w (linesFrom q l)) (append-assoc (take taken input) (take (r .taken) (drop taken input)) z)
-                ∙ x .prints (take (r .taken) (drop taken input) ++ z) ∙ y .prints z;
+            cut = λ z.
+                ap (λ (l : List ℕ). linesFrom q (l ++ z)) (take-add taken (r .taken) input)
+                ∙ ap (linesFrom q) (append-assoc (take taken input) (take (r .taken) (drop taken input)) z)
+                ∙ x .cut (take (r .taken) (drop taken input) ++ z) ∙ ap (λ (ls : List (List ℕ)). x .lines ++ ls) (y .cut z)
+                ∙ sym (append-assoc (x .lines) (y .lines) (linesFrom (y .unended) z));
+            held = subst (λ (v : Standing). Held (r .progress) line′ m′ v (y .unended)) (sym (after-append w (x .lines) (y .lines))) (y .held);
+            wrote = y .wrote ∙ ap (λ (l : List ℕ). l ++ printedBy (after w (x .lines)) (y .lines)) (x .wrote)
+                ∙ sym (printed-append w (x .lines) (y .lines));
           };
     }
 
@@ -163,5 +169,5 @@ fed p₀ line₀ m₀ input line m out p taken written n k e = record {
   taken = k .within;
   written = omega (arith, k .room);
   moves = λ o h. goes taken (length input) written p p₀ e o h (k .first);
-  goes = λ w q h. let x = k .goes w q h in record { standing = x .standing; unended = x .unended; held = x .held; prints = x .prints };
+  goes = k .goes;
 }

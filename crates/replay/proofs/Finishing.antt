@@ -1,30 +1,24 @@
 -- The input's end.
 use mathlib.Core.Path.{_≡_, refl, sym, ap, _∙_, subst}
 use mathlib.Core.List.{List, [], _∷_, _++_, append-nil}
-use Prim.Native.Nat.{ℕ, zero, suc, _-_}
+use Prim.Native.Nat.{ℕ}
 use native.Mathlib.Omega.{arith}
-use lib.ListN.{length, take}
 use Rattle.printing.specs.Printed.{lastLine}
 use Rattle.printing.specs.Inner.{Put}
 use Rattle.lines.specs.Lines.{linesFrom}
 use Rattle.replay.specs.declared.Progress.{Progress}
 use Rattle.replay.specs.declared.Ended.{Ended}
-use Rattle.replay.specs.Replay.{most, accepted, refused, known, recordLines, summary, recordsFrom, printedLines}
-use Rattle.replay.specs.Standing.{Standing, opening, closed, working, toCome, Stands, Kept}
+use Rattle.replay.specs.Records.{summary}
+use Rattle.replay.specs.Standing.{Standing, opening, closed, working, printedLine, lastOf, Stands, Kept}
 use Rattle.replay.specs.Promises.{Finished}
 use Rattle.replay.specs.Inner.{LineEnded, InputEnded}
 
-take-none : (n : ℕ) → _≡_ {A = List (List ℕ)} (take n []) []
-take-none zero = refl
-take-none (suc n) = refl
-
--- with no line to come, the sums are printed
-pub last-line : (p : Progress) (m : List ℕ) (w : Standing) → Stands p m w → toCome w [] ≡ lastLine (p .lines) (p .accepted) (p .refused) (p .known)
-unfolding toCome printedLines summary recordLines recordsFrom
+-- the last line has the sums
+pub last-line : (p : Progress) (m : List ℕ) (w : Standing) → Stands p m w → lastOf w ≡ lastLine (p .lines) (p .accepted) (p .refused) (p .known)
+unfolding lastOf summary
 last-line p m opening k = let c = k .1 in rw (c .lines, c .accepts, c .refuses, c .knows)
 last-line p m closed k = let c = k .1 in rw (c .lines, c .accepts, c .refuses, c .knows)
-last-line p m (working s t rs) k =
-    let c = k .counts in rw (take-none (most - length rs), append-nil rs, c .lines, c .accepts, c .refuses, c .knows)
+last-line p m (working s t rs) k = let c = k .counts in rw (c .lines, c .accepts, c .refuses, c .knows)
 
 -- no byte is kept of a line that has not begun
 begun : (line q : List ℕ) → Kept 0 line q → q ≡ []
@@ -52,8 +46,8 @@ line-left p line m m′ out out′ r e f = record {
   room = f .room;
   prints = λ w q h.
       let x = f .goes w q tt (h .stands) (h .kept) in
-      rw (one-line q (p .have) line (h .kept) e)
-      (x .prints [] ∙ ap (λ (y : List ℕ). take (r .at) out′ ++ y) (last-line (r .progress) m′ (x .standing) (x .stands)));
+      rw (one-line q (p .have) line (h .kept) e, append-nil (printedLine w q), x .wrote)
+      (ap (λ (y : List ℕ). printedLine w q ++ y) (last-line (r .progress) m′ _ (x .stands)));
 }
 
 -- and the sums

@@ -20,7 +20,8 @@ use Rattle.lines.specs.Forms.{Says}
 use Rattle.lines.specs.Reading.{callIn}
 use Rattle.lines.proofs.Promises.{read-exactly}
 use Rattle.replay.specs.declared.Record.{Record}
-use Rattle.replay.specs.Replay.{room, recordOf, recordAt, stateAt, recordsFrom}
+use Rattle.replay.specs.Records.{room}
+use Rattle.replay.specs.Replay.{recordOf, recordAt, stateAt, recordsFrom}
 use Rattle.replay.specs.Claims.{saidBy, loggedBy, Recorded, Records}
 
 -- ---- No refusal has the number 0

@@ -1,6 +1,6 @@
+pub mod Steps
 pub mod Judging
 pub mod Claims
-pub mod Steps
 pub mod Keeping
 pub mod Answering
 pub mod Openings

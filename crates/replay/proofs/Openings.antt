@@ -25,32 +25,33 @@ use Rattle.lines.specs.Forms.{Values, longest}
 use Rattle.lines.specs.Reading.{on, valuesIn}
 use Rattle.lines.specs.Inner.{valuesOf}
 use Rattle.lines.proofs.Options.{cond-same}
-use Rattle.replay.specs.Replay.{room, fitting, settingIn}
+use Rattle.replay.specs.Records.{room}
+use Rattle.replay.specs.Replay.{fitting, settingNamed}
 use Rattle.replay.specs.Standing.{Kept}
-use Rattle.replay.specs.Inner.{Opening, OpenedBy}
+use Rattle.replay.specs.Inner.{OpensOrNot, OpenedBy}
 
 -- no line that can be kept so opens a receiver
-pub opens-none : {have : ℕ} {line : List ℕ} (m′ : List ℕ) → ((l : List ℕ) → Kept have line l → settingIn l ≡ none) → OpenedBy have line m′ false
-opens-none m′ h = λ l k. subst (λ o. Opening o m′ false) (sym (h l k)) refl
+pub opens-none : {have : ℕ} {line : List ℕ} (m′ : List ℕ) → ((l : List ℕ) → Kept have line l → settingNamed l ≡ none) → OpenedBy have line m′ false
+opens-none m′ h = λ l k. subst (λ o. OpensOrNot o m′ false) (sym (h l k)) refl
 
 -- ---- The setting of a line
 
 -- a line that is too long, one that is not of the form, one whose values opening refuses
-pub long-opens-none : (l : List ℕ) → longest < length l → settingIn l ≡ none
-unfolding settingIn
+pub long-opens-none : (l : List ℕ) → longest < length l → settingNamed l ≡ none
+unfolding settingNamed
 long-opens-none l h = rw (lt-leb (length l) longest h)
 
-pub no-values : (x : First) (l : List ℕ) → x ≡ first.NoValues → valuesOf x ≡ valuesIn l → settingIn l ≡ none
-unfolding settingIn
+pub no-values : (x : First) (l : List ℕ) → x ≡ first.NoValues → valuesOf x ≡ valuesIn l → settingNamed l ≡ none
+unfolding settingNamed
 no-values x l e h = let n : valuesIn l ≡ none = sym h ∙ ap valuesOf e in rw n (cond-same (leb (length l) longest) none)
 
 pub with-values : (x : First) (l : List ℕ) (a b c : ℕ) → x ≡ first.Values a b c → valuesOf x ≡ valuesIn l
-    → settingIn l ≡ cond (leb (length l) longest) (on (settingOf a b c) fitting) none
-unfolding settingIn
+    → settingNamed l ≡ cond (leb (length l) longest) (on (settingOf a b c) fitting) none
+unfolding settingNamed
 with-values x l a b c e h = let n : valuesIn l ≡ some (record { scheme = a; size = b; width = c }) = sym h ∙ ap valuesOf e in rw n
 
-pub no-setting : (l : List ℕ) (a b c : ℕ) (x : Checked) → settingIn l ≡ cond (leb (length l) longest) (on (settingOf a b c) fitting) none
-    → x ≡ Bad → x ≡ checkedOf (settingOf a b c) → settingIn l ≡ none
+pub no-setting : (l : List ℕ) (a b c : ℕ) (x : Checked) → settingNamed l ≡ cond (leb (length l) longest) (on (settingOf a b c) fitting) none
+    → x ≡ Bad → x ≡ checkedOf (settingOf a b c) → settingNamed l ≡ none
 no-setting l a b c x e h k = e ∙ go (settingOf a b c) (sym k ∙ h)
   where
     go : (o : Option Setting) → checkedOf o ≡ Bad → cond (leb (length l) longest) (on o fitting) none ≡ none
@@ -79,8 +80,8 @@ large-memory s h = rw (lt-leb (memorySize s) room h)
 pub both-fit : (s : Setting) → memorySize s ≤ room → workingSize s ≤ room → fitting s ≡ some s
 both-fit s h k = rw (le-leb (memorySize s) room h, le-leb (workingSize s) room k)
 
-pub not-fitting : (l : List ℕ) (a b c : ℕ) (s : Setting) → settingIn l ≡ cond (leb (length l) longest) (on (settingOf a b c) fitting) none
-    → settingOf a b c ≡ some s → fitting s ≡ none → settingIn l ≡ none
+pub not-fitting : (l : List ℕ) (a b c : ℕ) (s : Setting) → settingNamed l ≡ cond (leb (length l) longest) (on (settingOf a b c) fitting) none
+    → settingOf a b c ≡ some s → fitting s ≡ none → settingNamed l ≡ none
 not-fitting l a b c s e g f = e ∙ rw (g, f) (cond-same (leb (length l) longest) none)
 
 -- ---- What opening answered
@@ -100,6 +101,6 @@ open-done a k s n e h = go (ltb n (memorySize s)) refl (sym (ap said e) ∙ h)
     go false t q = (ltb-false n (memorySize s) t, ap said e ∙ q)
 
 -- the line opens the receiver
-pub opens : {have : ℕ} {line : List ℕ} (m′ : List ℕ) (s : Setting) → ((l : List ℕ) → Kept have line l → settingIn l ≡ some s) → Holds m′ s (opened s)
+pub opens : {have : ℕ} {line : List ℕ} (m′ : List ℕ) (s : Setting) → ((l : List ℕ) → Kept have line l → settingNamed l ≡ some s) → Holds m′ s (opened s)
     → OpenedBy have line m′ true
-opens m′ s h held = λ l k. subst (λ o. Opening o m′ true) (sym (h l k)) (refl, held)
+opens m′ s h held = λ l k. subst (λ o. OpensOrNot o m′ true) (sym (h l k)) (refl, held)

@@ -1,47 +1,182 @@
--- What is written of a capture in pieces is what is printed of it.
-use mathlib.Core.Path.{_≡_, refl, sym, ap, _∙_}
+-- What is written of a capture in pieces is what is printed of it, and no more is wanted where no more counts.
+use mathlib.Core.Path.{_≡_, refl, sym, ap, _∙_, subst}
 use mathlib.Core.Logic.{_⊎_, ⊎-elim}
-use mathlib.Core.Bool.{true}
+use mathlib.Core.Bool.{Bool, true, false}
+use mathlib.Core.Option.{Option, none, some}
 use mathlib.Core.List.{List, [], _∷_, _++_, append-assoc}
-use Prim.Native.Nat.{ℕ}
+use Prim.Native.Nat.{ℕ, _+_, _≤_, min}
 use native.Mathlib.Omega.{arith}
-use lib.ListN.{take}
-use borrow.Author.Tests.{leb-true}
-use Rattle.lines.specs.Lines.{linesFrom}
+use lib.ListN.{length, take, length-append}
+use lib.Dec.{ltb}
+use lib.Seq.{take-append-seam}
+use borrow.Author.Tests.{leb-true, le-leb, ltb-true, ltb-false}
+use Rattle.wire.specs.declared.Setting.{Setting}
+use Rattle.receiver.specs.Model.{State, opened}
+use Rattle.lines.specs.Lines.{linesFrom, linesOf}
+use Rattle.lines.specs.Reading.{callIn}
+use Rattle.lines.specs.Promises.{Unbroken, AllUnbroken, joined}
+use Rattle.lines.proofs.Breaks.{ended, lines-go-on}
+use Rattle.replay.specs.declared.Record.{Record}
 use Rattle.replay.specs.declared.Progress.{Progress}
-use Rattle.replay.specs.Replay.{most}
-use Rattle.replay.specs.Standing.{Standing, opening, closed, working, toCome, Stands, isOver}
-use Rattle.replay.specs.Promises.{Held}
-use Rattle.replay.specs.Pieces.{Piece, taken, written, Handed, reached, Worked-through}
-use Rattle.replay.proofs.Steps.{line-past}
+use Rattle.replay.specs.Records.{mostLines}
+use Rattle.replay.specs.Replay.{recordAt, stateAt, settingNamed, printedLines}
+use Rattle.replay.specs.Standing.{Standing, opening, closed, working, openedWith, afterLine, printedLine, after, printedBy, lastOf, Stands}
+use Rattle.replay.specs.Claims.{Opens}
+use Rattle.replay.specs.Promises.{isOver, Held, GoesFrom}
+use Rattle.replay.specs.Pieces.{Piece, taken, written, InTurn, reached, lineLeft, memoryLeft, Worked-through, Stops}
+use Rattle.replay.proofs.Steps.{line-read, line-past, after-append, printed-append, printed-by}
+use Rattle.replay.proofs.Claims.{prints}
 
--- where no more is wanted, no more counts
-over : (p : Progress) (m : List ℕ) (w : Standing) → Stands p m w → isOver p ≡ true → (ls ls′ : List (List ℕ)) → toCome w ls ≡ toCome w ls′
-unfolding toCome
-over p m opening k e ls ls′ =
-    let (stage, counts) = k in
-    let f = rw stage at e in
-    absurd (omega (arith, leb-true most (p .lines) f, counts .lines))
-over p m closed k e ls ls′ = refl
-over p m (working s t rs) k e ls ls′ =
-    let stage = k .stage in
-    let f = rw stage at e in
-    line-past s t rs ls ls′ (omega (arith, leb-true most (p .lines) f, k .counts .lines))
-
--- from a standing on
-handed : (xs : List Piece) (p : Progress) (line m : List ℕ) (w : Standing) (q last : List ℕ) (n : ℕ) → Held p line m w q → Handed p line m xs last n
-    → (rest : List ℕ) → (rest ≡ []) ⊎ (isOver (reached p xs) ≡ true) → toCome w (linesFrom q (taken xs ++ rest)) ≡ written xs ++ take n last
-handed [] p line m w q last n h f rest d =
-    ⊎-elim (λ e. rw e (sym (f .prints w q h)))
-    (λ e. over p m w (h .stands) e (linesFrom q rest) (linesFrom q []) ∙ sym (f .prints w q h)) d
-handed (x ∷ xs) p line m w q last n h (f, g) rest d =
-    let y = f .goes w q h in
+-- pieces go on as one
+through : (xs : List Piece) (p : Progress) (line m : List ℕ) (w : Standing) (q : List ℕ) → Held p line m w q → InTurn p line m xs
+    → GoesFrom w q [] (taken xs) (written xs) (reached p xs) (lineLeft line xs) (memoryLeft m xs)
+through [] p line m w q h t = record { lines = []; unended = q; cut = λ z. refl; held = h; wrote = refl }
+through (x ∷ xs) p line m w q h (f, t) =
+    let a = f .goes w q h in
+    let b = through xs (x .pass .progress) (x .line) (x .memory) (after w (a .lines)) (a .unended) (a .held) t in
     let front = take (x .pass .taken) (x .input) in
-    ap (λ (z : List ℕ). toCome w (linesFrom q z)) (append-assoc front (taken xs) rest) ∙ y .prints (taken xs ++ rest)
-    ∙ ap (λ (z : List ℕ). take (x .pass .written) (x .output) ++ z)
-    (handed xs (x .pass .progress) (x .line) (x .memory) (y .standing) (y .unended) last n (y .held) g rest d)
-    ∙ sym (append-assoc (take (x .pass .written) (x .output)) (written xs) (take n last))
+    record {
+      lines = a .lines ++ b .lines;
+      unended = b .unended;
+      cut = λ z.
+          ap (linesFrom q) (append-assoc front (taken xs) z) ∙ a .cut (taken xs ++ z) ∙ ap (λ (ls : List (List ℕ)). a .lines ++ ls) (b .cut z)
+          ∙ sym (append-assoc (a .lines) (b .lines) (linesFrom (b .unended) z));
+      held = subst (λ (v : Standing). Held (reached p (x ∷ xs)) (lineLeft line (x ∷ xs)) (memoryLeft m (x ∷ xs)) v (b .unended))
+          (sym (after-append w (a .lines) (b .lines))) (b .held);
+      wrote = ap (λ (l : List ℕ). l ++ written xs) (a .wrote) ∙ ap (λ (l : List ℕ). printedBy w (a .lines) ++ l) (b .wrote)
+          ∙ sym (printed-append w (a .lines) (b .lines));
+    }
+
+-- ---- Where no more counts
+
+-- a standing that no line changes
+pub record Still (w : Standing) : Type 0 where
+  pub stays : (l : List ℕ) → afterLine w l ≡ w
+  pub silent : (l : List ℕ) → printedLine w l ≡ []
+
+closed-still : Still closed
+unfolding afterLine printedLine
+closed-still = record { stays = λ l. refl; silent = λ l. refl }
+
+over-still : (p : Progress) (m : List ℕ) (w : Standing) → Stands p m w → isOver p ≡ true → Still w
+over-still p m opening k e =
+    let f = rw (k .0) at e in
+    let z : _≡_ {A = ℕ} 0 1 = cc in absurd (omega arith)
+over-still p m closed k e = closed-still
+over-still p m (working s t rs) k e =
+    let f = rw (k .stage) at e in
+    let h : mostLines ≤ length rs = omega (arith, leb-true mostLines (p .lines) f, k .counts .lines) in
+    record { stays = λ l. line-past s t rs l h .0; silent = λ l. line-past s t rs l h .1 }
+
+still-after : (w : Standing) → Still w → (ls : List (List ℕ)) → (after w ls ≡ w) × (printedBy w ls ≡ [])
+still-after w k [] = (refl, refl)
+still-after w k (l ∷ ls) =
+    let (a, b) = still-after w k ls in
+    (ap (λ (v : Standing). after v ls) (k .stays l) ∙ a, rw (k .silent l, k .stays l) b)
+
+-- what is printed of lines to come, where no more counts or they are the same
+same-end : (w : Standing) (ls ls′ : List (List ℕ)) → Still w → printedBy w ls ++ lastOf (after w ls) ≡ printedBy w ls′ ++ lastOf (after w ls′)
+same-end w ls ls′ k =
+    let (a, b) = still-after w k ls in
+    let (c, d) = still-after w k ls′ in
+    rw (a, b, c, d)
 
 pub worked-through : Worked-through
-unfolding toCome
-worked-through p line m xs last n b h rest d = sym (handed xs p line m opening [] last n (b line m) h rest d)
+worked-through p line m xs b t last n f rest d =
+    let g = through xs p line m opening [] (b line m) t in
+    let w = after opening (g .lines) in
+    let ls = linesFrom (g .unended) rest in
+    let end : printedBy w ls ++ lastOf (after w ls) ≡ take n last =
+    ⊎-elim (λ e. ap (λ (z : List ℕ). printedBy w (linesFrom (g .unended) z) ++ lastOf (after w (linesFrom (g .unended) z))) e ∙ sym (f .prints w (g .unended) (g .held)))
+    (λ e. same-end w ls (linesFrom (g .unended) []) (over-still (reached p xs) (memoryLeft m xs) w (g .held .stands) e)
+    ∙ sym (f .prints w (g .unended) (g .held))) d in
+    sym
+    (ap printedLines (g .cut rest) ∙ printed-by (g .lines ++ ls)
+    ∙ ap (λ (v : Standing). printedBy opening (g .lines ++ ls) ++ lastOf v) (after-append opening (g .lines) ls)
+    ∙ ap (λ (x : List ℕ). x ++ lastOf (after w ls)) (printed-append opening (g .lines) ls)
+    ∙ append-assoc (printedBy opening (g .lines)) (printedBy w ls) (lastOf (after w ls))
+    ∙ ap (λ (x : List ℕ). printedBy opening (g .lines) ++ x) end ∙ ap (λ (x : List ℕ). x ++ take n last) (sym (g .wrote)))
+
+-- ---- Where reading stops
+
+-- lists with one element more
+init-same : {A : Type 0} (xs ys : List A) (a b : A) → xs ++ (a ∷ []) ≡ ys ++ (b ∷ []) → xs ≡ ys
+init-same xs ys a b e =
+    let n : length xs ≡ length ys = omega (arith, ap length e, length-append xs (a ∷ []), length-append ys (b ∷ [])) in
+    sym (take-append-seam xs (a ∷ [])) ∙ ap (take (length xs)) e ∙ ap (λ (k : ℕ). take k (ys ++ (b ∷ []))) n ∙ take-append-seam ys (b ∷ [])
+
+-- lines that have ended, and what follows them
+joined-from : (ls : List (List ℕ)) (z : List ℕ) → AllUnbroken ls → linesOf (joined ls ++ z) ≡ ls ++ linesOf z
+joined-from [] z u = refl
+joined-from (l ∷ ls) z u =
+    ap linesOf (append-assoc l (10 ∷ joined ls) z) ∙ lines-go-on [] l (u .0) (10 ∷ (joined ls ++ z)) ∙ ended l (joined ls ++ z)
+    ∙ ap (λ (x : List (List ℕ)). l ∷ x) (joined-from ls z (u .1))
+
+-- the lines that have ended in the bytes taken
+lines-ended : (x : List ℕ) (lines : List (List ℕ)) (unended : List ℕ) → ((z : List ℕ) → linesOf (x ++ z) ≡ lines ++ linesFrom unended z)
+    → (ls : List (List ℕ)) (q : List ℕ) → AllUnbroken ls → Unbroken q → x ≡ joined ls ++ q → lines ≡ ls
+unfolding linesFrom
+lines-ended x lines unended cut ls q u v e =
+    init-same lines ls unended q
+    (sym (cut (10 ∷ [])) ∙ ap (λ (y : List ℕ). linesOf (y ++ (10 ∷ []))) e ∙ ap linesOf (append-assoc (joined ls) q (10 ∷ []))
+    ∙ joined-from ls (q ++ (10 ∷ [])) u ∙ ap (λ (y : List (List ℕ)). ls ++ y) (lines-go-on [] q v (10 ∷ [])))
+
+-- packet lines: there are as many records, up to the most
+pub record Goes (w : Standing) (s : Setting) (n : ℕ) : Type 0 where
+  pub state : State s
+  pub records : List Record
+  pub stands : w ≡ working s state records
+  pub many : min mostLines n ≤ length records
+
+after-working : (ls : List (List ℕ)) (s : Setting) (t : State s) (rs : List Record) → Goes (after (working s t rs) ls) s (length rs + length ls)
+after-working [] s t rs = record { state = t; records = rs; stands = refl; many = omega arith }
+after-working (l ∷ ls) s t rs = go (ltb (length rs) mostLines) refl (after-working ls s)
+  where
+    go : (b : Bool) → ltb (length rs) mostLines ≡ b
+        → ((t : State s) (rs : List Record) → Goes (after (working s t rs) ls) s (length rs + length ls))
+        → Goes (after (afterLine (working s t rs) l) ls) s (length rs + length (l ∷ ls))
+    go true e ih =
+        let r = recordAt s t (callIn l) in
+        let x = ih (stateAt s t (callIn l)) (rs ++ (r ∷ [])) in
+        record {
+          state = x .state;
+          records = x .records;
+          stands = ap (λ (v : Standing). after v ls) (line-read s t rs l (ltb-true (length rs) mostLines e) .0) ∙ x .stands;
+          many = omega (arith, x .many, length-append rs (r ∷ []));
+        }
+    go false e ih =
+        let x = ih t rs in
+        let h = ltb-false (length rs) mostLines e in
+        record {
+          state = x .state;
+          records = x .records;
+          stands = ap (λ (v : Standing). after v ls) (line-past s t rs l h .0) ∙ x .stands;
+          many = omega (arith, x .many, h);
+        }
+
+-- a bad first line, and the most
+closed-over : (p : Progress) (m : List ℕ) → Stands p m closed → isOver p ≡ true
+closed-over p m k = rw (k .0)
+
+full-over : (p : Progress) (m : List ℕ) (s : Setting) (t : State s) (rs : List Record) → Stands p m (working s t rs) → mostLines ≤ length rs → isOver p ≡ true
+full-over p m s t rs k h = rw (k .stage, k .counts .lines) (le-leb mostLines (length rs) h)
+
+pub stops : Stops
+unfolding afterLine
+stops p line m xs b t l ls q u v e d =
+    let g = through xs p line m opening [] (b line m) t in
+    let same : g .lines ≡ l ∷ ls = lines-ended (taken xs) (g .lines) (g .unended) (g .cut) (l ∷ ls) q u v e in
+    let stands = subst (λ (x : List (List ℕ)). Stands (reached p xs) (memoryLeft m xs) (after opening x)) same (g .held .stands) in
+    go (settingNamed l) refl stands
+  where
+    go : (o : Option Setting) → settingNamed l ≡ o → Stands (reached p xs) (memoryLeft m xs) (after (openedWith (settingNamed l)) ls)
+        → isOver (reached p xs) ≡ true
+    go none f k =
+        closed-over (reached p xs) (memoryLeft m xs)
+        (subst (Stands (reached p xs) (memoryLeft m xs)) (ap (λ (o : Option Setting). after (openedWith o) ls) f ∙ still-after closed closed-still ls .0) k)
+    go (some s) f k =
+        let x = after-working ls s (opened s) [] in
+        let n : mostLines ≤ length ls = ⊎-elim (λ (never : (s : Setting) → ¬ Opens l s). absurd (never s (prints .settings l s .0 f))) (λ h. h) d in
+        full-over (reached p xs) (memoryLeft m xs) s (x .state) (x .records)
+        (subst (Stands (reached p xs) (memoryLeft m xs)) (ap (λ (o : Option Setting). after (openedWith o) ls) f ∙ x .stands) k)
+        (omega (arith, x .many))

@@ -15,7 +15,8 @@ use Rattle.lines.specs.Lines.{linesOf}
 use Rattle.lines.specs.Forms.{Values, firstLine, Says}
 use Rattle.lines.specs.Reading.{callIn}
 use Rattle.replay.specs.declared.Record.{Record}
-use Rattle.replay.specs.Replay.{room, most, accepted, refused, known, recordLines, settingIn, printed}
+use Rattle.replay.specs.Records.{room, mostLines, acceptedIn, refusedIn, knownIn, recordLines}
+use Rattle.replay.specs.Replay.{settingNamed, printed}
 
 -- the values that name a setting
 abbrev pub valuesOf : Setting → Values
@@ -46,7 +47,7 @@ module _ (s : Setting) where
     -- any other line is answered 15
     pub other : ((c : Call) → ¬ Says l c) → r .answer ≡ 15
 
-  -- the records of packet lines, one for each, in order
+  -- the records of packet lines, one for each, in order (`callIn l` is what the line says: `Read-exactly` of crate `lines`)
   abbrev pub Records : Log → List (List ℕ) → List Record → Type 0
   Records log [] [] = Unit {0}
   Records log [] (r ∷ rs) = ⊥
@@ -56,13 +57,13 @@ module _ (s : Setting) where
 -- what is printed where the first line opens a receiver: the records of the packet lines after it, at most 1,000,000 of them, and their sums
 pub record Printing (s : Setting) (packets : List (List ℕ)) (output : List ℕ) : Type 0 where
   pub records : List Record
-  pub lines : output ≡ recordLines 0 records ++ lastLine (length records) (accepted records) (refused records) (known records)
-  pub each : Records s fresh (take most packets) records
-  pub all : accepted records + refused records ≡ length records
+  pub lines : output ≡ recordLines 0 records ++ lastLine (length records) (acceptedIn records) (refusedIn records) (knownIn records)
+  pub each : Records s fresh (take mostLines packets) records
+  pub all : acceptedIn records + refusedIn records ≡ length records
 
 pub record Prints : Type 0 where
   -- the setting that is read off a first line is the one that it opens
-  pub settings : (l : List ℕ) (s : Setting) → (settingIn l ≡ some s) ↔ Opens l s
+  pub settings : (l : List ℕ) (s : Setting) → (settingNamed l ≡ some s) ↔ Opens l s
   pub good : (input l : List ℕ) (packets : List (List ℕ)) (s : Setting) → linesOf input ≡ l ∷ packets → Opens l s → Printing s packets (printed input)
   -- a bad first line, or none: only the last line, with zeros
   pub bad : (input l : List ℕ) (packets : List (List ℕ)) → linesOf input ≡ l ∷ packets → ((s : Setting) → ¬ Opens l s) → printed input ≡ lastLine 0 0 0 0

@@ -22,7 +22,8 @@ use Rattle.text.specs.Text.{ascii, digit, decimalWithin, decimal}
 use Rattle.printing.specs.Printed.{recordLine, lastLine}
 use Rattle.lines.specs.Lines.{linesFrom}
 use Rattle.lines.specs.Reading.{after, numberFrom, numberIn, valueOf, bytesIn, valuesIn, repairIn, sourceIn, callIn}
-use Rattle.replay.specs.Replay.{accepted, refused, known, recordLines, summary, recordsFrom, settingIn, printedWith, printedLines, printed}
+use Rattle.replay.specs.Records.{total, recordLines, summary}
+use Rattle.replay.specs.Replay.{recordsFrom, settingNamed, printedWith, printedLines, printed}
 
 -- what is printed of a text
 abbrev of : String → List ℕ
@@ -53,12 +54,12 @@ unfolding
     model.axpy model.scale model.symbol model.push model.extend model.advance
     digit decimalWithin decimal recordLine lastLine
     linesFrom after numberFrom numberIn valueOf bytesIn valuesIn repairIn sourceIn callIn
-    accepted refused known recordLines summary recordsFrom settingIn printedWith printedLines
+    total recordLines summary recordsFrom settingNamed printedWith printedLines
 printings = refl
 
 -- first lines that open a receiver, the memories of the last two being the largest, 65,536 bytes; and bad ones: values that opening refuses, memories that
 -- are too large, a leading zero, two blanks, a number past 64 bits, a byte after the form
-pub firstLines : map (λ t. settingIn (ascii t))
+pub firstLines : map (λ t. settingNamed (ascii t))
     ("scheme=9 e=4 width=2" ∷ "scheme=10 e=13 width=247" ∷ "scheme=9 e=1441 width=43"
     ∷ "scheme=8 e=4 width=2" ∷ "scheme=9 e=3 width=2" ∷ "scheme=9 e=4 width=0" ∷ "scheme=9 e=4 width=256"
     ∷ "scheme=10 e=14 width=247" ∷ "scheme=9 e=1442 width=43" ∷ "scheme=9 e=4 width=252"
@@ -66,5 +67,5 @@ pub firstLines : map (λ t. settingIn (ascii t))
     ≡ some (record { scheme = Gf2; size = 4; width = 2 }) ∷ some (record { scheme = Gf256; size = 13; width = 247 })
     ∷ some (record { scheme = Gf2; size = 1441; width = 43 })
     ∷ none ∷ none ∷ none ∷ none ∷ none ∷ none ∷ none ∷ none ∷ none ∷ none ∷ none ∷ none ∷ []
-unfolding inRange settingOf after numberFrom numberIn valuesIn settingIn
+unfolding inRange settingOf after numberFrom numberIn valuesIn settingNamed
 firstLines = refl

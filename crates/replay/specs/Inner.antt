@@ -17,21 +17,26 @@ use Rattle.replay.specs.declared.Stage.the-variants.{Working}
 use Rattle.replay.specs.declared.Progress.{Progress}
 use Rattle.replay.specs.declared.Pass.{Pass}
 use Rattle.replay.specs.declared.Ended.{Ended}
-use Rattle.replay.specs.Replay.{most, recordAt, stateAt, settingIn}
-use Rattle.replay.specs.Standing.{Standing, opening, closed, working, toCome, Counts, Stands, Kept}
-use Rattle.replay.specs.Promises.{Held}
+use Rattle.replay.specs.Records.{mostLines}
+use Rattle.replay.specs.Replay.{recordAt, stateAt, settingNamed}
+use Rattle.replay.specs.Standing.{Standing, opening, closed, working, afterLine, printedLine, after, printedBy, lastOf, Counts, Stands, Kept}
+use Rattle.replay.specs.Promises.{Held, GoesFrom}
+
+-- room for a record's line: its numbers have at most 20 digits each
+abbrev pub recordRoom : ℕ
+recordRoom = 78
 
 -- more bytes of a line are kept
 abbrev pub KeptMore : (have have′ : ℕ) (line line′ bytes : List ℕ) → Type 0
 KeptMore have have′ line line′ bytes = (q : List ℕ) → Kept have line q → Kept have′ line′ (q ++ bytes)
 
--- a first line opened a receiver in m′, or did not
-abbrev pub Opening : Option Setting → (m′ : List ℕ) → Bool → Type 0
-Opening none m′ r = r ≡ false
-Opening (some s) m′ r = (r ≡ true) × Holds m′ s (opened s)
+-- the receiver that a first line names was opened in m′, or it names none
+abbrev pub OpensOrNot : Option Setting → (m′ : List ℕ) → Bool → Type 0
+OpensOrNot none m′ r = r ≡ false
+OpensOrNot (some s) m′ r = (r ≡ true) × Holds m′ s (opened s)
 
 abbrev pub OpenedBy : (have : ℕ) (line m′ : List ℕ) → Bool → Type 0
-OpenedBy have line m′ r = (l : List ℕ) → Kept have line l → Opening (settingIn l) m′ r
+OpenedBy have line m′ r = (l : List ℕ) → Kept have line l → OpensOrNot (settingNamed l) m′ r
 
 -- a packet line was answered
 pub record Answered (have : ℕ) (line m m′ : List ℕ) (r : Record) : Type 0 where
@@ -45,7 +50,7 @@ pub record Answered (have : ℕ) (line m m′ : List ℕ) (r : Record) : Type 0 
 pub record Counted (p : Progress) (r : Record) (p′ : Progress) : Type 0 where
   pub stage : p′ .stage ≡ Working
   pub have : p′ .have ≡ 0
-  pub counts : (rs : List Record) → Counts p rs → length rs < most → r .known ≤ 65535 → Counts p′ (rs ++ (r ∷ []))
+  pub counts : (rs : List Record) → Counts p rs → length rs < mostLines → r .known ≤ 65535 → Counts p′ (rs ++ (r ∷ []))
 
 -- a progress in a stage, with so many bytes kept
 abbrev pub movedTo : Progress → Stage → (have : ℕ) → Progress
@@ -59,20 +64,19 @@ pub record Lent (line m v packet : List ℕ) : Type 0 where
   pub working : length v ≡ 65536
   pub bytes : 4096 ≤ length packet
 
--- a capture that stood at w before the line l stands somewhere after it: what was to be printed is what is written and what is still to be printed
-pub record Passed (w : Standing) (l before after : List ℕ) (p′ : Progress) (m′ : List ℕ) : Type 0 where
-  pub standing : Standing
-  pub stands : Stands p′ m′ standing
-  pub prints : (ls : List (List ℕ)) → before ++ toCome w (l ∷ ls) ≡ after ++ toCome standing ls
+-- after the line l of a capture that stood at w: what was written before is followed by what is printed of the line
+pub record Passed (w : Standing) (l before written : List ℕ) (p′ : Progress) (m′ : List ℕ) : Type 0 where
+  pub stands : Stands p′ m′ (afterLine w l)
+  pub wrote : written ≡ before ++ printedLine w l
 
 -- the first line has ended
 pub record FirstEnded (p : Progress) (line m m′ : List ℕ) (r : Progress) : Type 0 where
   pub have : r .have ≡ 0
-  pub goes : (l : List ℕ) → Counts p [] → Kept (p .have) line l → Passed opening l [] [] r m′
+  pub goes : (l : List ℕ) → Counts p [] → Kept (p .have) line l → Stands r m′ (afterLine opening l)
 
 -- a line has ended, of a capture that stood at one of these
 pub record EndedAt (At : Standing → Type 0) (p : Progress) (line m m′ out out′ : List ℕ) (at : ℕ) (r : Ended) : Type 0 where
-  pub room : r .at ≤ at + 78
+  pub room : r .at ≤ at + recordRoom
   pub have : r .progress .have ≡ 0
   pub goes : (w : Standing) (l : List ℕ) → At w → Stands p m w → Kept (p .have) line l → Passed w l (take at out) (take (r .at) out′) (r .progress) m′
 
@@ -87,23 +91,17 @@ PacketEnded = EndedAt AtPackets
 abbrev pub LineEnded : (p : Progress) (line m m′ out out′ : List ℕ) (at : ℕ) (r : Ended) → Type 0
 LineEnded = EndedAt (λ w. Unit {0})
 
--- a capture goes on, with what is written before and after
-pub record GoesFrom (w : Standing) (q before taken after : List ℕ) (p′ : Progress) (line′ m′ : List ℕ) : Type 0 where
-  pub standing : Standing
-  pub unended : List ℕ
-  pub held : Held p′ line′ m′ standing unended
-  pub prints : (z : List ℕ) → before ++ toCome w (linesFrom q (taken ++ z)) ≡ after ++ toCome standing (linesFrom unended z)
-
 -- a line was taken, as far as the piece of the input has it
 pub record LineFed (p : Progress) (line line′ m m′ input out out′ : List ℕ) (at : ℕ) (r : Pass) : Type 0 where
   pub taken : r .taken ≤ length input
   pub moves : 0 < length input → 0 < r .taken
-  pub room : r .written ≤ at + 78
+  pub room : r .written ≤ at + recordRoom
   pub goes : (w : Standing) (q : List ℕ) → Held p line m w q
       → GoesFrom w q (take at out) (take (r .taken) input) (take (r .written) out′) (r .progress) line′ m′
 
 -- the input has ended
 pub record InputEnded (p : Progress) (line m out′ : List ℕ) (r : Ended) : Type 0 where
-  pub room : r .at ≤ 78
+  pub room : r .at ≤ recordRoom
   pub prints : (w : Standing) (q : List ℕ) → Held p line m w q
-      → toCome w (linesFrom q []) ≡ take (r .at) out′ ++ lastLine (r .progress .lines) (r .progress .accepted) (r .progress .refused) (r .progress .known)
+      → printedBy w (linesFrom q []) ++ lastOf (after w (linesFrom q []))
+      ≡ take (r .at) out′ ++ lastLine (r .progress .lines) (r .progress .accepted) (r .progress .refused) (r .progress .known)

@@ -3,13 +3,16 @@ use mathlib.Core.Path.{_≡_}
 use mathlib.Core.Logic.{_⊎_}
 use mathlib.Core.Bool.{true}
 use mathlib.Core.List.{List, [], _∷_, _++_}
-use Prim.Native.Nat.{ℕ}
-use lib.ListN.{take}
+use Prim.Native.Nat.{ℕ, _≤_}
+use lib.ListN.{length, take}
+use Rattle.wire.specs.declared.Setting.{Setting}
+use Rattle.lines.specs.Promises.{AllUnbroken, Unbroken, joined}
 use Rattle.replay.specs.declared.Progress.{Progress}
 use Rattle.replay.specs.declared.Pass.{Pass}
+use Rattle.replay.specs.Records.{mostLines}
 use Rattle.replay.specs.Replay.{printed}
-use Rattle.replay.specs.Standing.{isOver}
-use Rattle.replay.specs.Promises.{Begun, Fed, Finished}
+use Rattle.replay.specs.Claims.{Opens}
+use Rattle.replay.specs.Promises.{isOver, Begun, Fed, Finished}
 
 -- a call of `feed`: the piece that it was given, its answer, and its output, the kept line and the receiver's memory as it left them
 pub record Piece : Type 0 where
@@ -28,20 +31,38 @@ abbrev pub written : List Piece → List ℕ
 written [] = []
 written (x ∷ xs) = take (x .pass .written) (x .output) ++ written xs
 
--- the calls one after the other, the first with these, each with what the last left; and then the end, which wrote n bytes of `last`
-abbrev pub Handed : Progress → (line m : List ℕ) → List Piece → (last : List ℕ) (n : ℕ) → Type 0
-Handed p line m [] last n = Finished p line m last n
-Handed p line m (x ∷ xs) last n =
-    Fed p line (x .line) m (x .memory) (x .input) (x .output) (x .pass) × Handed (x .pass .progress) (x .line) (x .memory) xs last n
+-- the calls one after the other, the first with these, each with what the last left
+abbrev pub InTurn : Progress → (line m : List ℕ) → List Piece → Type 0
+InTurn p line m [] = Unit {0}
+InTurn p line m (x ∷ xs) =
+    Fed p line (x .line) m (x .memory) (x .input) (x .output) (x .pass) × InTurn (x .pass .progress) (x .line) (x .memory) xs
 
--- how far the capture has come
+-- what they leave
 abbrev pub reached : Progress → List Piece → Progress
 reached p [] = p
 reached p (x ∷ xs) = reached (x .pass .progress) xs
 
--- However an input is cut into pieces, what is written is what is printed of it. Nothing of the input is left but where no more of it was wanted.
+abbrev pub lineLeft : (line : List ℕ) → List Piece → List ℕ
+lineLeft line [] = line
+lineLeft line (x ∷ xs) = lineLeft (x .line) xs
+
+abbrev pub memoryLeft : (m : List ℕ) → List Piece → List ℕ
+memoryLeft m [] = m
+memoryLeft m (x ∷ xs) = memoryLeft (x .memory) xs
+
+-- However an input is cut into pieces, what is written of it, with what the end wrote to `last`, is what is printed of it: of the bytes taken, and of these
+-- with any others after them where no more is wanted.
 abbrev pub Worked-through : Type 0
 Worked-through =
-    (p : Progress) (line m : List ℕ) (xs : List Piece) (last : List ℕ) (n : ℕ) → Begun p → Handed p line m xs last n
+    (p : Progress) (line m : List ℕ) (xs : List Piece) → Begun p → InTurn p line m xs
+    → (last : List ℕ) (n : ℕ) → Finished (reached p xs) (lineLeft line xs) (memoryLeft m xs) last n
     → (rest : List ℕ) → (rest ≡ []) ⊎ (isOver (reached p xs) ≡ true)
     → written xs ++ take n last ≡ printed (taken xs ++ rest)
+
+-- No more is wanted once a bad first line, or the most packet lines after the first, have been taken.
+abbrev pub Stops : Type 0
+Stops =
+    (p : Progress) (line m : List ℕ) (xs : List Piece) → Begun p → InTurn p line m xs
+    → (l : List ℕ) (ls : List (List ℕ)) (q : List ℕ) → AllUnbroken (l ∷ ls) → Unbroken q → taken xs ≡ joined (l ∷ ls) ++ q
+    → ((s : Setting) → ¬ Opens l s) ⊎ (mostLines ≤ length ls)
+    → isOver (reached p xs) ≡ true

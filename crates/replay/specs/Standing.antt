@@ -1,19 +1,22 @@
--- Where a capture stands after a part of it, and what is still to be printed. The claims need only that such a standing is kept: a reader need not believe it.
+-- Where a capture stands after lines of it, and what is printed on the way. The claims need only that it is kept: a reader need not believe it.
 use mathlib.Core.Path.{_≡_}
-use mathlib.Core.Bool.{Bool, true}
-use mathlib.Core.List.{List, [], _++_}
-use Prim.Native.Nat.{ℕ, _+_, _-_, _*_, _≤_, min}
-use lib.Dec.{leb}
+use mathlib.Core.Bool.{cond}
+use mathlib.Core.List.{List, [], _∷_, _++_}
+use mathlib.Core.Option.{Option, none, some}
+use Prim.Native.Nat.{ℕ, _+_, _*_, _≤_, min}
+use lib.Dec.{ltb}
 use lib.ListN.{length, take}
 use Rattle.wire.specs.declared.Setting.{Setting}
-use Rattle.receiver.specs.Model.{State}
+use Rattle.receiver.specs.Model.{State, opened}
 use Rattle.receiver.specs.Layout.{Holds}
+use Rattle.printing.specs.Printed.{recordLine}
 use Rattle.lines.specs.Forms.{longest}
+use Rattle.lines.specs.Reading.{callIn}
 use Rattle.replay.specs.declared.Record.{Record}
-use Rattle.replay.specs.declared.Stage.{Stage}
 use Rattle.replay.specs.declared.Stage.the-variants.{Opening, Working, Closed}
 use Rattle.replay.specs.declared.Progress.{Progress}
-use Rattle.replay.specs.Replay.{most, accepted, refused, known, recordLines, summary, recordsFrom, printedLines}
+use Rattle.replay.specs.Records.{mostLines, acceptedIn, refusedIn, knownIn, summary}
+use Rattle.replay.specs.Replay.{recordAt, stateAt, settingNamed}
 
 -- the first line is to come; it was bad; or the receiver's state, and the records so far
 pub data Standing : Type 0 where
@@ -21,20 +24,50 @@ pub data Standing : Type 0 where
   closed : Standing
   working : (s : Setting) → State s → List Record → Standing
 
--- what is still printed, the lines to come being these
-unfoldable pub toCome : Standing → List (List ℕ) → List ℕ
-toCome opening ls = printedLines ls
-toCome closed ls = summary []
-toCome (working s t rs) ls = let more = recordsFrom s t (take (most - length rs) ls) in recordLines (length rs) more ++ summary (rs ++ more)
+-- after a line: after the first, as it names a setting or not; after a packet line there is a record more, as long as they are not the most
+abbrev pub openedWith : Option Setting → Standing
+openedWith none = closed
+openedWith (some s) = working s (opened s) []
+
+unfoldable pub afterLine : Standing → List ℕ → Standing
+afterLine opening l = openedWith (settingNamed l)
+afterLine closed l = closed
+afterLine (working s t rs) l =
+    cond (ltb (length rs) mostLines) (working s (stateAt s t (callIn l)) (rs ++ (recordAt s t (callIn l) ∷ []))) (working s t rs)
+
+-- what is printed of that line
+unfoldable pub printedLine : Standing → List ℕ → List ℕ
+printedLine opening l = []
+printedLine closed l = []
+printedLine (working s t rs) l =
+    let r = recordAt s t (callIn l) in
+    cond (ltb (length rs) mostLines) (recordLine (length rs + 1) (r .answer) (r .known)) []
+
+-- after lines, and what is printed of them
+abbrev pub after : Standing → List (List ℕ) → Standing
+after w [] = w
+after w (l ∷ ls) = after (afterLine w l) ls
+
+abbrev pub printedBy : Standing → List (List ℕ) → List ℕ
+printedBy w [] = []
+printedBy w (l ∷ ls) = printedLine w l ++ printedBy (afterLine w l) ls
+
+-- the last line, if no line is to come
+unfoldable pub lastOf : Standing → List ℕ
+lastOf opening = summary []
+lastOf closed = summary []
+lastOf (working s t rs) = summary rs
+
+-- ---- In memory
 
 -- the numbers of a progress are the sums of the records
 pub record Counts (p : Progress) (rs : List Record) : Type 0 where
   pub lines : p .lines ≡ length rs
-  pub accepts : p .accepted ≡ accepted rs
-  pub refuses : p .refused ≡ refused rs
-  pub knows : p .known ≡ known rs
-  pub few : length rs ≤ most
-  pub small : known rs ≤ 65535 * length rs
+  pub accepts : p .accepted ≡ acceptedIn rs
+  pub refuses : p .refused ≡ refusedIn rs
+  pub knows : p .known ≡ knownIn rs
+  pub few : length rs ≤ mostLines
+  pub small : knownIn rs ≤ 65535 * length rs
 
 -- a progress with the receiver's memory m stands there
 pub record Works (p : Progress) (m : List ℕ) (s : Setting) (t : State s) (rs : List Record) : Type 0 where
@@ -51,12 +84,3 @@ Stands p m (working s t rs) = Works p m s t rs
 pub record Kept (have : ℕ) (line q : List ℕ) : Type 0 where
   pub count : have ≡ min (length q) (longest + 1)
   pub bytes : length q ≤ longest → take have line ≡ q
-
--- nothing more of the input is wanted
-abbrev pub isDone : Stage → (lines : ℕ) → Bool
-isDone Opening n = leb most n
-isDone Working n = leb most n
-isDone Closed n = true
-
-abbrev pub isOver : Progress → Bool
-isOver p = isDone (p .stage) (p .lines)

@@ -5,12 +5,9 @@ ghost use mathlib.Core.Bool.{cond, _&&_, not};
 ghost use Prim.Native.Nat.{_+_, _≤_};
 ghost use lib.Dec.{eqb, ltb, leb};
 ghost use lib.ListN.{length};
-ghost use Rattle.wire.specs.Settings.{Valid};
-ghost use Rattle.receiver.specs.History.{workingSize};
 ghost use Rattle.receiver.specs.Promises.{said, answerOf};
 ghost use Rattle.replay.specs.Replay.{recordOf};
-ghost use Rattle.replay.specs.Standing.{isOver};
-ghost use Rattle.replay.specs.Promises.{Begun, Fed, Finished};
+ghost use Rattle.replay.specs.Promises.{isOver, Begun, Fed, Finished};
 ghost use Rattle.replay.specs.Inner.{Lent, KeptMore, OpenedBy, Answered, Counted, movedTo};
 ghost use Rattle.replay.specs.Inner.{FirstEnded, PacketEnded, LineEnded, LineFed, InputEnded};
 use lines::First;
@@ -18,7 +15,6 @@ use lines::Spoken;
 use receiver::Answer;
 use receiver::PacketAnswer;
 use wire::Checked;
-use wire::Setting;
 
 // The most characters that a line has, and what stands for more.
 const LONGEST: usize = 8192;
@@ -33,6 +29,9 @@ const ROOM: usize = 65536;
 
 // The answer to a line that is not of the form.
 const MALFORMED: u64 = 15;
+
+// Output is taken up to here: a record's line, three numbers of at most 20 digits and their names, fits after it.
+const NEARLY_FULL: usize = 65458;
 
 // What is printed of a packet line: 0 or the number of the refusal, 15 where the line is not of the form; and how many positions became known.
 pub struct Record {
@@ -87,14 +86,6 @@ fn recorded(answer: PacketAnswer) -> Record
     }
 }
 
-// How many bytes of working memory a receiver's packet calls borrow.
-fn working_size(setting: Setting) -> usize
-    requires { ⌜ Valid setting ⌝ }
-    ensures { λ r. ⌜ r ≡ workingSize setting ⌝ }
-{
-    64 + (setting.width + 1) * (setting.width + setting.size + 4)
-}
-
 // Keeps more bytes of a line that has not ended.
 fn keep(line: &mut [u8], have: usize, bytes: &[u8]) -> usize
     requires { ⌜ 8192 ≤ length (now line) ⌝ }
@@ -124,7 +115,8 @@ fn open_by(line: &[u8], have: usize, mem: &mut [u8]) -> bool
     let Checked::Good(setting) = wire::setting_of(scheme, size, width) else {
         return false;
     };
-    if ROOM < working_size(setting) {
+    // the receiver's own memory is the smaller, and opening tests it
+    if ROOM < receiver::working_size(setting) {
         return false;
     }
     let Answer::Done(_) = receiver::open(mem, scheme, size, width) else {
@@ -166,14 +158,14 @@ fn answer_line(
     }
 }
 
-// 1 for an answer that is none of the refusals, else 0.
+// 1 where the answer is 0, else 0.
 fn is_accepted(answer: u64) -> u64
     ensures { λ r. ⌜ r ≡ cond (eqb answer 0) 1 0 ⌝ }
 {
     if answer == 0 { 1 } else { 0 }
 }
 
-// The progress after a record.
+// The progress after a record. The sums of a capture are far from wrapping; those of any other progress may.
 fn count(p: Progress, r: Record) -> Progress
     ensures { λ p′. ⌜ Counted p r p′ ⌝ }
 {
@@ -310,7 +302,7 @@ pub fn is_over(progress: Progress) -> bool
     let stage = progress.stage;
     let lines = progress.lines;
     match stage {
-        Stage::Opening => MOST <= lines,
+        Stage::Opening => false,
         Stage::Working => MOST <= lines,
         Stage::Closed => true,
     }
@@ -323,7 +315,7 @@ fn goes_on(p: Progress, taken: usize, all: usize, written: usize) -> bool
     if taken >= all {
         return false;
     }
-    if 65458 < written {
+    if NEARLY_FULL < written {
         return false;
     }
     !is_over(p)

@@ -1,13 +1,13 @@
 -- `replay::begin` meets its contract.
 use mathlib.Core.Path.{refl}
 use native.Mathlib.Omega.{arith}
-use Rattle.replay.specs.Replay.{accepted, refused, known}
+use Rattle.replay.specs.Records.{total}
 use Rattle.replay.proofs.Keeping.{kept-none}
 use Rattle.replay.proofs.begin.Statement.{statement}
 use Rattle.replay.proofs.begin.Tie as tie
 
 returns : tie.Need-returns
-unfolding accepted refused known
+unfolding total
 returns c = λ line m. record {
   stands = (refl, record { lines = refl; accepts = refl; refuses = refl; knows = refl; few = omega arith; small = omega arith });
   kept = kept-none line;

@@ -15,7 +15,8 @@ use Rattle.receiver.specs.History.{workingSize}
 use Rattle.receiver.specs.Promises.{said, opening}
 use Rattle.lines.specs.Forms.{longest}
 use Rattle.lines.specs.Reading.{on, valuesIn}
-use Rattle.replay.specs.Replay.{room, fitting, settingIn}
+use Rattle.replay.specs.Records.{room}
+use Rattle.replay.specs.Replay.{fitting, settingNamed}
 use Rattle.replay.specs.Standing.{Kept}
 use Rattle.replay.proofs.Keeping.{kept-line, kept-long, kept-short}
 use Rattle.replay.proofs.Openings.{opens-none, long-opens-none, no-values, with-values, no-setting, good-setting, large-working, large-memory, both-fit}
@@ -40,7 +41,7 @@ abbrev width : tie.After-scheme → ℕ
 width p = p .scheme .given .0 .1 .1 .0
 
 values : (p : tie.After-scheme) (l : List ℕ) → Kept (p .before .before .before .before .before .before .before .args .have) (p .before .before .before .before .before .before .before .args .line .now) l
-    → settingIn l ≡ cond (leb (length l) longest) (on (settingOf (scheme p) (size p) (width p)) fitting) none
+    → settingNamed l ≡ cond (leb (length l) longest) (on (settingOf (scheme p) (size p) (width p)) fitting) none
 values p l k = with-values _ l _ _ _ (p .scheme .given .1) (p .before .before .read-first .ensures ∙ read (p .before .before) l k)
 
 -- and names a setting
