@@ -2,10 +2,18 @@
 // library `replay`.
 ghost use mathlib.Core.Path.{_≡_};
 ghost use lib.ListN.{length};
+ghost use Rattle.capture.specs.Going.{Went};
 use libc::STDERR_FILENO;
 use libc::STDIN_FILENO;
 use libc::STDOUT_FILENO;
 use replay::Progress;
+
+// How far the capture has come, whether more of the input is to be read, and whether something could not be printed.
+struct Heard {
+    progress: Progress,
+    more: bool,
+    failed: bool,
+}
 
 // Room for a line.
 fn line_buffer() -> [u8; 8192]
@@ -33,7 +41,7 @@ fn print(text: &[u8]) -> bool {
     false
 }
 
-// Works through a piece of the input. It is handed on until all of it is taken or nothing more is wanted.
+// Works through what was read. It is handed to the library until all of it is taken or no more is wanted.
 fn work_through(
     progress: Progress,
     line: &mut [u8; 8192],
@@ -42,53 +50,70 @@ fn work_through(
     packet: &mut [u8; 4096],
     input: &[u8],
     out: &mut [u8; 65536],
-) -> Progress {
+) -> Heard
+    ensures { λ r. ⌜ Went progress (now (line .entry)) (now (line .exit)) (now (mem .entry)) (now (mem .exit)) (now (input .entry)) r ⌝ }
+{
     let mut p = progress;
     let mut at = 0;
     while at < input.len() {
+        if replay::is_over(p) {
+            return Heard {
+                progress: p,
+                more: false,
+                failed: false,
+            };
+        }
         let pass = replay::feed(p, line, mem, work, packet, &input[at..], out);
         let next = pass.progress;
         p = next;
         if !print(memory::part(out, 0, pass.written)) {
-            break;
-        }
-        if pass.taken == 0 {
-            break;
+            return Heard {
+                progress: p,
+                more: false,
+                failed: true,
+            };
         }
         at += pass.taken;
     }
-    p
+    let more = !replay::is_over(p);
+    Heard {
+        progress: p,
+        more,
+        failed: false,
+    }
 }
 
-// What a read came to: how far the capture has come, and whether more is to be read.
-struct Heard {
-    progress: Progress,
-    more: bool,
-}
-
-// Reads a piece of the input and works through it. Nothing more is to be read where the input ends or cannot be read, or where no more of it is wanted.
+// Reads a piece of the input and works through it. No more is to be read where the input ends or cannot be read.
 fn read_piece(
     progress: Progress,
     line: &mut [u8; 8192],
     mem: &mut [u8; 65536],
     work: &mut [u8; 65536],
     packet: &mut [u8; 4096],
+    input: &mut [u8; 65536],
     out: &mut [u8; 65536],
 ) -> Heard {
-    let mut input = io::large_buffer();
-    let got = libc::read(STDIN_FILENO, &mut input);
-    let n = io::count(got, &input);
+    let got = libc::read(STDIN_FILENO, input);
+    if got < 0 {
+        io::write_all(STDERR_FILENO, b"capture: standard input cannot be read\n");
+    }
+    let n = io::count(got, input);
     if n == 0 {
         return Heard {
             progress,
             more: false,
+            failed: false,
         };
     }
-    let next = work_through(progress, line, mem, work, packet, &input[..n], out);
-    Heard {
-        progress: next,
-        more: !replay::is_over(next),
-    }
+    work_through(
+        progress,
+        line,
+        mem,
+        work,
+        packet,
+        memory::part(input, 0, n),
+        out,
+    )
 }
 
 // Prints what the input's end asks for.
@@ -109,21 +134,27 @@ fn main() {
     let mut mem = io::large_buffer();
     let mut work = io::large_buffer();
     let mut packet = io::buffer();
+    let mut input = io::large_buffer();
     let mut out = io::large_buffer();
     let mut progress = replay::begin();
+    // more turns than there will ever be: a loop has to end by its own account
     let mut turns: u64 = 18446744073709551615;
     while 0 < turns {
-        let read = read_piece(
+        let heard = read_piece(
             progress,
             &mut line,
             &mut mem,
             &mut work,
             &mut packet,
+            &mut input,
             &mut out,
         );
-        let next = read.progress;
+        if heard.failed {
+            return;
+        }
+        let next = heard.progress;
         progress = next;
-        if !read.more {
+        if !heard.more {
             break;
         }
         turns -= 1;
