@@ -4,7 +4,7 @@
 mod library;
 mod reference;
 
-use library::program::{printed, printed_of_file, printed_when_fed, Pipe};
+use library::program::{printed, printed_of_file, printed_when_fed, printed_while_open, written, Pipe};
 use library::runs;
 use reference::capture::{self, Record, FORM, PACKET_LINES};
 use reference::random::Random;
@@ -13,6 +13,7 @@ use std::ffi::OsStr;
 use std::fs;
 use std::io;
 use std::path::{Path, PathBuf};
+use std::process::Stdio;
 use std::sync::OnceLock;
 
 /// Document 02's three lines.
@@ -598,4 +599,31 @@ fn lines_without_end() {
     };
     let expected = [vec![true, false, true], vec![false; 4000], vec![true, false]].concat();
     same("lines without end", &printed_when_fed(feed), &printed_of(expected.into_iter()));
+}
+
+/// After a bad first line, and after the last packet line that counts, the program ends though its input does not.
+#[test]
+fn input_that_stays_open() {
+    same("a bad first line", &printed_while_open(b"no first line\n"), NOTHING.as_bytes());
+    let mut input = joined([FIRST]);
+    input.extend(b"x\n".repeat(PACKET_LINES));
+    same("all packet lines", &printed_while_open(&input), &printed_of((0..PACKET_LINES).map(|_| false)));
+}
+
+/// Where output cannot be written the program says so once and stops.
+#[test]
+fn output_that_cannot_be_written() {
+    let file = Path::new(env!("CARGO_TARGET_TMPDIR")).join("many-lines.capture");
+    fs::write(&file, [joined([FIRST]), b"x\n".repeat(200_000)].concat()).expect("the capture written");
+    let full = fs::OpenOptions::new().write(true).open("/dev/full").expect("/dev/full");
+    let (_, errors) = written(fs::File::open(&file).expect("the capture"), full.into());
+    assert_eq!(String::from_utf8_lossy(&errors), "capture: standard output cannot be written\n");
+}
+
+/// Where input cannot be read the program says so, and prints what it has.
+#[test]
+fn input_that_cannot_be_read() {
+    let (output, errors) = written(fs::File::open("/").expect("a folder"), Stdio::piped());
+    same("a folder", &output, NOTHING.as_bytes());
+    assert_eq!(String::from_utf8_lossy(&errors), "capture: standard input cannot be read\n");
 }

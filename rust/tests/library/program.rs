@@ -61,6 +61,31 @@ pub fn printed_when_fed(feed: impl FnOnce(&mut Pipe) -> io::Result<()> + Send) -
     })
 }
 
+/// What the program prints where its standard input is a pipe to which this is written and that stays open: it must end all the same.
+pub fn printed_while_open(input: &[u8]) -> Vec<u8> {
+    let mut command = Command::new(file());
+    let mut child = command.stdin(Stdio::piped()).stdout(Stdio::piped()).spawn().expect("the program started");
+    let mut stdin = child.stdin.take().expect("its standard input");
+    thread::scope(|scope| {
+        let feeding = scope.spawn(move || {
+            let _ = stdin.write_all(input); // the program may have ended before all is written
+            stdin
+        });
+        let output = output_of(child.wait_with_output());
+        drop(feeding.join().expect("the input"));
+        output
+    })
+}
+
+/// What the program writes to standard output and to standard error, run on these files.
+pub fn written(input: File, output: Stdio) -> (Vec<u8>, Vec<u8>) {
+    let mut command = Command::new(file());
+    let child = command.stdin(input).stdout(output).stderr(Stdio::piped()).spawn().expect("the program started");
+    let Output { status, stdout, stderr } = child.wait_with_output().expect("the program's output");
+    assert!(status.success(), "the program ended with {status}");
+    (stdout, stderr)
+}
+
 /// The pipe to a running program.
 pub struct Pipe<'a> {
     stdin: ChildStdin,
