@@ -16,8 +16,8 @@ end-first-spec =
     (tie.spec
     (λ c κs. search needs)
     (λ c κs. search needs)
-    (λ c. search needs)
+    (λ c. c .before .before .before .before .open-by .kept .1 .1 .0)
     returns
     (λ c κs. search needs)
-    (λ c. search needs)
+    (λ c. c .before .before .before .before .open-by .kept .1 .1 .0)
     returns-2)

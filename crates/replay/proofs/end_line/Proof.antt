@@ -23,11 +23,11 @@ end-line-spec =
     (λ c κs. search needs)
     (λ c. search needs)
     (λ c κs. search needs)
-    (λ c. search needs)
+    (λ c. c .before .before .end-first .kept .1 .1 .0)
     returns
-    (λ c. search needs)
-    (λ c. search needs)
-    (λ c. search needs)
-    (λ c. search needs)
+    (λ c. c .before .before .before .before .before .before .before .before .end-packet .kept .1 .1 .0)
+    (λ c. c .before .before .before .before .before .before .before .before .end-packet .kept .1 .1 .1 .0)
+    (λ c. c .before .before .before .before .before .before .before .before .end-packet .kept .1 .1 .1 .1 .0)
+    (λ c. c .before .before .before .before .before .before .before .before .end-packet .kept .1 .1 .1 .1 .1 .0)
     returns-2
     returns-3)

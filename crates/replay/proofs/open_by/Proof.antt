@@ -113,7 +113,7 @@ open-by-spec =
     (λ c κs. search needs)
     (λ c. search needs)
     (λ c. search needs)
-    (λ c. search needs)
+    (λ c. c .before .before .before .before .«open» .kept .0)
     returns-5
-    (λ c. search needs)
+    (λ c. c .before .before .before .before .«open» .kept .0)
     returns-6)
