@@ -1,5 +1,5 @@
 -- `receiver::receive_repair` meets its contract.
-use mathlib.Core.Path.{_≡_, ap, sym, _∙_}
+use mathlib.Core.Path.{_≡_, refl, ap, sym, _∙_}
 use mathlib.Core.Bool.{true}
 use mathlib.Core.Option.{some}
 use Prim.Native.Nat.{_*_, _≤_}
@@ -209,40 +209,40 @@ receive-repair-spec =
     (λ c κs. search needs)
     (λ c. search needs)
     (λ c. search needs)
-    (λ c. search needs)
+    (λ c. refl)
     returns
     working-size-requires
-    (λ c. search needs)
+    (λ c. refl)
     returns-2
     (λ c κs. search needs)
     (λ c. search needs)
     (λ c. search needs)
-    (λ c. search needs)
+    (λ c. refl)
     returns-3
     (λ c κs. search needs)
-    (λ c. search needs)
+    (λ c. refl)
     returns-4
     join-requires
     locate-requires
     (λ c. search needs)
     (λ c. search needs)
-    (λ c. search needs)
+    (λ c. refl)
     returns-5
     (λ c κs. search needs)
     (λ c. search needs)
     fill-lists-requires
     (λ c. search needs)
     (λ c. search needs)
-    (λ c. search needs)
+    (λ c. refl)
     returns-6
     (λ c. search needs)
     gather-repair-requires
     (λ c. search needs)
     (λ c. search needs)
-    (λ c. search needs)
-    (λ c. search needs)
+    (λ c. refl)
+    (λ c. c .before .before .before .before .gather-repair .kept .1 .0)
     returns-7
     accept-requires
-    (λ c. search needs)
-    (λ c. search needs)
+    (λ c. c .before .before .accept .kept .0)
+    (λ c. c .before .before .before .before .before .before .before .before .before .before .gather-repair .kept .1 .0)
     returns-8)

@@ -176,35 +176,35 @@ receive-source-spec =
     (λ c κs. search needs)
     (λ c. search needs)
     (λ c. search needs)
-    (λ c. search needs)
+    (λ c. refl)
     returns
     working-size-requires
-    (λ c. search needs)
+    (λ c. refl)
     returns-2
     (λ c κs. search needs)
     (λ c. search needs)
     (λ c. search needs)
-    (λ c. search needs)
+    (λ c. refl)
     returns-3
-    (λ c. search needs)
+    (λ c. refl)
     returns-4
     symbol-count-requires
-    (λ c. search needs)
+    (λ c. refl)
     returns-5
     join-requires
     locate-requires
     (λ c. search needs)
     (λ c. search needs)
-    (λ c. search needs)
+    (λ c. refl)
     returns-6
     part-requires
     gather-source-requires
     (λ c. search needs)
     (λ c. search needs)
-    (λ c. search needs)
-    (λ c. search needs)
+    (λ c. refl)
+    (λ c. c .before .before .before .before .gather-source .kept .1 .0)
     returns-7
     accept-requires
-    (λ c. search needs)
-    (λ c. search needs)
+    (λ c. c .before .before .accept .kept .0)
+    (λ c. c .before .before .before .before .before .before .before .before .before .before .gather-source .kept .1 .0)
     returns-8)

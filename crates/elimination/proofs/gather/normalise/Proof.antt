@@ -45,8 +45,11 @@ returns : tie.Need-returns
 returns c =
     let start = c .before .before .before .before .before .before .before .before .before in
     let a = start .args in
-    normalised (a .shape .width) (a .shape .size) (a .k) (a .c) (c .before .before .before .before .before .before .start-of .result) (a .work .now) (c .before .before .scale-part .last .0) _ (start .pre .0) (omega arith) (λ i. c .before .before .before .before .before .before .before .before .slice-known .given i .fits)
-    (c .before .before .before .before .before .before .start-of .ensures .start) (cc) refl
+    let at = c .before .before .before .before .before .before .start-of in
+    let divided = c .before .before .scale-part in
+    normalised (a .shape .width) (a .shape .size) (a .k) (a .c) (at .result) (a .work .now) (divided .last .0) _ (start .pre .0) (omega arith)
+    (λ i. c .before .before .before .before .before .before .before .before .slice-known .given i .fits) (at .ensures .start)
+    (rw (c .before .before .before .before .inverse .ensures) at (divided .ensures)) refl
 
 pub normalise-spec : {M : Type 1} → statement M
 normalise-spec =

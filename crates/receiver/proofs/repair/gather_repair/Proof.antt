@@ -125,22 +125,26 @@ returns c =
     let a = c .before .before .before .before .before .before .before .before .before .before .before .before .before .before .args in
     let l = c .before .before .before .before .before .before .before .before .before .loop in
     let admitted = c .before .before .before .before in
-    gathers-stop _ _ _ _ _ (l .i) (a .count) (l .kept) (admitted .admit-symbol .result) (l .work) (admitted .admit-symbol .last .1 .0) (omega arith) (l .inv .1) (one admitted) (c .enum-told .given .1)
+    gathers-stop _ _ _ _ _ (l .i) (a .count) (l .kept) (admitted .admit-symbol .result) (l .work) (admitted .admit-symbol .last .1 .0)
+    (omega (arith, admitted .before .before .before .before .loop-test .taken)) (l .inv .1) (one admitted) (c .enum-told .given .1)
 
 -- src/repair.rt:54:9
 add-i : tie.Need-add-i Inv-loop μ-loop
-add-i c = omega arith
+add-i c =
+    let t = c .before .before .before .before .before .before .before .before .before in
+    omega (arith, t .loop-test .taken, t .before .before .before .before .before .before .pre .7)
 
 -- src/repair.rt:54:5
 loop-less : tie.Need-loop-less Inv-loop μ-loop
-loop-less c = omega arith
+loop-less c = omega (arith, c .before .before .before .before .before .before .before .before .before .loop-test .taken)
 
 -- src/repair.rt:54:5
 loop-again : tie.Need-loop-again Inv-loop μ-loop
 loop-again c =
     let l = c .before .before .before .before .before .before .before .before .before .before .loop in
     let admitted = c .before .before .before .before .before in
-    (omega arith, gathers-on _ _ _ _ _ (l .i) (l .kept) _ (admitted .admit-symbol .result) (l .work) (admitted .admit-symbol .last .1 .0) (l .inv .1) (one admitted) (c .before .now .given .1))
+    let t = c .before .before .before .before .before .before .before .before .before .loop-test .taken in
+    (omega (arith, t), gathers-on _ _ _ _ _ (l .i) (l .kept) _ (admitted .admit-symbol .result) (l .work) (admitted .admit-symbol .last .1 .0) (l .inv .1) (one admitted) (c .before .now .given .1))
 
 -- src/repair.rt:38:1
 same-length-2 : tie.Need-same-length-2 Inv-loop μ-loop

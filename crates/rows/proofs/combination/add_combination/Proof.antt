@@ -34,7 +34,10 @@ same-length-2 c = search needs
 returns-2 : tie.Need-returns-2
 returns-2 c =
     let s = c .before .before .before .before .before .before .before .before .before .before .before .before .before .before in
-    cc (scaled-back (s .before .args .dst .now) (λ i. s .slice-known .given i .fits))
+    let back = scaled-back (s .before .args .dst .now) (λ i. s .slice-known .given i .fits) in
+    let m = c .before .before .before .before .before .before in
+    rw (m .scale .kept .0, m .scale .ensures, m .before .inverse .ensures, m .before .before .double .ensures, back)
+    at (c .before .before .add-digits .ensures)
 
 pub add-combination-spec : {M : Type 1} → statement M
 add-combination-spec =

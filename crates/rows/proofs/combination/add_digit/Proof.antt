@@ -60,7 +60,7 @@ same-length c = search needs
 returns : tie.Need-returns Inv-loop μ-loop
 returns c =
     let e : c .before .loop .k ≡ length (c .before .before .before .before .before .args .cs .now) = omega arith in
-    cc
+    rw e at (c .before .loop .inv .1)
 
 pub add-digit-spec : {M : Type 1} → statement M
 add-digit-spec =

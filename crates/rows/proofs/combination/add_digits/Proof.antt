@@ -1,5 +1,5 @@
 -- `rows::combination::add_digits` meets its contract. The loop: the sum has the j highest binary digits of the coefficients.
-use mathlib.Core.Path.{_≡_, refl}
+use mathlib.Core.Path.{_≡_, refl, sym, _∙_}
 use Prim.Native.Nat.{_≤_, _-_, _+_, suc}
 use native.Mathlib.Omega.{arith}
 use lib.ListN.{length}
@@ -25,14 +25,11 @@ loop-holds : tie.Need-loop-holds Inv-loop μ-loop
 loop-holds c =
     let a = c .before .before .before .args in
     let d = a .dst .now in
-    let row = rowAt (a .mem .now) (a .a) (a .s) (length d) in (
-      omega arith,
-      cc (
-        combined-start row (a .cs .now) (length (a .cs .now)) (scaled (power 0) d) (λ i. c .before .shared-slice-known .given i .fits),
-        scaled-start d (λ i. c .before .before .slice-known .given i .fits),
-      ),
-      refl,
-    )
+    let row = rowAt (a .mem .now) (a .a) (a .s) (length d) in
+    let start =
+    combined-start row (a .cs .now) (length (a .cs .now)) (scaled (power 0) d) (λ i. c .before .shared-slice-known .given i .fits)
+    ∙ scaled-start d (λ i. c .before .before .slice-known .given i .fits) in
+    (omega arith, sym start, refl)
 
 double-requires : tie.Need-double-requires Inv-loop μ-loop
 double-requires c κs = search needs
@@ -52,7 +49,9 @@ loop-less c = search needs
 loop-again : tie.Need-loop-again Inv-loop μ-loop
 loop-again c =
     let a = c .before .before .before .before .before .before .before .before .before .before .before .before .before .args in
-    let j = c .before .before .before .before .before .before .before .before .before .loop .j in
+    let t = c .before .before .before .before .before .before .before .before .before .loop in
+    let j = t .j in
+    let two = c .before .before .before .before .before .before .double in
     let d = a .dst .now in
     let n = length (a .cs .now) in
     let e : 8 - j ≡ suc (7 - j) = omega arith in
@@ -60,10 +59,8 @@ loop-again c =
     let row = rowAt (a .mem .now) (a .a) (a .s) (length d) in
     let long = long-rows (a .mem .now) (a .a) (a .s) (length d) n (omega arith) (omega arith) in (
       search needs,
-      cc (
-        combined-shifted row (length d) n long (a .cs .now) (7 - j) (scaled (power j) d) (length-scaled (power j) d),
-        scaled-next j d,
-      ),
+      rw (c .before .before .add-digit .ensures, two .kept .0, t .inv .2, two .ensures, t .inv .1, e, f, ← (scaled-next j d))
+          (combined-shifted row (length d) n long (a .cs .now) (7 - j) (scaled (power j) d) (length-scaled (power j) d)),
       search needs,
     )
 
@@ -75,8 +72,8 @@ returns c =
     let a = c .before .before .before .before .before .args in
     let d = a .dst .now in
     let e : c .before .loop .j ≡ 8 = omega arith in
-    let z : 8 - c .before .loop .j ≡ 0 = omega arith in
-    cc (combined-end (rowAt (a .mem .now) (a .a) (a .s) (length d)) (a .cs .now) (length (a .cs .now)) (scaled (power 8) d))
+    (rw e at (c .before .loop .inv .1))
+    ∙ combined-end (rowAt (a .mem .now) (a .a) (a .s) (length d)) (a .cs .now) (length (a .cs .now)) (scaled (power 8) d)
 
 pub add-digits-spec : {M : Type 1} → statement M
 add-digits-spec =

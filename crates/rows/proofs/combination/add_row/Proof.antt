@@ -44,7 +44,7 @@ returns-2 : tie.Need-returns-2
 unfolding rowAt
 returns-2 c =
     let a = c .before .before .before .before .before .before .before .before .before .args in
-    cc (cut (a .a + a .k * a .s) (length (a .dst .now)) (a .mem .now))
+    rw (cut (a .a + a .k * a .s) (length (a .dst .now)) (a .mem .now)) at (c .before .before .add-scaled .ensures)
 
 pub add-row-spec : {M : Type 1} → statement M
 add-row-spec =

@@ -1,6 +1,4 @@
 -- `rows::combination::combine` meets its contract.
-use lib.ListN.{length}
-use Rattle.field.specs.Gf256.{power}
 use Rattle.rows.proofs.Sums.{scaled-zeros}
 use borrow.Author.Needs.{needs}
 use Rattle.rows.proofs.combination.combine.Statement.{statement}
@@ -19,7 +17,9 @@ same-length : tie.Need-same-length
 same-length c = search needs
 
 returns : tie.Need-returns
-returns c = cc
+returns c =
+    let f = c .before .before .before .before .before .before .before .before .fill in
+    rw (f .kept .0, f .ensures) at (c .before .before .add-rows .ensures)
 
 add-digits-requires : tie.Need-add-digits-requires
 add-digits-requires c κs = search needs
@@ -29,8 +29,8 @@ same-length-2 c = search needs
 
 returns-2 : tie.Need-returns-2
 returns-2 c =
-    let n = length (c .before .before .before .before .before .before .before .before .before .before .before .before .before .args .dst .now) in
-    cc (scaled-zeros (power 8) n)
+    let f = c .before .before .before .before .before .before .before .before .fill in
+    rw (f .kept .0, f .ensures, scaled-zeros) at (c .before .before .add-digits .ensures)
 
 pub combine-spec : {M : Type 1} → statement M
 combine-spec =

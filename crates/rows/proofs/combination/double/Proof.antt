@@ -1,5 +1,5 @@
 -- `rows::combination::double` meets its contract. The loop: the first i elements are those of the result.
-use mathlib.Core.Path.{_≡_}
+use mathlib.Core.Path.{_≡_, _∙_}
 use Prim.Native.Nat.{_≤_, _-_}
 use native.Mathlib.Omega.{arith}
 use lib.ListN.{length}
@@ -36,13 +36,16 @@ loop-less c = search needs
 loop-again : tie.Need-loop-again Inv-loop μ-loop
 loop-again c =
     let row = c .before .before .before .before .before .args .row .now in
-    (search needs, cc (multiplied-turn 2 row (c .before .before .before .loop .i) (omega arith)), search needs)
+    let t = c .before .before .before .loop in
+    (search needs, rw (c .double .ensures, t .inv .1) (multiplied-turn 2 row (t .i) (omega arith)), search needs)
 
 same-length : tie.Need-same-length Inv-loop μ-loop
 same-length c = search needs
 
 returns : tie.Need-returns Inv-loop μ-loop
-returns c = cc (multiplied-end 2 (c .before .before .before .args .row .now) (c .before .loop .i) (omega arith))
+returns c =
+    let t = c .before .loop in
+    t .inv .1 ∙ multiplied-end 2 (c .before .before .before .args .row .now) (t .i) (omega arith)
 
 pub double-spec : {M : Type 1} → statement M
 double-spec =

@@ -69,7 +69,7 @@ returns-4 c =
     (not-true (all .result) (c .if4 .taken)) (all .ensures)
 
 is-padded-requires : tie.Need-is-padded-requires
-is-padded-requires c κs = (search needs, search needs, spans (whole c))
+is-padded-requires c κs = let s = start (c .before .before .before .before) .pre in (s .0, s .1, spans (whole c))
 
 returns-5 : tie.Need-returns-5
 returns-5 c =
@@ -82,7 +82,9 @@ returns-6 c =
     no-room _ _ _ _ _ _ _ _ _ (whole (c .before .before .before)) (sym (padded .ensures) ∙ not-false (padded .result) (c .before .if5 .left)) (c .if6 .taken)
 
 copy-adu-requires : tie.Need-copy-adu-requires
-copy-adu-requires c κs = (search needs, search needs, spans (whole (c .before .before .before .before)), c .before .if6 .left)
+copy-adu-requires c κs =
+    let s = start (c .before .before .before .before .before .before .before .before) .pre in
+    (s .0, s .1, spans (whole (c .before .before .before .before)), c .before .if6 .left)
 
 shared-slice-read-t23 : tie.Need-shared-slice-read-t23
 shared-slice-read-t23 c =
@@ -111,7 +113,7 @@ hand-out-spec =
     (λ c. search needs)
     (λ c κs. search needs)
     returns-3
-    (λ c κs. search needs)
+    (λ c κs. start (c .before .before) .pre)
     returns-4
     is-padded-requires
     returns-5

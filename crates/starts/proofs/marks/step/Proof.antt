@@ -19,7 +19,7 @@ returns : tie.Need-returns
 returns c =
     let p1 = c .before in
     let p4 = p1 .before .before .before in
-    step-unmarked _ _ _ (p4 .args .i) _ (omega arith) (p1 .is-marked .result) (p1 .is-marked .ensures) (not-true (p1 .is-marked .result) (c .if1 .taken))
+    step-unmarked _ _ _ (p4 .args .i) _ (p4 .pre .2) (p1 .is-marked .result) (p1 .is-marked .ensures) (not-true (p1 .is-marked .result) (c .if1 .taken))
 
 -- src/marks.rt:128:9
 row-of-requires : tie.Need-row-of-requires
@@ -39,7 +39,7 @@ returns-2 c =
     let p1 = c .before in
     let p3 = p1 .before .before in
     let p8 = p3 .before .before .before .before .before in
-    step-unknown _ _ _ (p8 .args .i) _ _ (omega arith) (p3 .row-of .ensures .0) (p1 .is-known .result)
+    step-unknown _ _ _ (p8 .args .i) _ _ (p8 .pre .2) (p3 .row-of .ensures .0) (p1 .is-known .result)
     (not-true (p1 .is-known .result) (c .if2 .taken)) (p1 .is-known .ensures)
 
 -- src/marks.rt:132:9
@@ -79,7 +79,7 @@ returns-3 c =
     let p10 = p9 .before in
     let p12 = p10 .before .before in
     let p13 = p12 .before in
-    step-long _ _ _ (p13 .args .i) _ _ (omega arith) (p8 .row-of .ensures .0) _ _ _ (p13 .pre .0) (λ i. p12 .slice-known .given i .fits)
+    step-long _ _ _ (p13 .args .i) _ _ (p13 .pre .2) (p8 .row-of .ensures .0) _ _ _ (p13 .pre .0) (λ i. p12 .slice-known .given i .fits)
     (p4 .symbol-at .ensures .0) (p6 .is-known .result) (not-false (p6 .is-known .result) (p5 .if2 .left)) (p6 .is-known .ensures)
     (p2 .load-u16 .ensures) (p1 .symbol-count .ensures)
     (p10 .is-marked .result) (p10 .is-marked .ensures) (not-false (p10 .is-marked .result) (p9 .if1 .left)) (c .if3 .taken)
@@ -111,7 +111,7 @@ returns-4 c =
     let p15 = p14 .before in
     let p17 = p15 .before .before in
     let p18 = p17 .before in
-    step-far _ _ _ (p18 .args .i) _ _ (omega arith) (p13 .row-of .ensures .0) _ _ _ (p18 .pre .0) (λ i. p17 .slice-known .given i .fits)
+    step-far _ _ _ (p18 .args .i) _ _ (p18 .pre .2) (p13 .row-of .ensures .0) _ _ _ (p18 .pre .0) (λ i. p17 .slice-known .given i .fits)
     (p9 .symbol-at .ensures .0) (p11 .is-known .result) (not-false (p11 .is-known .result) (p10 .if2 .left)) (p11 .is-known .ensures)
     (p7 .load-u16 .ensures) (p6 .symbol-count .ensures)
     (p15 .is-marked .result) (p15 .is-marked .ensures) (not-false (p15 .is-marked .result) (p14 .if1 .left)) _ (p4 .if4 .taken) (p2 .note .ensures)
@@ -122,7 +122,9 @@ add-is-marked c = search needs
 
 -- src/marks.rt:141:8
 is-marked-requires-2 : tie.Need-is-marked-requires-2
-is-marked-requires-2 c κs = search needs
+is-marked-requires-2 c κs =
+    let s = c .before .before .before .before .before .before .before .before .before .before .before .before .before .before .before .pre in
+    (s .0, s .1, omega (arith, s .2, c .before .if4 .left))
 
 -- src/marks.rt:142:9
 same-length-5 : tie.Need-same-length-5
@@ -143,7 +145,7 @@ returns-5 c =
     let p14 = p13 .before in
     let p16 = p14 .before .before in
     let p17 = p16 .before in
-    step-again _ _ _ (p17 .args .i) _ _ (omega arith) (p12 .row-of .ensures .0) _ _ _ (p17 .pre .0) (λ i. p16 .slice-known .given i .fits)
+    step-again _ _ _ (p17 .args .i) _ _ (p17 .pre .2) (p12 .row-of .ensures .0) _ _ _ (p17 .pre .0) (λ i. p16 .slice-known .given i .fits)
     (p8 .symbol-at .ensures .0) (p10 .is-known .result) (not-false (p10 .is-known .result) (p9 .if2 .left)) (p10 .is-known .ensures)
     (p6 .load-u16 .ensures) (p5 .symbol-count .ensures)
     (p14 .is-marked .result) (p14 .is-marked .ensures) (not-false (p14 .is-marked .result) (p13 .if1 .left))
@@ -155,7 +157,10 @@ add-set c = search needs
 
 -- src/marks.rt:144:5
 set-requires : tie.Need-set-requires
-set-requires c κs = search needs
+set-requires c κs =
+    let p = c .before .before .before .before in
+    let s = p .before .before .before .before .before .before .before .before .before .before .before .before .before .before .pre in
+    (s .0, s .1, omega (arith, s .2, p .if4 .left))
 
 -- src/marks.rt:145:5
 add-result : tie.Need-add-result
@@ -180,7 +185,7 @@ returns-6 c =
     let p18 = p17 .before in
     let p20 = p18 .before .before in
     let p21 = p20 .before in
-    step-near _ _ _ (p21 .args .i) _ _ (omega arith) (p16 .row-of .ensures .0) _ _ _ (p21 .pre .0) (λ i. p20 .slice-known .given i .fits)
+    step-near _ _ _ (p21 .args .i) _ _ (p21 .pre .2) (p16 .row-of .ensures .0) _ _ _ (p21 .pre .0) (λ i. p20 .slice-known .given i .fits)
     (p12 .symbol-at .ensures .0) (p14 .is-known .result) (not-false (p14 .is-known .result) (p13 .if2 .left)) (p14 .is-known .ensures)
     (p10 .load-u16 .ensures) (p9 .symbol-count .ensures)
     (p18 .is-marked .result) (p18 .is-marked .ensures) (not-false (p18 .is-marked .result) (p17 .if1 .left)) _ (p7 .if4 .left) (p2 .set .ensures)
