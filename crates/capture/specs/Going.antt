@@ -1,4 +1,5 @@
--- What the program does with what it has read: it hands it to the library in order, and all of it as long as more is wanted.
+-- What the program's function that is given a piece of the input does with it: it hands it to the library in order, and all of it as long as more is wanted,
+-- unless it says that it failed. Whether it may say so no contract can tell, since none speaks of what was written; nor does any say what was read.
 use mathlib.Core.Path.{_≡_}
 use mathlib.Core.Logic.{_⊎_}
 use mathlib.Core.Bool.{true, false, not}
@@ -18,7 +19,7 @@ pub record Handed (p : Progress) (line m input : List ℕ) (p′ : Progress) (li
   pub memory-is : memoryLeft m pieces ≡ m′
   pub input-is : input ≡ taken pieces ++ left
 
--- a piece of the input was worked through: where it could be printed, nothing of it is left, or no more is wanted
+-- a piece of the input was worked through: where the function does not say that it failed, nothing of it is left, or no more is wanted
 pub record Went (p : Progress) (line line′ m m′ input : List ℕ) (r : Heard) : Type 0 where
   pub more : r .failed ≡ false → r .more ≡ not (isOver (r .progress))
   pub left : List ℕ
