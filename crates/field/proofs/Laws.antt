@@ -2,8 +2,8 @@
 use mathlib.Core.Path.{_≡_, refl, sym, ap, ap₂, _∙_}
 use mathlib.Core.Bool.{Bool, true, false}
 use mathlib.Core.List.{List}
-use Prim.Native.Nat.{ℕ, zero, suc, _+_, _-_, _≤_, _<_}
-use native.Mathlib.Nat.{add-zero, zero-add, add-suc, suc-add, le-of-suc-le-suc, not-suc-le-zero}
+use Prim.Native.Nat.{ℕ, zero, suc, _+_, _*_, _-_, _/_, _%_, _≤_, _<_}
+use native.Mathlib.Nat.{div-add-mod', zero-mul, add-zero, zero-add, add-suc, suc-add, le-of-suc-le-suc, not-suc-le-zero}
 use native.Mathlib.Omega.{arith}
 use lib.Arith.{lt-of-le-ne}
 use lib.Bits.{bitXor}
@@ -61,6 +61,20 @@ pub power-sum : (m n : ℕ) → power (m + n) ≡ product (power m) (power n)
 unfolding power
 power-sum zero n = ap power (zero-add n) ∙ sym (product-one (power n) (power-lt n))
 power-sum (suc m) n = ap power (suc-add m n) ∙ ap (product 2) (power-sum m n) ∙ sym (product-assoc 2 (power m) (power n))
+
+power-255 : power 255 ≡ 1
+unfolding power product
+power-255 = refl
+
+-- the powers repeat after 255 of them
+pub power-reduced : (e : ℕ) → power (e % 255) ≡ power e
+power-reduced e = sym (go (e / 255) (e % 255)) ∙ ap power (div-add-mod' e 255)
+  where
+    go : (q r : ℕ) → power (q * 255 + r) ≡ power r
+    go zero r = ap power (simp (zero-mul, zero-add))
+    go (suc q) r =
+        let s : suc q * 255 + r ≡ 255 + (q * 255 + r) = omega arith in
+        ap power s ∙ power-sum 255 (q * 255 + r) ∙ ap₂ product power-255 (go q r) ∙ product-one (power r) (power-lt r)
 
 -- ---- the tables
 
@@ -127,10 +141,6 @@ inverse-lt a = inverse-below-lt 256 a (omega arith)
 pub inverse-is : (a b : ℕ) → b < 256 → product a b ≡ 1 → inverse a ≡ b
 unfolding inverse
 inverse-is a b h p = inverse-found 256 a b h (omega arith) p
-
-power-255 : power 255 ≡ 1
-unfolding power product
-power-255 = refl
 
 -- the inverse by logarithmTable
 pub inverse-power : (a e : ℕ) → IsLogarithm a e → product a (power (255 - e)) ≡ 1

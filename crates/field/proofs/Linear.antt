@@ -5,13 +5,11 @@ use Prim.Native.Nat.{ℕ, zero, suc, _+_, _*_, _/_, _%_, _^_, _-_, _≤_, _<_}
 use native.Mathlib.Nat.{zero-mul, one-mul, pow-suc}
 use native.Mathlib.Omega.{arith}
 use lib.Bits.{bitXor, xor-zero-r, xor-comm, xor-shifted}
-use lib.Dec.{lit<}
-use lib.ListN.{getD}
-use Rattle.field.specs.Gf256.{product, times, remainder, power}
-use Rattle.field.specs.Tables.{doublings, powerTable}
+use Rattle.field.specs.Gf256.{product, times, remainder}
+use Rattle.field.specs.Tables.{doublings}
 use Rattle.field.proofs.Xor.{digit, split-digit}
 use Rattle.field.proofs.Polynomial.{remainder-times, remainder-id, remainder-xor}
-use Rattle.field.proofs.Laws.{doublings-at, product-lt, product-comm, product-assoc, product-sum, product-zero, product-zero-right, product-one}
+use Rattle.field.proofs.Laws.{product-lt, product-comm, product-assoc, product-sum, product-zero, product-zero-right, product-one}
 
 times-two : (s : ℕ) → times 2 s ≡ s * 2
 unfolding times
@@ -44,30 +42,14 @@ chosen-product zero c s h l = let z : s ≡ 0 = omega arith in rw z (sym (produc
 chosen-product (suc n) c s h l =
     ap (bitXor (s % 2 * c)) (chosen-product n (product 2 c) (s / 2) (product-lt 2 c) (omega (arith, pow-suc 2 n))) ∙ sym (product-digit c s h)
 
--- the powers from e + k on, one by one
-doublings-power : (n e k : ℕ) → doublings (suc n) (power (e + k)) ≡ power (e + k) ∷ doublings n (power (e + (k + 1)))
-unfolding doublings power
-doublings-power n e k = let q : e + (k + 1) ≡ suc (e + k) = omega arith in rw q
-
--- eight powers from e on are the doublings of the power e
-eight-powers : (e : ℕ)
-    → power e ∷ power (e + 1) ∷ power (e + 2) ∷ power (e + 3) ∷ power (e + 4) ∷ power (e + 5) ∷ power (e + 6) ∷ power (e + 7) ∷ [] ≡ doublings 8 (power e)
+-- the doublings, one after the other
+pub doubled : (n : ℕ) {x y : ℕ} {l : List ℕ} → y ≡ product 2 x → l ≡ doublings n y → x ∷ l ≡ doublings (suc n) x
 unfolding doublings
-eight-powers e =
-    let d = doublings-power in
-    let z : e + 0 ≡ e = omega arith in
-    cc (z, d 7 e 0, d 6 e 1, d 5 e 2, d 4 e 3, d 3 e 4, d 2 e 5, d 1 e 6)
+doubled n {x} p q = ap (λ (t : List ℕ). x ∷ t) (q ∙ ap (doublings n) p)
 
--- the same in the table
-pub entry : (t : List ℕ) → t ≡ powerTable → (k : ℕ) → k < 510 → getD t k 0 ≡ power k
-entry t q k h = ap (λ (u : List ℕ). getD u k 0) q ∙ doublings-at 510 k h
-
-pub eight-entries : (t : List ℕ) → t ≡ powerTable → (e : ℕ) → e < 255
-    → getD t e 0 ∷ getD t (e + 1) 0 ∷ getD t (e + 2) 0 ∷ getD t (e + 3) 0 ∷ getD t (e + 4) 0 ∷ getD t (e + 5) 0 ∷ getD t (e + 6) 0 ∷ getD t (e + 7) 0 ∷ []
-    ≡ doublings 8 (getD t e 0)
-eight-entries t q e h =
-    let p : (k : ℕ) → k < 8 → getD t (e + k) 0 ≡ power (e + k) = λ k l. entry t q (e + k) (omega arith) in
-    rw (entry t q e (omega arith), p 1 (lit< tt), p 2 (lit< tt), p 3 (lit< tt), p 4 (lit< tt), p 5 (lit< tt), p 6 (lit< tt), p 7 (lit< tt)) (eight-powers e)
+pub doubled-last : (x : ℕ) → x ∷ [] ≡ doublings 1 x
+unfolding doublings
+doubled-last x = refl
 
 -- ---- twice a byte: shifted, less the modulus if that reaches 256
 

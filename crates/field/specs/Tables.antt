@@ -11,9 +11,9 @@ unfolding product
 doublings zero x = []
 doublings (suc n) x = x ∷ doublings n (product 2 x)
 
--- The powers of 2 with exponents 0 to 509.
+-- The powers of 2 with exponents 0 to 254.
 abbrev pub powerTable : List ℕ
-powerTable = doublings 510 1
+powerTable = doublings 255 1
 
 -- Where x stands in a list.
 unfoldable pub index-of : ℕ → List ℕ → ℕ
@@ -29,4 +29,4 @@ indices ps (suc n) x = index-of x ps ∷ indices ps n (suc x)
 -- The logarithms of 1 to 255.
 unfoldable pub logarithmTable : List ℕ
 unfolding doublings indices
-logarithmTable = indices (doublings 255 1) 255 1
+logarithmTable = indices powerTable 255 1

@@ -1,35 +1,53 @@
 -- `field::Gf256::multiples` meets its contract.
-use Rattle.field.specs.Tables.{doublings}
+use mathlib.Core.Path.{refl}
+use Rattle.field.proofs.Linear.{doubled, doubled-last}
 use borrow.Author.Needs.{needs}
 use Rattle.field.proofs.Gf256.multiples.Statement.{statement}
 use Rattle.field.proofs.Gf256.multiples.Tie as tie
 
+double-requires : tie.Need-double-requires
+double-requires c κs = search needs
+
+double-requires-2 : tie.Need-double-requires-2
+double-requires-2 c κs = search needs
+
+double-requires-3 : tie.Need-double-requires-3
+double-requires-3 c κs = search needs
+
+double-requires-4 : tie.Need-double-requires-4
+double-requires-4 c κs = search needs
+
+double-requires-5 : tie.Need-double-requires-5
+double-requires-5 c κs = search needs
+
+double-requires-6 : tie.Need-double-requires-6
+double-requires-6 c κs = search needs
+
+double-requires-7 : tie.Need-double-requires-7
+double-requires-7 c κs = search needs
+
 returns : tie.Need-returns
-unfolding doublings
-returns c = search needs
-
-powers-requires : tie.Need-powers-requires
-powers-requires c κs = search needs
-
-logarithms-requires : tie.Need-logarithms-requires
-logarithms-requires c κs = search needs
-
-logarithm-requires : tie.Need-logarithm-requires
-logarithm-requires c κs = search needs
-
-from-power-requires : tie.Need-from-power-requires
-from-power-requires c κs = search needs
-
-returns-2 : tie.Need-returns-2
-returns-2 c = search needs
+returns c =
+    let c6 = c .before in
+    let c5 = c6 .before in
+    let c4 = c5 .before in
+    let c3 = c4 .before in
+    let c2 = c3 .before in
+    let c1 = c2 .before in (
+      refl,
+      doubled 7 (c1 .double .ensures) (doubled 6 (c2 .double2 .ensures) (doubled 5 (c3 .double3 .ensures) (doubled 4 (c4 .double4 .ensures)
+          (doubled 3 (c5 .double5 .ensures) (doubled 2 (c6 .double6 .ensures) (doubled 1 (c .double7 .ensures) (doubled-last _))))))),
+    )
 
 pub multiples-spec : {M : Type 1} → statement M
 multiples-spec =
     tie.close
     (tie.spec
-    returns
-    powers-requires
-    logarithms-requires
-    logarithm-requires
-    from-power-requires
-    returns-2)
+    double-requires
+    double-requires-2
+    double-requires-3
+    double-requires-4
+    double-requires-5
+    double-requires-6
+    double-requires-7
+    returns)

@@ -1,20 +1,25 @@
 -- `field::tables::power` meets its contract, by the rule of the table.
-use mathlib.Core.Path.{_∙_, ap}
+use mathlib.Core.Path.{_∙_, ap₂}
 use mathlib.Core.List.{List}
-use Prim.Native.Nat.{ℕ}
+use Prim.Native.Nat.{ℕ, _%_}
+use native.Mathlib.Omega.{arith}
 use lib.ListN.{getD}
 use borrow.Author.Needs.{needs}
-use Rattle.field.proofs.Laws.{doublings-at}
+use Rattle.field.proofs.Laws.{doublings-at, power-reduced}
 use Rattle.field.proofs.tables.power.Statement.{statement}
 use Rattle.field.proofs.tables.power.Tie as tie
+
+reduced-requires : tie.Need-reduced-requires
+reduced-requires c κs = search needs
 
 element-copy-out-result : tie.Need-element-copy-out-result
 element-copy-out-result c = search needs
 
 returns : tie.Need-returns
 returns c =
-    let s = c .before in
-    ap (λ (l : List ℕ). getD l (s .args .exponent) 0) (s .pre .0) ∙ doublings-at 510 (s .args .exponent) (s .pre .1)
+    let s = c .before .before in
+    let e = s .args .exponent in
+    ap₂ (λ (l : List ℕ) (k : ℕ). getD l k 0) (s .pre .0) (c .before .reduced .ensures) ∙ doublings-at 255 (e % 255) (omega arith) ∙ power-reduced e
 
 pub power-spec : {M : Type 1} → statement M
-power-spec = tie.close (tie.spec element-copy-out-result returns)
+power-spec = tie.close (tie.spec reduced-requires element-copy-out-result returns)
