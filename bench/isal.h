@@ -16,12 +16,19 @@ static struct encoding *encoding_of(size_t n, size_t count, u8 *coefficients, u8
   return e;
 }
 
+// Clears the upper halves of the vector registers, which ISA-L leaves in use: until then SSE2 code, which knows nothing of them, is slow.
+static __attribute__((target("avx"))) void clear_upper_halves(void) { __builtin_ia32_vzeroupper(); }
+static void leave(void) {
+  if (__builtin_cpu_supports("avx")) clear_upper_halves();
+}
+
 // dst becomes the sum.
 #define ENCODE(name, call, prepare)                              \
   static void name(void *of) {                                   \
     struct encoding *e = of;                                     \
     prepare;                                                     \
     call(e->n, e->count, 1, e->tables, e->rows, &e->dst);        \
+    leave();                                                     \
   }
 ENCODE(run_encode, ec_encode_data, )
 ENCODE(run_encode_tables, ec_encode_data, ec_init_tables(e->count, 1, e->coefficients, e->tables))
@@ -37,6 +44,7 @@ ENCODE(run_encode_base, ec_encode_data_base, )
       prepare;                                                   \
       call(e->n, 1, 0, tables, e->rows[k], e->dst);              \
     }                                                            \
+    leave();                                                     \
   }
 ADD(run_mad, gf_vect_mad, )
 ADD(run_mad_tables, gf_vect_mad, ec_init_tables(1, 1, e->coefficients + k, tables))
