@@ -9,7 +9,6 @@ pub mod Reading
 pub mod NotEmpty
 pub mod ReceiverUnopened
 pub mod Receiver
-pub mod Bench
 pub mod Handing
 pub mod SentAdus
 pub mod Drawing
