@@ -3,14 +3,14 @@ ghost use mathlib.Core.Path.{_≡_};
 ghost use Prim.Native.Nat.{_<_};
 ghost use lib.ListN.{length};
 ghost use Rattle.rows.specs.Rows.{addScaled};
-ghost use Rattle.elimination.specs.Window.{Fits};
-use elimination::Shape;
+ghost use Rattle.table.specs.Window.{Fits};
 use field::Gf256;
 use field::tables;
 use receiver::PacketAnswer;
 use sender::Answer;
 use sender::RepairAnswer;
 use starts::Handed;
+use table::Shape;
 use wire::Esi;
 use wire::RepairKey;
 

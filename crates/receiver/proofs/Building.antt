@@ -30,7 +30,7 @@ use Rattle.decoder.specs.Model.{Row, end, free, pivot, Rref}
 use Rattle.decoder.specs.Stretch.{symbol-at}
 use Rattle.decoder.specs.Table.{Line, Table, read, slot, view, Echelon}
 use Rattle.decoder.proofs.Bytes.{byte-of}
-use Rattle.elimination.specs.Window as window
+use Rattle.table.specs.Window as window
 use Rattle.receiver.specs.Symbol.{Symbol, bytesOf}
 use Rattle.receiver.specs.History.{memorySize}
 use Rattle.receiver.specs.Model.{Joined}

@@ -18,7 +18,7 @@ use Rattle.decoder.specs.Model.{Row, Rref, known}
 use Rattle.decoder.specs.Receiver as decoder
 use Rattle.decoder.specs.Packets as packets
 use Rattle.decoder.specs.Table.{read, slot, view, Echelon}
-use Rattle.elimination.specs.Window as window
+use Rattle.table.specs.Window as window
 use Rattle.receiver.specs.declared.Header.{Header}
 use Rattle.receiver.specs.History.{source, repair, Place, behind, ahead, placeOf, Call, source-call, repair-call, Reading, fails}
 use Rattle.receiver.specs.History.{located, check, placed, readSource, readRepair, reading}

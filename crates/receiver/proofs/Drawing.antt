@@ -4,7 +4,7 @@ use mathlib.Core.Option.{some, Option·some-injective}
 use mathlib.Core.List.{List}
 use Prim.Native.Nat.{ℕ, _≤_}
 use native.Mathlib.Omega.{arith}
-use Rattle.elimination.specs.Packet.{Works}
+use Rattle.table.specs.Packet.{Works}
 use Rattle.wire.specs.declared.Refusal.{Refusal}
 use Rattle.receiver.specs.declared.Answer.the-variants.{Done, Refused}
 use Rattle.receiver.specs.declared.PacketAnswer.the-variants as answers

@@ -17,9 +17,9 @@ use Rattle.wire.specs.declared.Refusal.{Refusal}
 use Rattle.wire.specs.declared.Refusal.the-variants.{Unopened, Behind, Unknown}
 use Rattle.wire.specs.Numbers.{distanceOf, numberOf}
 use Rattle.decoder.specs.Model.{known}
-use Rattle.elimination.specs.Window as window
-use Rattle.elimination.specs.Place.{Known}
-use Rattle.elimination.proofs.Showing.{symbol-bytes}
+use Rattle.table.specs.Window as window
+use Rattle.placing.specs.Place.{Known}
+use Rattle.placing.proofs.Showing.{symbol-bytes}
 use Rattle.receiver.specs.declared.Answer.the-variants.{Done, Refused}
 use Rattle.receiver.specs.declared.Header.{Header}
 use Rattle.receiver.specs.declared.Spot.{Spot}

@@ -20,10 +20,10 @@ use Rattle.decoder.specs.Model as model
 use Rattle.decoder.specs.Receiver as decoder
 use Rattle.decoder.proofs.Bytes.{laws}
 use Rattle.decoder.proofs.History as history
-use Rattle.elimination.specs.Window as window
-use Rattle.elimination.specs.Place.{Committed}
-use Rattle.elimination.proofs.Rows.{fits-kept}
-use Rattle.elimination.proofs.Holding.{window-header}
+use Rattle.table.specs.Window as window
+use Rattle.placing.specs.Place.{Committed}
+use Rattle.table.proofs.Rows.{fits-kept}
+use Rattle.table.proofs.Holding.{window-header}
 use Rattle.starts.specs.Marks.{flagAt}
 use Rattle.receiver.specs.declared.Header.{Header}
 use Rattle.receiver.specs.declared.packet.PacketPlace.{PacketPlace}

@@ -13,15 +13,15 @@ use Rattle.decoder.specs.Model as model
 use Rattle.decoder.specs.Receiver as decoder
 use Rattle.decoder.specs.Stretch.{symbol-at}
 use Rattle.decoder.proofs.Jump.{insert-all-append}
-use Rattle.elimination.specs.declared.gather.Verdict.{Verdict}
-use Rattle.elimination.specs.declared.gather.Verdict.the-variants as verdict
-use Rattle.elimination.specs.Window.{stride, place, row, equation}
-use Rattle.elimination.specs.Packet as packet
-use Rattle.elimination.specs.Gather.{Only, LaidIn, Admitted, Agrees, count-kept}
-use Rattle.elimination.proofs.Framing.{only-trans, only-wider, only-splice, works-only, row-room}
-use Rattle.elimination.proofs.Admitting.{gathered-only, gathered-none}
-use Rattle.elimination.proofs.Laying.{laid-symbol}
-use Rattle.elimination.proofs.Spelling.{symbol-moved}
+use Rattle.gather.specs.declared.Verdict.{Verdict}
+use Rattle.gather.specs.declared.Verdict.the-variants as verdict
+use Rattle.table.specs.Window.{stride, place, row, equation}
+use Rattle.table.specs.Packet as packet
+use Rattle.gather.specs.Gather.{Only, LaidIn, Admitted, Agrees, count-kept}
+use Rattle.gather.proofs.Framing.{only-trans, only-wider, only-splice, works-only, row-room}
+use Rattle.gather.proofs.Admitting.{gathered-only, gathered-none}
+use Rattle.gather.proofs.Laying.{laid-symbol}
+use Rattle.gather.proofs.Spelling.{symbol-moved}
 use Rattle.receiver.specs.declared.packet.PacketPlace.{PacketPlace}
 use Rattle.receiver.specs.declared.packet.Gathered.{Gathered}
 use Rattle.receiver.specs.declared.packet.Gathered.the-variants.{All, Contradiction}

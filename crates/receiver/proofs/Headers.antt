@@ -20,7 +20,7 @@ use Rattle.wire.specs.Settings.{settingIn, Valid, checkedOf}
 use Rattle.wire.proofs.Settings.{both, setting-found, setting-kept, zeros-none, one-kind}
 use Rattle.decoder.proofs.Bytes.{laws}
 use Rattle.decoder.proofs.History as history
-use Rattle.elimination.specs.Window.{Fits}
+use Rattle.table.specs.Window.{Fits}
 use Rattle.receiver.specs.declared.Header.{Header}
 use Rattle.receiver.specs.declared.Found.{Found}
 use Rattle.receiver.specs.declared.Found.the-variants.{HeaderIs, NoHeader}

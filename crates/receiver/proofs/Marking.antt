@@ -18,7 +18,7 @@ use Rattle.wire.proofs.Settings.{setting-kept}
 use Rattle.decoder.specs.Bytes.{Coded}
 use Rattle.decoder.specs.Model as model
 use Rattle.decoder.specs.Receiver as decoder
-use Rattle.elimination.specs.Window as window
+use Rattle.table.specs.Window as window
 use Rattle.starts.specs.Starts.{Starts, moved, pass, seen}
 use Rattle.starts.specs.Settled.{Settled, Old}
 use Rattle.starts.specs.Marks as marks

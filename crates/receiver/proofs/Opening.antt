@@ -16,7 +16,7 @@ use Rattle.wire.specs.declared.Refusal.the-variants.{Values, Short}
 use Rattle.wire.specs.Packets.{zeros}
 use Rattle.wire.specs.Settings.{settingOf, settingIn, settingBytes, Valid}
 use Rattle.wire.proofs.Settings.{setting-names, setting-written, setting-kept}
-use Rattle.elimination.specs.Place.{Emptied}
+use Rattle.placing.specs.Place.{Emptied}
 use Rattle.starts.specs.Starts.{nowhere}
 use Rattle.starts.specs.Contracts.{Cleared}
 use Rattle.receiver.specs.declared.Answer.the-variants.{Done, Refused}

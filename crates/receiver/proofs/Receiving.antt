@@ -16,8 +16,8 @@ use Rattle.decoder.specs.Bytes.{Coded}
 use Rattle.decoder.specs.Model as model
 use Rattle.decoder.specs.Receiver as decoder
 use Rattle.decoder.specs.Packets as packets
-use Rattle.elimination.specs.Window.{place, Fits}
-use Rattle.elimination.specs.Packet as packet
+use Rattle.table.specs.Window.{place, Fits}
+use Rattle.table.specs.Packet as packet
 use Rattle.starts.specs.Starts.{Starts, moved, pass, seen}
 use Rattle.starts.specs.MarkSteps.{owning}
 use Rattle.starts.proofs.Settling.{unseen-settled}

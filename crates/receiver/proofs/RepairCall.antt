@@ -22,8 +22,8 @@ use Rattle.coefficients.specs.Coefficients.{keys, listsOf, allOk, drawsOf, pack
 use Rattle.coefficients.proofs.Fills.{lists-cut}
 use Rattle.decoder.specs.Bytes.{Coded}
 use Rattle.decoder.specs.Receiver as decoder
-use Rattle.elimination.specs.Window.{Fits}
-use Rattle.elimination.specs.Packet.{Works}
+use Rattle.table.specs.Window.{Fits}
+use Rattle.table.specs.Packet.{Works}
 use Rattle.receiver.specs.declared.Answer.the-variants.{Done, Refused}
 use Rattle.receiver.specs.declared.Header.{Header}
 use Rattle.receiver.specs.declared.packet.PacketPlace.{PacketPlace}

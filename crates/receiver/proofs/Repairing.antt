@@ -12,9 +12,9 @@ use Rattle.decoder.specs.Bytes.{byte, Coded}
 use Rattle.decoder.specs.Model.{Row}
 use Rattle.decoder.specs.Receiver.{embed, over}
 use Rattle.decoder.specs.Packets as packets
-use Rattle.elimination.specs.Window.{place}
-use Rattle.elimination.specs.Packet.{Works}
-use Rattle.elimination.proofs.Spelling.{spells}
+use Rattle.table.specs.Window.{place}
+use Rattle.table.specs.Packet.{Works}
+use Rattle.gather.proofs.Spelling.{spells}
 use Rattle.receiver.specs.declared.packet.PacketPlace.{PacketPlace}
 use Rattle.receiver.specs.declared.packet.Gathered.{Gathered}
 use Rattle.receiver.specs.Symbol.{Symbol}

@@ -13,9 +13,9 @@ use Rattle.decoder.specs.Model as model
 use Rattle.decoder.specs.Receiver as decoder
 use Rattle.decoder.specs.Packets as packets
 use Rattle.decoder.specs.Stretch.{symbol-at}
-use Rattle.elimination.specs.Window.{place, row}
-use Rattle.elimination.specs.Packet as packet
-use Rattle.elimination.proofs.Spelling.{spells-one}
+use Rattle.table.specs.Window.{place, row}
+use Rattle.table.specs.Packet as packet
+use Rattle.gather.proofs.Spelling.{spells-one}
 use Rattle.receiver.specs.declared.packet.PacketPlace.{PacketPlace}
 use Rattle.receiver.specs.declared.packet.Gathered.{Gathered}
 use Rattle.receiver.specs.Symbol.{Symbol, symbolOf}

@@ -1,4 +1,4 @@
--- How the receiver's memory holds a state: a header of 64 bytes, then the window's rows (crate `elimination`).
+-- How the receiver's memory holds a state: a header of 64 bytes, then the window's rows (crate `table`).
 -- The claims hold of every layout: a reader of them need not believe this one.
 use mathlib.Core.Path.{_≡_}
 use mathlib.Core.Bool.{true, false}
@@ -9,7 +9,7 @@ use Rattle.wire.specs.declared.Setting.{Setting}
 use Rattle.decoder.specs.Bytes.{Coded}
 use Rattle.decoder.specs.Model.{Rref}
 use Rattle.decoder.specs.Receiver as decoder
-use Rattle.elimination.specs.Window as window
+use Rattle.table.specs.Window as window
 use Rattle.starts.specs.Starts.{Starts, seen}
 use Rattle.starts.specs.Marks as marks
 use Rattle.starts.specs.Settled.{Settled}

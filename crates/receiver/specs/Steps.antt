@@ -14,11 +14,11 @@ use Rattle.decoder.specs.Bytes.{Coded}
 use Rattle.decoder.specs.Model as model
 use Rattle.decoder.specs.Receiver as decoder
 use Rattle.decoder.specs.Stretch.{symbol-at}
-use Rattle.elimination.specs.declared.gather.Verdict.{Verdict}
-use Rattle.elimination.specs.declared.gather.Verdict.the-variants as verdict
-use Rattle.elimination.specs.Window.{place, row, equation, Window}
-use Rattle.elimination.specs.Gather.{Laid}
-use Rattle.elimination.specs.Packet as packet
+use Rattle.gather.specs.declared.Verdict.{Verdict}
+use Rattle.gather.specs.declared.Verdict.the-variants as verdict
+use Rattle.table.specs.Window.{place, row, equation, Window}
+use Rattle.gather.specs.Gather.{Laid}
+use Rattle.table.specs.Packet as packet
 use Rattle.starts.specs.Starts.{Starts, moved, pass, seen}
 use Rattle.starts.specs.Marks.{flagAt}
 use Rattle.starts.specs.MarkSteps.{owning}

@@ -2,11 +2,11 @@
 ghost use Rattle.receiver.specs.Inner.{Spotted, RowOf};
 ghost use mathlib.Core.Path.{_≡_};
 ghost use Prim.Native.Nat.{_+_, _<_, _≤_};
-ghost use Rattle.elimination.specs.Window.{place};
+ghost use Rattle.table.specs.Window.{place};
 use super::Found;
 use super::Spot;
 use super::front;
-use elimination::Shape;
+use table::Shape;
 use wire::Esi;
 use wire::Refusal;
 
@@ -52,7 +52,7 @@ pub fn find(mem: &[u8], esi: Esi) -> Spot
         size,
         base: header.row,
     };
-    if !elimination::place::is_known(mem, shape, row) {
+    if !placing::is_known(mem, shape, row) {
         return Spot::Nowhere(Refusal::Unknown);
     }
     Spot::At(symbol_start(width, size, row), size)

@@ -10,11 +10,11 @@ mod repair;
 mod source;
 
 use coefficients::Filled;
-use elimination::Shape;
 pub use front::working_size;
 use packet::Gathered;
 use packet::PlaceFound;
 use starts::Handed;
+use table::Shape;
 use wire::Checked;
 use wire::Esi;
 use wire::Refusal;
@@ -70,7 +70,7 @@ pub fn open(mem: &mut [u8], scheme: usize, size: usize, width: usize) -> Answer
         size: setting.size,
         base: 0,
     };
-    elimination::place::clear(mem, shape);
+    placing::clear(mem, shape);
     starts::marks::clear(mem, shape);
     Answer::Done(0)
 }

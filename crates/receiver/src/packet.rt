@@ -3,16 +3,15 @@ ghost use mathlib.Core.Path.{_≡_};
 ghost use Prim.Native.Nat.{_≤_, _<_};
 ghost use lib.ListN.{length};
 ghost use Rattle.wire.specs.Settings.{Valid};
-ghost use Rattle.elimination.specs.Window.{Fits};
-ghost use Rattle.elimination.specs.Packet.{Works};
+ghost use Rattle.table.specs.Window.{Fits};
+ghost use Rattle.table.specs.Packet.{Works};
 ghost use Rattle.receiver.specs.Inner.{headerFor, Based};
 ghost use Rattle.receiver.specs.Steps.{placeFound, gatheredBy, EquationAdmitted, PlacedBy, Finished, Accepted};
 use super::Header;
 use super::front;
-use elimination::Shape;
-use elimination::gather;
-use elimination::gather::Verdict;
+use gather::Verdict;
 use starts::marks;
+use table::Shape;
 use wire::Esi;
 use wire::Refusal;
 
@@ -128,7 +127,7 @@ fn finish(mem: &mut [u8], work: &[u8], header: Header, place: PacketPlace, kept:
         size: header.setting.size,
         base: header.row,
     };
-    let count = elimination::place::commit(mem, work, shape, place.rise, kept);
+    let count = placing::commit(mem, work, shape, place.rise, kept);
     let base = header.base;
     let next = base.plus(place.rise as u32);
     memory::store_u16(mem, 8, (place.shape.base + 1) as u16);

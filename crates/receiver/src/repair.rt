@@ -2,8 +2,8 @@
 ghost use mathlib.Core.Path.{_≡_};
 ghost use Prim.Native.Nat.{_+_, _*_, _≤_, _<_};
 ghost use lib.ListN.{length};
-ghost use Rattle.elimination.specs.Window.{Fits};
-ghost use Rattle.elimination.specs.Packet.{Works};
+ghost use Rattle.table.specs.Window.{Fits};
+ghost use Rattle.table.specs.Packet.{Works};
 ghost use Rattle.receiver.specs.Steps.{Admits, Gathers};
 ghost use Rattle.receiver.specs.RepairSteps.{repairEquation, equationAt};
 use super::find;

@@ -4,15 +4,15 @@ ghost use Prim.Native.Nat.{_+_, _≤_, _<_};
 ghost use lib.ListN.{length};
 ghost use Rattle.memory.specs.Part.{splice};
 ghost use Rattle.wire.specs.Packets.{symbolCount, symbolAt};
-ghost use Rattle.elimination.specs.Window.{place, Fits};
-ghost use Rattle.elimination.specs.Packet.{Works};
+ghost use Rattle.table.specs.Window.{place, Fits};
+ghost use Rattle.table.specs.Packet.{Works};
 ghost use Rattle.receiver.specs.Steps.{Admits, Gathers};
 ghost use Rattle.receiver.specs.SourceSteps.{equationOf};
 use super::find;
 use super::packet;
 use super::packet::Gathered;
 use super::packet::PacketPlace;
-use elimination::Shape;
+use table::Shape;
 
 // The i-th symbol of an ADU in the row `k` of working memory.
 fn write_row(work: &mut [u8], shape: Shape, k: usize, flow: u8, adu: &[u8], i: usize)

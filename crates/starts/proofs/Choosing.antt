@@ -9,7 +9,7 @@ use native.Mathlib.Decide.{decLt, ℕ-discrete}
 use native.Mathlib.Omega.{arith}
 use lib.Dec.{ltb}
 use lib.ListN.{length, getD, set}
-use Rattle.elimination.specs.Window.{place}
+use Rattle.table.specs.Window.{place}
 use Rattle.starts.specs.Starts.{Starts}
 use Rattle.starts.specs.Marks.{markAt, Marks, OnlyMarks, notedIn, OnlyStarts}
 use Rattle.starts.specs.MarkSteps.{markByte}

@@ -12,8 +12,8 @@ use lib.Dec.{eqb}
 use Rattle.memory.specs.Part.{part, splice}
 use Rattle.memory.proofs.Parts.{length-part, length-splice, part-add, splice-next, row-fits}
 use Rattle.wire.proofs.Adui.{room, least}
-use Rattle.elimination.specs.Window.{place, Fits}
-use Rattle.elimination.specs.RowSteps.{Zero-from}
+use Rattle.table.specs.Window.{place, Fits}
+use Rattle.table.specs.RowSteps.{Zero-from}
 use Rattle.starts.specs.Adu.{allZero}
 use Rattle.starts.specs.HandSteps.{symbolPlace, text, SymbolAt, Spans}
 use Rattle.starts.proofs.Only.{row-area}

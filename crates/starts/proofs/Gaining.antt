@@ -17,7 +17,7 @@ use Rattle.decoder.proofs.Bytes.{laws}
 use Rattle.decoder.proofs.Elimination.{solution, solution-sat, known-sound}
 use Rattle.decoder.proofs.History as history
 use Rattle.decoder.proofs.Counting.{count-more, known-grows}
-use Rattle.elimination.specs.Place.{Known}
+use Rattle.placing.specs.Place.{Known}
 use Rattle.starts.specs.Starts.{shown, seen}
 use Rattle.starts.specs.Settled.{Old}
 use Rattle.starts.specs.MarkSteps.{oneIf, tally, OneKnown, Tallied}

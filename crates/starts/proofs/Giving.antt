@@ -21,9 +21,9 @@ use Rattle.wire.specs.Packets.{symbolCount}
 use Rattle.decoder.specs.Field.{Ops}
 use Rattle.decoder.specs.Bytes.{Coded}
 use Rattle.decoder.specs.Model.{State, end, free, pivot, known}
-use Rattle.elimination.specs.Window.{place, Window, Fits}
-use Rattle.elimination.specs.Place.{Known}
-use Rattle.elimination.proofs.Showing.{symbol-bytes}
+use Rattle.table.specs.Window.{place, Window, Fits}
+use Rattle.placing.specs.Place.{Known}
+use Rattle.placing.proofs.Showing.{symbol-bytes}
 use Rattle.starts.specs.declared.Handed.{Handed}
 use Rattle.starts.specs.declared.Handed.the-variants.{Adu, Withheld}
 use Rattle.starts.specs.Adu.{joint, need, Handing, hands, withholds, needs, lengthIn, flowIn, allZero, unpack, begin, handing, HandedAs}

@@ -13,8 +13,8 @@ use Rattle.memory.proofs.Parts.{row-fits}
 use Rattle.decoder.specs.Bytes.{Coded}
 use Rattle.decoder.specs.Model.{State}
 use Rattle.decoder.proofs.Stretch.{remainders}
-use Rattle.elimination.specs.Window.{stride, place, Window, Fits}
-use Rattle.elimination.proofs.Holding.{window-same}
+use Rattle.table.specs.Window.{stride, place, Window, Fits}
+use Rattle.table.proofs.Holding.{window-same}
 use Rattle.starts.specs.Marks.{flagAt, markAt, NoMark, OnlyMarks, OnlyStarts}
 
 -- ---- where marks stand

@@ -19,9 +19,9 @@ use Rattle.memory.proofs.Parts.{part-part}
 use Rattle.wire.specs.Packets.{symbolCount}
 use Rattle.decoder.specs.Bytes.{Coded}
 use Rattle.decoder.specs.Model.{State}
-use Rattle.elimination.specs.Window.{place, Window, Fits}
-use Rattle.elimination.specs.Place.{Known}
-use Rattle.elimination.proofs.Showing.{symbol-bytes}
+use Rattle.table.specs.Window.{place, Window, Fits}
+use Rattle.placing.specs.Place.{Known}
+use Rattle.placing.proofs.Showing.{symbol-bytes}
 use Rattle.starts.specs.Adu.{needs, View}
 use Rattle.starts.specs.Starts.{Starts, also, moved, onward, pass, shown, seen}
 use Rattle.starts.specs.Marks.{markAt, marked, Marks, notedIn, OnlyStarts}

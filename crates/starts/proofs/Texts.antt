@@ -16,8 +16,8 @@ use Rattle.memory.specs.Part.{part}
 use Rattle.memory.specs.Number.{number}
 use Rattle.memory.proofs.Parts.{length-part, part-part, getD-part, row-fits}
 use Rattle.wire.proofs.Settings.{both}
-use Rattle.elimination.specs.Window.{stride, place, Fits}
-use Rattle.elimination.specs.RowSteps.{Zero-from}
+use Rattle.table.specs.Window.{stride, place, Fits}
+use Rattle.table.specs.RowSteps.{Zero-from}
 use Rattle.starts.specs.Adu.{View, before, joint, allZero, lengthIn, flowIn}
 use Rattle.starts.specs.HandSteps.{symbolPlace, symbolIn, text}
 

@@ -9,7 +9,7 @@ use Rattle.wire.specs.declared.Refusal.{Refusal}
 use Rattle.wire.specs.Numbers.{numberOf}
 use Rattle.decoder.specs.Bytes.{Coded}
 use Rattle.decoder.specs.Model.{State}
-use Rattle.elimination.specs.Window.{Window}
+use Rattle.table.specs.Window.{Window}
 use Rattle.starts.specs.declared.Handed.{Handed}
 use Rattle.starts.specs.declared.Handed.the-variants.{Withheld}
 use Rattle.starts.specs.Adu.{handing, Leaves, HandedAs}

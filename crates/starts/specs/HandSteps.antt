@@ -9,7 +9,7 @@ use Rattle.memory.specs.Part.{part}
 use Rattle.wire.specs.Packets.{symbolCount}
 use Rattle.decoder.specs.Bytes.{Coded}
 use Rattle.decoder.specs.Model.{State}
-use Rattle.elimination.specs.Window.{place, Window}
+use Rattle.table.specs.Window.{place, Window}
 use Rattle.starts.specs.Adu.{joint}
 use Rattle.starts.specs.Starts.{seen}
 

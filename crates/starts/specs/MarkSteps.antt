@@ -9,7 +9,7 @@ use lib.ListN.{length, getD}
 use lib.Dec.{ltb}
 use Rattle.decoder.specs.Bytes.{Coded}
 use Rattle.decoder.specs.Model.{State, known}
-use Rattle.elimination.specs.Window.{Window}
+use Rattle.table.specs.Window.{Window}
 use Rattle.starts.specs.Adu.{View}
 use Rattle.starts.specs.Starts.{Starts, also, moved, onward, pass, seen}
 use Rattle.starts.specs.Marks.{markAt, marked, Marks, OnlyMarks, notedIn, OnlyStarts}

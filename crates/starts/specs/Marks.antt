@@ -7,7 +7,7 @@ use mathlib.Core.List.{List}
 use Prim.Native.Nat.{ℕ, _+_, _%_, _≤_, _<_}
 use lib.ListN.{length, getD}
 use lib.Dec.{ltb}
-use Rattle.elimination.specs.Window.{place}
+use Rattle.table.specs.Window.{place}
 use Rattle.starts.specs.Starts.{Starts}
 
 -- Where the mark of the row r, and of the i-th position from that of the row `base` on, stands.

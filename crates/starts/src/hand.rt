@@ -3,14 +3,13 @@ ghost use mathlib.Core.Path.{_≡_};
 ghost use Prim.Native.Nat.{_+_, _≤_, _<_, min};
 ghost use lib.ListN.{length, drop};
 ghost use Rattle.memory.specs.Part.{part, splice};
-ghost use Rattle.elimination.specs.Window.{Fits};
+ghost use Rattle.table.specs.Window.{Fits};
 ghost use Rattle.starts.specs.Adu.{allZero};
 ghost use Rattle.starts.specs.Contracts.{HandedOut};
 ghost use Rattle.starts.specs.HandSteps.{text, SymbolAt, AllKnown, Spans};
 use super::Handed;
 use super::marks;
-use elimination::Shape;
-use elimination::place;
+use table::Shape;
 use wire::Refusal;
 
 // Where the symbol of the i-th position of the window begins.
@@ -32,7 +31,7 @@ fn all_known(mem: &[u8], shape: Shape, d: usize, n: usize) -> bool
     }
     for i in 0..n {
         let r = marks::row_of(shape, d + i);
-        if !place::is_known(mem, shape, r) {
+        if !placing::is_known(mem, shape, r) {
             return false;
         }
     }
@@ -46,7 +45,7 @@ fn is_padded(mem: &[u8], shape: Shape, d: usize, n: usize, len: usize) -> bool
 {
     let before = (n - 1) * shape.size;
     let last = symbol_of(shape, d + (n - 1));
-    elimination::or_all(mem, last + (3 + len - before), last + shape.size) == 0
+    table::or_all(mem, last + (3 + len - before), last + shape.size) == 0
 }
 
 // The smaller of both.
@@ -84,7 +83,7 @@ pub fn hand_out(mem: &[u8], shape: Shape, d: usize, out: &mut [u8]) -> Handed
         return Handed::Withheld(Refusal::NoStart);
     }
     let r = marks::row_of(shape, d);
-    if !place::is_known(mem, shape, r) {
+    if !placing::is_known(mem, shape, r) {
         return Handed::Withheld(Refusal::Unknown);
     }
     let at = symbol_of(shape, d);

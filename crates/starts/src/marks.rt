@@ -2,11 +2,11 @@
 ghost use mathlib.Core.Path.{_≡_};
 ghost use Prim.Native.Nat.{_+_, _%_, _≤_, _<_};
 ghost use lib.ListN.{length};
-ghost use Rattle.elimination.specs.Window.{place, Fits};
+ghost use Rattle.table.specs.Window.{place, Fits};
 ghost use Rattle.starts.specs.Marks.{markAt, marked};
 ghost use Rattle.starts.specs.MarkSteps.{Written, Dropped, Noted, Stepped, Followed, Owned, Decided, Extended, Updated, OneKnown, Tallied};
 ghost use Rattle.starts.specs.Contracts.{Cleared, Added, Moved, Passed};
-use elimination::Shape;
+use table::Shape;
 
 // The row of the i-th position of the window.
 pub fn row_of(shape: Shape, i: usize) -> usize
@@ -50,7 +50,7 @@ fn one_known(mem: &[u8], shape: Shape, i: usize) -> usize
         return 0;
     }
     let r = row_of(shape, i);
-    if elimination::place::is_known(mem, shape, r) {
+    if placing::is_known(mem, shape, r) {
         1
     } else {
         0
@@ -151,7 +151,7 @@ fn step(mem: &mut [u8], shape: Shape, i: usize) -> usize
         return w;
     }
     let r = row_of(shape, i);
-    if !elimination::place::is_known(mem, shape, r) {
+    if !placing::is_known(mem, shape, r) {
         return w;
     }
     let at = symbol_at(shape, r);

@@ -1,7 +1,7 @@
 -- `receiver::packet::admit_equation` meets its contract.
 use mathlib.Core.Path.{subst, sym}
 use native.Mathlib.Omega.{arith}
-use Rattle.elimination.proofs.Framing.{works-only}
+use Rattle.gather.proofs.Framing.{works-only}
 use Rattle.receiver.specs.Steps.{EquationAdmitted}
 use Rattle.receiver.proofs.Gathering.{equation-admitted}
 use borrow.Author.Needs.{needs}

@@ -1,6 +1,6 @@
 -- `receiver::packet::finish` meets its contract.
 use native.Mathlib.Omega.{arith}
-use Rattle.elimination.specs.Window.{Fits}
+use Rattle.table.specs.Window.{Fits}
 use Rattle.receiver.proofs.Headers.{based-fits}
 use Rattle.receiver.proofs.Finishing.{finished}
 use borrow.Author.Needs.{needs}

@@ -4,8 +4,8 @@ use Prim.Native.Nat.{_+_}
 use native.Mathlib.Omega.{arith}
 use Rattle.memory.specs.Part.{splice}
 use Rattle.memory.proofs.Parts.{whole}
-use Rattle.elimination.specs.Window.{place}
-use Rattle.elimination.proofs.Framing.{row-room}
+use Rattle.table.specs.Window.{place}
+use Rattle.gather.proofs.Framing.{row-room}
 use Rattle.receiver.proofs.Gathering.{works-stored}
 use Rattle.receiver.proofs.Repairing.{symbol-admitted}
 use borrow.Author.Needs.{needs}

@@ -7,7 +7,7 @@ use lib.ListN.{length, take, drop}
 use Rattle.memory.specs.Part.{splice}
 use Rattle.memory.proofs.Parts.{cut, put, length-part}
 use Rattle.wire.specs.Packets.{symbolAt}
-use Rattle.elimination.proofs.Framing.{row-room}
+use Rattle.gather.proofs.Framing.{row-room}
 use borrow.Author.Needs.{needs}
 use Rattle.receiver.proofs.source.write_row.Statement.{statement}
 use Rattle.receiver.proofs.source.write_row.Tie as tie

@@ -1,0 +1,9 @@
+pub mod Framing
+pub mod Laying
+pub mod Collecting
+pub mod Searching
+pub mod Rank
+pub mod Front
+pub mod Reducing
+pub mod Admitting
+pub mod Spelling

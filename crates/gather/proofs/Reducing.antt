@@ -1,0 +1,358 @@
+-- A row of working memory reduced: by the state's rows that stay, all at once, and by the packet's rows before it, one after the other.
+use mathlib.Core.Path.{_≡_, refl, sym, ap, ap₂, _∙_, subst}
+use mathlib.Core.Logic.{_≢_}
+use mathlib.Core.Bool.{true, false}
+use mathlib.Core.List.{List, [], _∷_, _++_}
+use Prim.Native.Nat.{ℕ, zero, suc, _+_, _-_, _%_, _≤_, _<_}
+use native.Mathlib.Nat.{mod-lt, mod-add-mod, add-mod-right}
+use native.Mathlib.Numerals.{add-one}
+use native.Mathlib.Decide.{decLt, decLe}
+use native.Mathlib.Omega.{arith}
+use lib.ListN.{length, getD, take, drop, replicate}
+use lib.Seq.{getD-take, length-take-le}
+use lib.Bits.{bitXor, xor-lt}
+use lib.Dec.{lit<}
+use Rattle.field.specs.Gf256.{product}
+use Rattle.field.proofs.Laws.{product-lt}
+use Rattle.memory.specs.Part.{part, splice}
+use Rattle.memory.specs.Number.{Bytes}
+use Rattle.memory.proofs.Parts.{cut, put, length-part, getD-part, getD-within, splice-part, row-fits}
+use Rattle.rows.specs.Rows.{addScaled}
+use Rattle.rows.specs.Combination.{combined, coefficient, rowAt}
+use Rattle.rows.proofs.Sums.{length-addScaled, getD-addScaled, addScaled-zero}
+use Rattle.rows.proofs.Combinations.{length-combined}
+use Rattle.decoder.specs.Bytes.{byte, Coded}
+use Rattle.decoder.specs.Model.{State, Rref, axpy, at, reduce}
+use Rattle.decoder.specs.Receiver.{advance-by}
+use Rattle.decoder.specs.Table.{read}
+use Rattle.decoder.specs.TableSteps.{add-line, add-lines}
+use Rattle.decoder.specs.Chain.{eliminate}
+use Rattle.decoder.proofs.Bytes.{laws, byte-zero}
+use Rattle.decoder.proofs.Stretch.{remainders, line-same, line-add}
+use Rattle.decoder.proofs.Combining.{stays-lines, eliminate-line}
+use Rattle.table.specs.Window.{stride, place, row, inUse, line, table, equation, Window, Fits}
+use Rattle.table.specs.Packet.{Works, spelled, PivotMarked}
+use Rattle.gather.specs.Gather.{Only, Spans}
+use Rattle.gather.specs.GatherSteps.{if-used, multiplier, Zeros, Collected, StateReduced, Eliminated, PacketReduced, Staying}
+use Rattle.memory.proofs.Number.{bytes-part}
+use Rattle.gather.proofs.Framing.{only-refl, only-trans, only-splice, only-row, row-room}
+
+-- ---- a row that has been replaced
+
+module _ (w E k : ℕ) (x m : List ℕ) (h : place w E k ≤ length m) where
+  pub new-cell : (i : ℕ) → i < length x → i < stride w E → getD (row w E k (splice (place w E k) x m)) i 0 ≡ getD x i 0
+  new-cell i l g = getD-part (place w E k) (stride w E) i (splice (place w E k) x m) g ∙ getD-within (place w E k) i x m l h
+
+  pub new-line : 0 < w → length x ≡ w + E → line w E (row w E k (splice (place w E k) x m)) ≡ line w E x
+  new-line pos n = line-same w E pos (row w E k (splice (place w E k) x m)) x (λ i l. new-cell i (omega arith) (omega arith))
+
+-- The same bytes as a part of `w + E` and as a row.
+pub part-row : (w E k i : ℕ) (m : List ℕ) → i < w + E → getD (part (place w E k) (w + E) m) i 0 ≡ getD (row w E k m) i 0
+part-row w E k i m h = getD-part (place w E k) (w + E) i m h ∙ sym (getD-part (place w E k) (stride w E) i m (omega arith))
+
+pub bytes-addScaled : (c : ℕ) (d s : List ℕ) → Bytes d → Bytes (addScaled c d s)
+unfolding addScaled
+bytes-addScaled c [] s f i = lit< tt
+bytes-addScaled c (x ∷ d) [] f i = f i
+bytes-addScaled c (x ∷ d) (y ∷ s) f zero = xor-lt 8 x (product c y) (f 0) (product-lt c y)
+bytes-addScaled c (x ∷ d) (y ∷ s) f (suc i) = bytes-addScaled c d s (λ j. f (suc j)) i
+
+-- ---- by the packet's rows
+
+-- The code reads the row `j` from `from` on and its flag, and the row `k` from `at` on.
+module _ (w E k j at from : ℕ) (m : List ℕ) (p : at ≡ place w E k) (q : from ≡ place w E j) (g : Works w E k m) (h : j < k) where
+  flag : getD m (from + (w + E)) 0 ≡ getD (row w E j m) (w + E) 0
+  flag = ap (λ a. getD m (a + (w + E)) 0) q ∙ sym (getD-part (place w E j) (stride w E) (w + E) m (omega arith))
+
+  pub flag-lt : getD m (from + (w + E)) 0 < w
+  flag-lt = omega (arith, flag, g .columns j h)
+
+  pub rows-apart : from + (w + E) ≤ at
+  rows-apart = omega (arith, row-fits k (stride w E) j h)
+
+  pub eliminated : (m′ : List ℕ)
+      → m′ ≡ splice at (addScaled (getD m (at + getD m (from + (w + E)) 0) 0) (part at (w + E) m) (part from (w + E) m)) m → Eliminated w E k j m m′
+  eliminated m′ s =
+      let c = getD (row w E j m) (w + E) 0 in
+      let e : getD m (at + getD m (from + (w + E)) 0) 0 ≡ getD (row w E k m) c 0 =
+      ap (λ x. getD m (at + x) 0) flag ∙ ap (λ a. getD m (a + c) 0) p ∙ sym (getD-part (place w E k) (stride w E) c m (omega (arith, g .columns j h))) in
+      s
+      ∙ ap (λ y. splice at (addScaled y (part at (w + E) m) (part from (w + E) m)) m) e
+      ∙ ap (λ a. splice a (addScaled (getD (row w E k m) c 0) (part a (w + E) m) (part from (w + E) m)) m) p
+      ∙ ap (λ a. splice (place w E k) (addScaled (getD (row w E k m) c 0) (part (place w E k) (w + E) m) (part a (w + E) m)) m) q
+
+module _ (w E k : ℕ) (work : List ℕ) where
+  pub packet-none : PacketReduced w E k 0 work work
+  unfolding eliminate
+  packet-none = record { only = only-refl; sum = λ b marks. refl }
+
+  module _ (j : ℕ) (m m′ : List ℕ) (h : j < k) (g : Works w E k m) (bytes : Bytes m) (f : PacketReduced w E k j work m) (s : Eliminated w E k j m m′) where
+    abbrev factor : ℕ
+    factor = getD (row w E k m) (getD (row w E j m) (w + E) 0) 0
+
+    abbrev sum : List ℕ
+    sum = addScaled factor (part (place w E k) (w + E) m) (part (place w E j) (w + E) m)
+
+    room : place w E k + stride w E ≤ length m
+    room = row-room w E k m g
+
+    room-j : place w E j + stride w E ≤ length m
+    room-j = omega (arith, room, row-fits k (stride w E) j h)
+
+    length-k : length (part (place w E k) (w + E) m) ≡ w + E
+    length-k = length-part (place w E k) (w + E) m (omega (arith, room))
+
+    length-j : length (part (place w E j) (w + E) m) ≡ w + E
+    length-j = length-part (place w E j) (w + E) m (omega (arith, room-j))
+
+    length-sum : length sum ≡ w + E
+    length-sum = length-addScaled factor (part (place w E k) (w + E) m) (part (place w E j) (w + E) m) ∙ length-k
+
+    line-sum : line w E (row w E k m′) ≡ add-line (byte factor) (line w E (row w E j m)) (line w E (row w E k m))
+    line-sum =
+        ap (λ y. line w E (row w E k y)) s
+        ∙ new-line w E k sum m (omega (arith, room)) (g .some-width) length-sum
+        ∙ line-add w E (g .some-width) factor (row w E k m) (row w E j m) sum
+        (bytes-part (place w E k) (stride w E) m bytes) (bytes-part (place w E j) (stride w E) m bytes)
+        (bytes-part (place w E k) (stride w E) m bytes (getD (row w E j m) (w + E) 0))
+        (λ i l.
+        getD-addScaled factor (part (place w E k) (w + E) m) (part (place w E j) (w + E) m) i (omega (arith, length-k)) (omega (arith, length-j))
+        ∙ ap₂ (λ x y. bitXor x (product factor y)) (part-row w E k i m l) (part-row w E j i m l))
+
+    same-row : row w E j m ≡ row w E j work
+    same-row = only-row w E k j (place w E k + (w + E)) work m (f .only) (omega arith) (omega arith)
+
+    module _ (b : ℕ) (marks : (i : ℕ) → i < k → PivotMarked w E b (row w E i work)) where
+      mark : PivotMarked w E b (row w E j m)
+      mark = subst (PivotMarked w E b) (sym same-row) (marks j h)
+
+      next : spelled w E b m′ k ≡ axpy (Coded E) w (at (Coded E) w (spelled w E b work j) (spelled w E b m k)) (spelled w E b work j) (spelled w E b m k)
+      next =
+          ap (λ z. read z w b) line-sum
+          ∙ ap (λ c. read (add-line (byte (getD (row w E k m) c 0)) (line w E (row w E j m)) (line w E (row w E k m))) w b) (mark .column)
+          ∙ eliminate-line (laws E (omega (arith, g .some-symbol))) w b (mark .position) (mark .from) (mark .before)
+          (line w E (row w E j m)) (line w E (row w E k m)) (mark .leads)
+          ∙ ap (λ r. axpy (Coded E) w (at (Coded E) w (equation w E b r) (spelled w E b m k)) (equation w E b r) (spelled w E b m k)) same-row
+
+      all : spelled w E b m′ k ≡ eliminate (Coded E) w (spelled w E b work) (suc j) (spelled w E b work k)
+      unfolding eliminate
+      all =
+          next
+          ∙ ap (λ d. axpy (Coded E) w (at (Coded E) w (spelled w E b work j) d) (spelled w E b work j) d) (f .sum b marks)
+
+    pub packet-more : PacketReduced w E k (j + 1) work m′
+    packet-more = record {
+      only =
+          only-trans (f .only)
+          (subst (Only (place w E k) (place w E k + (w + E)) m) (sym s)
+          (only-splice (place w E k) (place w E k + (w + E)) (place w E k) sum m (omega arith) (omega (arith, length-sum)) (omega (arith, room))));
+      sum = λ b marks. all b marks ∙ ap (λ i. eliminate (Coded E) w (spelled w E b work) i (spelled w E b work k)) (sym (add-one j));
+    }
+
+-- ---- by the state's rows
+
+combined-none : (row : ℕ → List ℕ) (n : ℕ) (d : List ℕ) → combined (coefficient []) row n d ≡ d
+unfolding combined
+combined-none row zero d = refl
+combined-none row (suc n) d = addScaled-zero (combined (coefficient []) row n d) (row n) ∙ combined-none row n d
+
+-- Room for the multipliers.
+pub zeros : (n : ℕ) → Zeros (replicate n 0)
+zeros zero i = refl
+zeros (suc n) zero = refl
+zeros (suc n) (suc i) = zeros n i
+
+-- A part of a memory that is lent, and the sum that comes back.
+pub length-lent : (a n : ℕ) (m : List ℕ) → a + n ≤ length m → length (take (a + n - a) (drop a m)) ≡ n
+length-lent a n m h = ap length (cut a n m) ∙ length-part a n m h
+
+pub rows-added : (w E k a : ℕ) (m work cs x : List ℕ) → a ≡ place w E k → a + (w + E) ≤ length work → w ≤ length cs
+    → x ≡ combined (coefficient (take w cs)) (rowAt m 64 (w + E + 4) (length (take (a + (w + E) - a) (drop a work)))) (length (take w cs)) (take (a + (w + E) - a) (drop a work))
+    → length x ≡ length (take (a + (w + E) - a) (drop a work))
+    → take a work ++ (x ++ drop (a + (w + E) - a) (drop a work))
+    ≡ splice (place w E k) (combined (coefficient (take w cs)) (rowAt m 64 (stride w E) (w + E)) w (part (place w E k) (w + E) work)) work
+rows-added w E k a m work cs x here room h s n =
+    put a (w + E) x work room n
+    ∙ ap (λ y. splice a y work)
+    (s
+    ∙ ap₂ (λ l c. combined (coefficient (take w cs)) (rowAt m 64 (stride w E) l) c (take (a + (w + E) - a) (drop a work)))
+    (length-lent a (w + E) work room) (length-take-le w cs h)
+    ∙ ap (combined (coefficient (take w cs)) (rowAt m 64 (stride w E) (w + E)) w) (cut a (w + E) work))
+    ∙ ap (λ y. splice y (combined (coefficient (take w cs)) (rowAt m 64 (stride w E) (w + E)) w (part y (w + E) work)) work) here
+
+-- What `collect` has read is the row.
+module _ (w E k first n at any : ℕ) (m work cs cs′ : List ℕ) (here : at ≡ place w E k) (g : Works w E k work) (zeros : Zeros cs)
+    (f : Collected w E first n any m (part at w work) cs cs′) where
+  same : (c : ℕ) → c < w → multiplier w E c m (part at w work) ≡ multiplier w E c m (row w E k work)
+  same c h =
+      ap (if-used (inUse w E (row w E c m)))
+      (getD-part at w c work h ∙ ap (λ a. getD work (a + c) 0) here ∙ sym (getD-part (place w E k) (stride w E) c work (omega arith)))
+
+  inside : (i : ℕ) → (first + i) % w < w
+  inside i = mod-lt (first + i) (g .some-width)
+
+  pub state-none : any ≡ 0 → StateReduced w E k first n m work work
+  state-none z = record {
+    multipliers = [];
+    small = λ i. lit< tt;
+    on = λ i h. sym (f .none z i h) ∙ same ((first + i) % w) (inside i);
+    off = λ j h d. refl;
+    sum =
+        sym (splice-part (place w E k) (w + E) work (omega (arith, row-room w E k work g)))
+        ∙ ap (λ x. splice (place w E k) x work) (sym (combined-none (rowAt m 64 (stride w E) (w + E)) w (part (place w E k) (w + E) work)));
+  }
+
+  pub state-some : (work′ : List ℕ)
+      → work′ ≡ splice (place w E k) (combined (coefficient (take w cs′)) (rowAt m 64 (stride w E) (w + E)) w (part (place w E k) (w + E) work)) work
+      → StateReduced w E k first n m work work′
+  unfolding part
+  state-some work′ s = record {
+    multipliers = take w cs′;
+    small = bytes-part 0 w cs′ (f .small);
+    on = λ i h. getD-take w cs′ ((first + i) % w) 0 (inside i) ∙ f .on i h ∙ same ((first + i) % w) (inside i);
+    off = λ j h d. getD-take w cs′ j 0 h ∙ f .off j d ∙ zeros j;
+    sum = s;
+  }
+
+-- The sum of the rows as lines.
+module _ (w E : ℕ) (m : List ℕ) (fits : Fits w E m) (bytes : Bytes m) where
+  length-state : (r : ℕ) → r < w → length (rowAt m 64 (stride w E) (w + E) r) ≡ w + E
+  unfolding rowAt
+  length-state r h = length-part (place w E r) (w + E) m (omega (arith, fits .room, row-fits w (stride w E) r h))
+
+  state-cell : (r i : ℕ) → i < w + E → getD (rowAt m 64 (stride w E) (w + E) r) i 0 ≡ getD (row w E r m) i 0
+  unfolding rowAt
+  state-cell r i h = part-row w E r i m h
+
+  bytes-combined : (cs : List ℕ) (n : ℕ) (d : List ℕ) → Bytes d → Bytes (combined (coefficient cs) (rowAt m 64 (stride w E) (w + E)) n d)
+  unfolding combined
+  bytes-combined cs zero d f = f
+  bytes-combined cs (suc n) d f =
+      bytes-addScaled (getD cs n 0) (combined (coefficient cs) (rowAt m 64 (stride w E) (w + E)) n d) (rowAt m 64 (stride w E) (w + E) n) (bytes-combined cs n d f)
+
+  combined-line : (cs : List ℕ) → Bytes cs → (n : ℕ) → n ≤ w → (d : List ℕ) → Bytes d → length d ≡ w + E
+      → line w E (combined (coefficient cs) (rowAt m 64 (stride w E) (w + E)) n d)
+      ≡ add-lines (λ r. byte (getD cs r 0)) (λ r. line w E (row w E r m)) n (line w E d)
+  unfolding combined add-lines
+  combined-line cs small zero h d f n = refl
+  combined-line cs small (suc k) h d f n =
+      let x = combined (coefficient cs) (rowAt m 64 (stride w E) (w + E)) k d in
+      let y = rowAt m 64 (stride w E) (w + E) k in
+      let lx : length x ≡ w + E = length-combined (rowAt m 64 (stride w E) (w + E)) (coefficient cs) k d ∙ n in
+      line-add w E (fits .some-width) (getD cs k 0) x (row w E k m) (addScaled (getD cs k 0) x y) (bytes-combined cs k d f)
+      (bytes-part (place w E k) (stride w E) m bytes) (small k)
+      (λ i l.
+      getD-addScaled (getD cs k 0) x y i (omega arith) (omega (arith, length-state k (omega arith)))
+      ∙ ap (λ z. bitXor (getD x i 0) (product (getD cs k 0) z)) (state-cell k i l))
+      ∙ ap (add-line (byte (getD cs k 0)) (line w E (row w E k m))) (combined-line cs small k (omega arith) d f n)
+
+-- The row with the rows of the state added.
+module _ (w E k first n : ℕ) (m work work′ : List ℕ) (g : Works w E k work) (f : StateReduced w E k first n m work work′) where
+  abbrev before : List ℕ
+  before = part (place w E k) (w + E) work
+
+  length-before : length before ≡ w + E
+  length-before = length-part (place w E k) (w + E) work (omega (arith, row-room w E k work g))
+
+  abbrev after : List ℕ
+  after = combined (coefficient (f .multipliers)) (rowAt m 64 (stride w E) (w + E)) w before
+
+  length-after : length after ≡ w + E
+  length-after = length-combined (rowAt m 64 (stride w E) (w + E)) (coefficient (f .multipliers)) w before ∙ length-before
+
+  pub state-only : Only (place w E k) (place w E k + (w + E)) work work′
+  state-only =
+      subst (Only (place w E k) (place w E k + (w + E)) work) (sym (f .sum))
+      (only-splice (place w E k) (place w E k + (w + E)) (place w E k) after work (omega arith) (omega (arith, length-after))
+      (omega (arith, row-room w E k work g)))
+
+  state-line : Fits w E m → Bytes m → Bytes work
+      → line w E (row w E k work′) ≡ add-lines (λ r. byte (getD (f .multipliers) r 0)) (λ r. line w E (row w E r m)) w (line w E (row w E k work))
+  state-line fits bytes small =
+      ap (λ x. line w E (row w E k x)) (f .sum)
+      ∙ new-line w E k after work (omega (arith, row-room w E k work g)) (fits .some-width) length-after
+      ∙ combined-line w E m fits bytes (f .multipliers) (f .small) w (omega arith) before (bytes-part (place w E k) (w + E) work small) length-before
+      ∙ ap (add-lines (λ r. byte (getD (f .multipliers) r 0)) (λ r. line w E (row w E r m)) w)
+      (line-same w E (fits .some-width) before (row w E k work) (λ i l. part-row w E k i work l))
+
+-- Where the coefficients of the rows that stay are the multipliers, that reduces it by the system moved on.
+module _ (w E k first n base count stay : ℕ) (m work work′ : List ℕ) (fits : Fits w E m) (bytes : Bytes m) (g : Works w E k work) (small : Bytes work)
+    (f : StateReduced w E k first n m work work′) (near : Staying w base first count stay n) where
+  -- The window from `b + rise` on, in which the coefficients stand at the positions from the `d`th on.
+  module _ (b rise d : ℕ) (S : State (Coded E) w) (here : (b + rise) % w ≡ base) (stays : stay ≡ w - rise) (from : (b + rise + d) % w ≡ first)
+      (room : d + count ≤ w) (held : Window w E m b S) (rref : Rref S) (spans : Spans w first count (row w E k work)) where
+    -- The column of the `i`th position, and of the `t`th coefficient.
+    column : (t : ℕ) → (first + t) % w ≡ (b + rise + (d + t)) % w
+    column t =
+        let e : b + rise + d + t ≡ b + rise + (d + t) = omega arith in
+        ap (λ c. (c + t) % w) (sym from) ∙ mod-add-mod (b + rise + d) w t ∙ ap (λ c. c % w) e
+
+    distance : (t : ℕ) → t < count → near .distance ≡ d
+    distance t h =
+        let e : (b + rise + near .distance) % w ≡ (b + rise + d) % w =
+        sym (mod-add-mod (b + rise) w (near .distance)) ∙ ap (λ c. (c + near .distance) % w) here ∙ near .column ∙ sym from in
+        let s = remainders w (b + rise) (b + rise + near .distance) (b + rise + d) (omega arith) (omega (arith, near .near)) (omega arith) (omega arith) e in
+        omega arith
+
+    apart : (i t : ℕ) → i < w → t < count → d + t ≢ i → (first + t) % w ≢ (b + rise + i) % w
+    apart i t h l x e =
+        let s = remainders w (b + rise) (b + rise + (d + t)) (b + rise + i) (omega arith) (omega arith) (omega arith) (omega arith) (sym (column t) ∙ e) in
+        x (omega arith)
+
+    -- No coefficient stands at this position.
+    no-multiplier : (i : ℕ) → i < w → ((t : ℕ) → t < n → d + t ≢ i) → getD (f .multipliers) ((b + rise + i) % w) 0 ≡ 0
+    no-multiplier i h x =
+        f .off ((b + rise + i) % w) (mod-lt (b + rise + i) (fits .some-width)) (λ t l. apart i t h (omega (arith, near .few)) (x t l))
+
+    pub no-coefficient : (i : ℕ) → i < w → ((t : ℕ) → t < count → d + t ≢ i) → getD (row w E k work) ((b + rise + i) % w) 0 ≡ 0
+    no-coefficient i h x = spans ((b + rise + i) % w) (mod-lt (b + rise + i) (fits .some-width)) (λ t l. apart i t h l (x t l))
+
+    -- A position that stays.
+    taken : (i : ℕ) → i < stay → i < w → d ≤ i → i < d + count
+        → getD (f .multipliers) ((b + rise + i) % w) 0 ≡ multiplier w E ((b + rise + i) % w) m (row w E k work)
+    taken i s h l u =
+        let e : d + (i - d) ≡ i = omega arith in
+        let c : (first + (i - d)) % w ≡ (b + rise + i) % w = column (i - d) ∙ ap (λ x. (b + rise + x) % w) e in
+        let t : i - d < n = near .all (i - d) (omega arith) (omega (arith, distance (i - d) (omega arith))) in
+        subst (λ x. getD (f .multipliers) x 0 ≡ multiplier w E x m (row w E k work)) c (f .on (i - d) t)
+
+    used : (i : ℕ) → i < stay → i < w → inUse w E (row w E ((b + rise + i) % w) m) ≡ true → Dec (d ≤ i) → Dec (i < d + count)
+        → getD (f .multipliers) ((b + rise + i) % w) 0 ≡ getD (row w E k work) ((b + rise + i) % w) 0
+    used i s h t (yes x) (yes y) = taken i s h x y ∙ ap (λ v. if-used v (getD (row w E k work) ((b + rise + i) % w) 0)) t
+    used i s h t (yes x) (no y) =
+        no-multiplier i h (λ u l. omega (arith, near .few)) ∙ sym (no-coefficient i h (λ u l. omega arith))
+    used i s h t (no x) y =
+        no-multiplier i h (λ u l. omega (arith, near .few)) ∙ sym (no-coefficient i h (λ u l. omega arith))
+
+    unused : (i : ℕ) → i < stay → i < w → inUse w E (row w E ((b + rise + i) % w) m) ≡ false → Dec (d ≤ i) → Dec (i < d + count)
+        → getD (f .multipliers) ((b + rise + i) % w) 0 ≡ 0
+    unused i s h t (yes x) (yes y) = taken i s h x y ∙ ap (λ v. if-used v (getD (row w E k work) ((b + rise + i) % w) 0)) t
+    unused i s h t (yes x) (no y) = no-multiplier i h (λ u l. omega (arith, near .few))
+    unused i s h t (no x) y = no-multiplier i h (λ u l. omega (arith, near .few))
+
+    -- A position that joins.
+    joins : (i : ℕ) → stay ≤ i → i < w → getD (f .multipliers) ((b + rise + i) % w) 0 ≡ 0
+    joins i s h = no-multiplier i h (λ t l. let e = distance t (omega (arith, near .few)) in omega (arith, near .stays t l))
+
+    -- By its distance from the base.
+    at-position : (P : ℕ → Type 0) (p : ℕ) → b + rise ≤ p → P ((b + rise + (p - (b + rise))) % w) → P (p % w)
+    at-position P p h = let e : b + rise + (p - (b + rise)) ≡ p = omega arith in subst (λ x. P (x % w)) e
+
+    pub state-reduced : spelled w E (b + rise) work′ k ≡ reduce (advance-by rise S) (spelled w E (b + rise) work k)
+    state-reduced =
+        let T = table w E m in
+        let L = laws E (omega (arith, fits .some-symbol)) in
+        ap (λ z. read z w (b + rise)) (state-line w E k first n m work work′ g f fits bytes small)
+        ∙ stays-lines L T b w (subst Rref (sym (held .reads)) rref) (λ r. line w E (row w E r m)) (λ p. refl)
+        (λ r. byte (getD (f .multipliers) r 0)) (line w E (row w E k work))
+        (λ q j. ap (λ c. byte (getD (row w E (q % w) m) c 0)) (add-mod-right j w)) (held .echelon) rise
+        (λ p l u t.
+        ap byte
+        (at-position (λ c. inUse w E (row w E c m) ≡ true → getD (f .multipliers) c 0 ≡ getD (row w E k work) c 0) p l
+        (λ v. used (p - (b + rise)) (omega arith) (omega arith) v (decLe d (p - (b + rise))) (decLt (p - (b + rise)) (d + count))) t))
+        (λ p l u t.
+        byte-zero _
+        (at-position (λ c. inUse w E (row w E c m) ≡ false → getD (f .multipliers) c 0 ≡ 0) p l
+        (λ v. unused (p - (b + rise)) (omega arith) (omega arith) v (decLe d (p - (b + rise))) (decLt (p - (b + rise)) (d + count))) t))
+        (λ p l u v. byte-zero _ (at-position (λ c. getD (f .multipliers) c 0 ≡ 0) p l (joins (p - (b + rise)) (omega arith) (omega arith))))
+        ∙ ap (λ X. reduce (advance-by rise X) (spelled w E (b + rise) work k)) (held .reads)

@@ -1,0 +1,131 @@
+-- `gather::find_pivot` meets its contract. The loops: no coefficient in the rows before, and none in the columns before.
+use mathlib.Core.Path.{_≡_, refl, sym, ap, _∙_}
+use Prim.Native.Nat.{_+_, _-_, _%_, _≤_, _<_}
+use native.Mathlib.Omega.{arith}
+use native.Mathlib.Nat.{add-zero, mod-eq-of-lt}
+use Rattle.table.specs.Window.{row}
+use Rattle.gather.proofs.Collecting.{next-column}
+use Rattle.gather.proofs.Searching.{Blank, BlankRows, blank-none, blank-more, blank-all, rows-none, rows-more, read-cell, leading-here}
+use borrow.Author.Needs.{needs}
+use Rattle.gather.proofs.find_pivot.Statement.{statement}
+use Rattle.gather.proofs.find_pivot.Tie as tie
+use Rattle.gather.proofs.find_pivot.Reads as reads
+use Rattle.gather.proofs.find_pivot.Lts as lts
+use Rattle.table.proofs.next.Reads as next-reads
+use Rattle.table.proofs.start_of.Reads as start-of-reads
+
+abbrev Inv-loop : tie.InvT-loop
+Inv-loop work shape first from to w r at i₀ c₀ i c = (i ≤ w) × (w ≡ shape .width) × (c ≡ (first + i) % w) × (c < w) × Blank w first i (row w (shape .size) r work)
+
+abbrev μ-loop : tie.MeasureT-loop
+μ-loop work shape first from to w r at i₀ c₀ i c = w - i
+
+abbrev Inv-rows : tie.InvT-rows
+Inv-rows work shape first from to w r₀ r = (from ≤ r) × (r ≤ to) × (w ≡ shape .width) × BlankRows w (shape .size) first from r work
+
+abbrev μ-rows : tie.MeasureT-rows
+μ-rows work shape first from to w r₀ r = to - r
+
+rows-holds : tie.Need-rows-holds Inv-loop μ-loop Inv-rows μ-rows
+rows-holds c =
+    let a = c .before .args in
+    (search needs, search needs, refl, rows-none (a .shape .width) (a .shape .size) (a .first) (a .from) (a .from) (a .work .now) refl)
+
+start-of-requires : tie.Need-start-of-requires Inv-loop μ-loop Inv-rows μ-rows
+start-of-requires c κs = search needs
+
+loop-holds : tie.Need-loop-holds Inv-loop μ-loop Inv-rows μ-rows
+loop-holds c =
+    let a = c .before .before .before .before .args in
+    (search needs, refl, sym (ap (λ k. k % a .shape .width) (add-zero (a .first)) ∙ mod-eq-of-lt (omega arith)), search needs, blank-none (a .shape .width) (a .first) (row (a .shape .width) (a .shape .size) (c .before .before .rows .r) (a .work .now)))
+
+add-if2 : tie.Need-add-if2 Inv-loop μ-loop Inv-rows μ-rows
+add-if2 c = search needs
+
+shared-slice-read-if2 : tie.Need-shared-slice-read-if2 Inv-loop μ-loop Inv-rows μ-rows
+shared-slice-read-if2 c = search needs
+
+add-i : tie.Need-add-i Inv-loop μ-loop Inv-rows μ-rows
+add-i c = search needs
+
+next-requires : tie.Need-next-requires Inv-loop μ-loop Inv-rows μ-rows
+next-requires c κs = search needs
+
+loop-less : tie.Need-loop-less Inv-loop μ-loop Inv-rows μ-rows
+loop-less c = search needs
+
+loop-again : tie.Need-loop-again Inv-loop μ-loop Inv-rows μ-rows
+loop-again c =
+    let a = c .before .before .before .before .before .before .before .before .before .args in
+    let turn = c .before .before .before .before .loop in
+    let r = c .before .before .before .before .before .before .before .rows .r in
+    let zero = ap (λ k. lib.ListN.getD (row (a .shape .width) (a .shape .size) r (a .work .now)) k 0) (sym (turn .inv .2)) ∙ sym (read-cell (a .shape .width) (a .shape .size) r (c .before .before .before .before .before .start-of .result) (turn .c) (a .work .now) (c .before .before .before .before .before .start-of .ensures .start) (turn .inv .3)) ∙ c .before .if2 .left in (
+      search needs,
+      refl,
+      c .next .ensures .0 ∙ next-column (a .shape .width) (a .first) (turn .i) (turn .c) (turn .inv .2),
+      c .next .ensures .1,
+      blank-more (a .shape .width) (a .first) (turn .i) (row (a .shape .width) (a .shape .size) r (a .work .now)) (turn .inv .4) zero,
+    )
+
+add-r : tie.Need-add-r Inv-loop μ-loop Inv-rows μ-rows
+add-r c = search needs
+
+rows-less : tie.Need-rows-less Inv-loop μ-loop Inv-rows μ-rows
+rows-less c = search needs
+
+rows-again : tie.Need-rows-again Inv-loop μ-loop Inv-rows μ-rows
+rows-again c =
+    let a = c .before .before .before .before .before .before .args in
+    let outer = c .before .before .before .before .rows in
+    let inner = c .before .loop in (
+      search needs,
+      search needs,
+      refl,
+      rows-more (a .shape .width) (a .shape .size) (a .first) (a .from) (outer .r) (a .work .now) (outer .inv .3)
+          (blank-all (a .shape .width) (a .first) (inner .i) (row (a .shape .width) (a .shape .size) (outer .r) (a .work .now)) (omega arith) (inner .inv .4)),
+    )
+
+returns : tie.Need-returns Inv-loop μ-loop Inv-rows μ-rows
+returns c =
+    let a = c .before .before .before .args in
+    let outer = c .before .rows in
+    λ k g l. outer .inv .3 k g (omega arith)
+
+returns-2 : tie.Need-returns-2 Inv-loop μ-loop Inv-rows μ-rows
+returns-2 c =
+    let a = c .before .before .before .before .before .before .before .before .args in
+    let outer = c .before .before .before .before .before .before .rows in
+    let turn = c .before .before .before .loop in
+    let l = row (a .shape .width) (a .shape .size) (outer .r) (a .work .now) in (
+      turn .i,
+      omega arith,
+      turn .inv .2,
+      outer .inv .0,
+      omega arith,
+      outer .inv .3,
+      leading-here (a .shape .width) (a .first) (turn .i) (turn .c) l (omega arith) (turn .inv .2)
+          (λ z. c .if2 .taken (read-cell (a .shape .width) (a .shape .size) (outer .r) (c .before .before .before .before .start-of .result) (turn .c) (a .work .now) (c .before .before .before .before .start-of .ensures .start) (turn .inv .3) ∙ z)) (turn .inv .4),
+    )
+
+pub find-pivot-spec : {M : Type 1} → statement M
+find-pivot-spec =
+    tie.close
+    (tie.spec
+    Inv-loop
+    μ-loop
+    Inv-rows
+    μ-rows
+    rows-holds
+    start-of-requires
+    loop-holds
+    add-if2
+    shared-slice-read-if2
+    add-i
+    next-requires
+    loop-less
+    loop-again
+    add-r
+    rows-less
+    rows-again
+    returns
+    returns-2)

@@ -1,0 +1,207 @@
+-- To unmark the rows of the positions that leave moves the window on.
+use mathlib.Core.Path.{_≡_, refl, sym, ap, _∙_, subst}
+use mathlib.Core.Logic.{_≢_}
+use mathlib.Core.Bool.{Bool, true, false, true≢false}
+use mathlib.Core.List.{List}
+use Prim.Native.Nat.{ℕ, zero, suc, _+_, _-_, _%_, _≤_, _<_}
+use native.Mathlib.Nat.{mod-lt, mod-eq-of-lt, mod-add-mod, add-mod-mod, add-mod-right, add-zero, add-assoc}
+use native.Mathlib.Decide.{ℕ-discrete}
+use native.Mathlib.Numerals.{add-one}
+use native.Mathlib.Omega.{arith}
+use lib.ListN.{getD}
+use Rattle.decoder.specs.Field.{Ops}
+use Rattle.decoder.specs.Bytes.{byte, Coded}
+use Rattle.decoder.specs.Model.{Row, State, end, free, pivot, advance}
+use Rattle.decoder.specs.Receiver.{advance-by, empty}
+use Rattle.decoder.specs.Table.{Table, view, read, slot}
+use Rattle.decoder.specs.TableSteps.{Moves}
+use Rattle.decoder.proofs.Bytes.{laws}
+use Rattle.decoder.proofs.Stretch.{remainders}
+use Rattle.decoder.proofs.Jump.{advance-by-suc, advance-by-empty}
+use Rattle.decoder.proofs.Refine.{view-advance}
+use Rattle.decoder.proofs.Steps.{moves-echelon}
+use Rattle.table.specs.Window.{row, flag, inUse, line, table, Window, Fits, Kept}
+use Rattle.placing.specs.Place.{Emptied, Moved}
+use Rattle.table.specs.RowSteps.{flagged}
+use Rattle.table.proofs.Rows.{kept-refl, kept-trans, fits-kept}
+use Rattle.table.proofs.Flags.{unused, unused-flag, flagged-unused, flagged-flag, flagged-rest, flagged-kept, flags-changed}
+
+-- Another position of the window has another row.
+pub other : (w b p q : ℕ) → b ≤ p → p < b + w → b ≤ q → q < b + w → q ≢ p → q % w ≢ p % w
+other w b p q c l d k n e = n (remainders w b q p d k c l e)
+
+module _ (w E : ℕ) (m : List ℕ) (fits : Fits w E m) where
+  free-kept : (b q : ℕ) → b < q → q < b + w → row w E (q % w) (flagged w E (b % w) 0 m) ≡ row w E (q % w) m
+  free-kept b q c l =
+      flagged-rest w E (b % w) 0 m fits (mod-lt b (fits .some-width))
+      (q % w) (mod-lt q (fits .some-width)) (other w b b q (omega arith) (omega arith) (omega arith) l (omega arith))
+
+  free-moves : (b : ℕ) → Moves (table w E m) (table w E (flagged w E (b % w) 0 m)) b w
+  free-moves b =
+      let r = b % w in
+      let same : (b + w) % w ≡ r = add-mod-right b w in
+      record {
+        has-last =
+            ap (λ x. inUse w E (row w E x (flagged w E r 0 m))) same
+            ∙ unused w E (row w E r (flagged w E r 0 m)) (flagged-flag w E r 0 m fits (mod-lt b (fits .some-width)));
+        has-kept = λ q c l. ap (inUse w E) (free-kept b q c l);
+        line-kept = λ q c l _. ap (line w E) (free-kept b q c l);
+        wraps = λ q. ap (λ x. byte (getD (row w E (q % w) m) x 0)) same;
+      }
+
+  window-free-one : (b : ℕ) (S : State (Coded E) w) → Window w E m b S → Window w E (flagged w E (b % w) 0 m) (suc b) (advance S)
+  window-free-one b S h =
+      let L = laws E (omega (arith, fits .some-symbol)) in
+      let r = b % w in
+      let l : r < w = mod-lt b (fits .some-width) in
+      let T = table w E m in
+      let T′ = table w E (flagged w E r 0 m) in
+      record {
+        echelon = moves-echelon L T T′ b w (h .echelon) (free-moves b);
+        reads = view-advance L T T′ b w (h .echelon) (free-moves b) ∙ ap advance (h .reads);
+        flags =
+            flags-changed w E r m (flagged w E r 0 m) (flagged-rest w E r 0 m fits l) (h .flags)
+            (flagged-unused w E r (row w E r (flagged w E r 0 m)) (flagged-flag w E r 0 m fits l));
+      }
+
+pub moved-to : {w E base i k : ℕ} {m m′ : List ℕ} → i ≡ k → Moved w E base i m m′ → Moved w E base k m m′
+moved-to {w} {E} {base} {i} {k} {m} {m′} e f = subst (λ x. Moved w E base x m m′) e f
+
+-- No turn yet, one more, and as many as there are rows.
+moved-none : (w E base : ℕ) (m : List ℕ) → Moved w E base 0 m m
+unfolding advance-by
+moved-none w E base m = record { kept = kept-refl; moves = λ b S e h. rw add-zero h }
+
+moved-more : (w E base i : ℕ) (m m′ : List ℕ) → Fits w E m′ → Moved w E base i m m′
+    → Moved w E base (i + 1) m (flagged w E ((base + i) % w) 0 m′)
+moved-more w E base i m m′ fits f =
+    let pos = fits .some-width in record {
+      kept = kept-trans (f .kept) (flagged-kept w E ((base + i) % w) 0 m′ fits (mod-lt (base + i) pos));
+      moves = λ b S e h.
+          let turn = window-free-one w E m′ fits (b + i) (advance-by i S) (f .moves b S e h) in
+          let same : (b + i) % w ≡ (base + i) % w = sym (mod-add-mod b w i) ∙ ap (λ k. (k + i) % w) e in
+          let next : suc (b + i) ≡ b + (i + 1) = omega arith in
+          let done : advance (advance-by i S) ≡ advance-by (i + 1) S = sym (advance-by-suc i S) ∙ ap (λ k. advance-by k S) (sym (add-one i)) in
+          subst (λ k. Window w E (flagged w E k 0 m′) (b + (i + 1)) (advance-by (i + 1) S)) same
+          (subst (λ k. Window w E (flagged w E ((b + i) % w) 0 m′) k (advance-by (i + 1) S)) next
+          (subst (λ S′. Window w E (flagged w E ((b + i) % w) 0 m′) (suc (b + i)) S′) done turn));
+    }
+
+-- So far: the window has moved on by `i`, and `oldest` is the row of its oldest position.
+pub record Leaving (w E base i oldest : ℕ) (m m′ : List ℕ) : Type 0 where
+  pub within : oldest < w
+  pub here : oldest ≡ (base + i) % w
+  pub moved : Moved w E base i m m′
+
+pub leaving-none : (w E base : ℕ) (m : List ℕ) → base < w → Leaving w E base 0 base m m
+leaving-none w E base m h = record {
+  within = h;
+  here = sym (ap (λ k. k % w) (add-zero base) ∙ mod-eq-of-lt h);
+  moved = moved-none w E base m;
+}
+
+pub leaving-more : (w E base i oldest next : ℕ) (m m₁ m₂ : List ℕ) → Fits w E m → Leaving w E base i oldest m m₁
+    → m₂ ≡ flagged w E oldest 0 m₁ → (next ≡ (oldest + 1) % w) × (next < w) → Leaving w E base (i + 1) next m m₂
+leaving-more w E base i oldest next m m₁ m₂ fits f e n = record {
+  within = n .1;
+  here = n .0 ∙ ap (λ k. (k + 1) % w) (f .here) ∙ mod-add-mod (base + i) w 1 ∙ ap (λ k. k % w) (add-assoc base i 1);
+  moved =
+      subst (λ x. Moved w E base (i + 1) m x) (ap (λ k. flagged w E k 0 m₁) (sym (f .here)) ∙ sym e)
+      (moved-more w E base i m m₁ (fits-kept fits (f .moved .kept)) (f .moved));
+}
+
+-- Each row has its position in the window.
+pub position : (w b r : ℕ) → r < w → (p : ℕ) × (b ≤ p) × (p < b + w) × (p % w ≡ r)
+position w b r h =
+    let pos : 0 < w = omega arith in
+    let d = (r + (w - b % w)) % w in
+    let l : b % w < w = mod-lt b pos in
+    let e : b % w + (r + (w - b % w)) ≡ r + w = omega arith in (
+      b + d,
+      omega arith,
+      omega (arith, mod-lt (r + (w - b % w)) pos),
+      add-mod-mod b (r + (w - b % w)) w ∙ sym (mod-add-mod b w (r + (w - b % w))) ∙ ap (λ k. k % w) e ∙ add-mod-right r w ∙ mod-eq-of-lt h,
+    )
+
+module _ {O : Ops} where
+  is-pivot : {n : ℕ} → State O n → Bool
+  is-pivot end = false
+  is-pivot (free S) = false
+  is-pivot (pivot r S) = true
+
+  rest : {n : ℕ} → State O (suc n) → State O n
+  rest (free S) = S
+  rest (pivot r S) = S
+
+  slot-free : {n : ℕ} (t : Bool) (r : Row O n) (S : State O n) → slot t r S ≡ free (empty O n) → (t ≡ false) × (S ≡ empty O n)
+  unfolding slot is-pivot rest
+  slot-free true r S e = absurd (true≢false (ap is-pivot e))
+  slot-free false r S e = (refl, ap rest e)
+
+  empty-view : (T : Table O) (n q p : ℕ) → view T n q ≡ empty O n → q ≤ p → p < q + n → T .has p ≡ false
+  unfolding view empty
+  empty-view T zero q p e g l = absurd (omega arith)
+  empty-view T (suc n) q p e g l = go (slot-free (T .has q) (read (T .line q) n (suc q)) (view T n (suc q)) e) (ℕ-discrete q p) (λ x g′. empty-view T n (suc q) p x g′ (omega arith))
+    where
+      go : (T .has q ≡ false) × (view T n (suc q) ≡ empty O n) → Dec (q ≡ p) → (view T n (suc q) ≡ empty O n → suc q ≤ p → T .has p ≡ false) → T .has p ≡ false
+      go s (yes x) ih = ap (T .has) (sym x) ∙ s .0
+      go s (no x) ih = ih (s .1) (omega arith)
+
+  view-empty : (T : Table O) (n q : ℕ) → ((p : ℕ) → T .has p ≡ false) → view T n q ≡ empty O n
+  unfolding view empty slot
+  view-empty T zero q h = refl
+  view-empty T (suc n) q h = ap (λ t. slot t (read (T .line q) n (suc q)) (view T n (suc q))) (h q) ∙ ap free (view-empty T n (suc q) h)
+
+-- A memory without rows holds the empty system, for a window from anywhere on.
+pub window-free : (w E b : ℕ) (m : List ℕ) → 0 < w → ((r : ℕ) → r < w → flag w E (row w E r m) ≡ 0) → Window w E m b (empty (Coded E) w)
+window-free w E b m pos h =
+    let none : (p : ℕ) → table w E m .has p ≡ false = (λ p. unused w E (row w E (p % w) m) (h (p % w) (mod-lt p pos))) in
+    record {
+      echelon = record {
+        one-at = λ q _ _ t. absurd (true≢false (sym t ∙ none q));
+        zero-before = λ q _ _ t j _ _. absurd (true≢false (sym t ∙ none q));
+      };
+      reads = view-empty (table w E m) w b none;
+      flags = λ r l. flagged-unused w E r (row w E r m) (h r l);
+    }
+
+window-anywhere : (w E b c : ℕ) (m : List ℕ) → 0 < w → Window w E m b (empty (Coded E) w) → Window w E m c (empty (Coded E) w)
+window-anywhere w E b c m pos h =
+    window-free w E c m pos
+    (λ r l.
+    let (q, g, k, e) = position w b r l in
+    unused-flag w E (row w E r m) (ap (λ x. inUse w E (row w E x m)) (sym e) ∙ empty-view (table w E m) w b q (h .reads) g k))
+
+pub moved-past : (w E base rise : ℕ) (m m′ : List ℕ) → 0 < w → w ≤ rise → Moved w E base w m m′ → Moved w E base rise m m′
+moved-past w E base rise m m′ pos g f = record {
+  kept = f .kept;
+  moves = λ b S e h.
+      subst (λ S′. Window w E m′ (b + rise) S′) (sym (advance-by-empty rise S g))
+      (window-anywhere w E (b + w) (b + rise) m′ pos
+      (subst (λ S′. Window w E m′ (b + w) S′) (advance-by-empty w S (omega arith)) (f .moves b S e h)));
+}
+
+-- The rows before `i` are not in use.
+pub record Emptying (w E i : ℕ) (m m′ : List ℕ) : Type 0 where
+  pub kept : Kept w E m m′
+  pub free : (q : ℕ) → q < i → flag w E (row w E q m′) ≡ 0
+
+pub emptying-none : (w E : ℕ) (m : List ℕ) → Emptying w E 0 m m
+emptying-none w E m = record { kept = kept-refl; free = λ q h. absurd (omega arith) }
+
+pub emptying-more : (w E i : ℕ) (m m₁ m₂ : List ℕ) → Fits w E m → i < w → Emptying w E i m m₁ → m₂ ≡ flagged w E i 0 m₁ → Emptying w E (i + 1) m m₂
+emptying-more w E i m m₁ m₂ fits h f e =
+    subst (λ x. Emptying w E (i + 1) m x) (sym e) record {
+      kept = kept-trans (f .kept) (flagged-kept w E i 0 m₁ room h);
+      free = λ q l. go q l (ℕ-discrete q i);
+    }
+  where
+    room : Fits w E m₁
+    room = fits-kept fits (f .kept)
+
+    go : (q : ℕ) → q < i + 1 → Dec (q ≡ i) → flag w E (row w E q (flagged w E i 0 m₁)) ≡ 0
+    go q l (yes e) = ap (λ x. flag w E (row w E x (flagged w E i 0 m₁))) e ∙ flagged-flag w E i 0 m₁ room h
+    go q l (no e) = ap (flag w E) (flagged-rest w E i 0 m₁ room h q (omega arith) e) ∙ f .free q (omega arith)
+
+pub emptied : (w E i : ℕ) (m m′ : List ℕ) → 0 < w → i ≡ w → Emptying w E i m m′ → Emptied w E m m′
+emptied w E i m m′ pos e f = record { kept = f .kept; free = λ b. window-free w E b m′ pos (λ r l. f .free r (omega arith)) }

@@ -1,0 +1,87 @@
+use native.Mathlib.Omega.{arith}
+use borrow.Author.Needs.{needs}
+use Rattle.placing.proofs.Placing.{cleared-unused, cleared-row}
+use Rattle.table.proofs.Rows.{row-end}
+use Rattle.placing.proofs.clear_coefficient.Statement.{statement}
+use Rattle.placing.proofs.clear_coefficient.Tie as tie
+
+-- src/place.rt:88:9
+start-of-requires : tie.Need-start-of-requires
+start-of-requires c κs = search needs
+
+-- src/place.rt:89:13
+add-n : tie.Need-add-n
+add-n c = search needs
+
+-- src/place.rt:90:12
+add-if1 : tie.Need-add-if1
+add-if1 c = search needs
+
+-- src/place.rt:90:8
+slice-read-if1 : tie.Need-slice-read-if1
+slice-read-if1 c =
+    let a = c .before .before .before .before .before .args in
+    omega (arith, row-end (a .shape .width) (a .shape .size) (a .q) (omega arith))
+
+-- src/place.rt:91:9
+returns : tie.Need-returns
+returns c =
+    let a = c .before .before .before .before .before .before .args in
+    let at = c .before .before .before .start-of in
+    cleared-unused (a .shape .width) (a .shape .size) (a .r) (a .q) (a .row .now) (a .mem .now) (at .result) (at .ensures .start) (c .if1 .taken)
+
+-- src/place.rt:93:17
+add-c : tie.Need-add-c
+add-c c = search needs
+
+-- src/place.rt:93:13
+slice-read-c : tie.Need-slice-read-c
+slice-read-c c =
+    let a = c .before .before .before .before .before .before .before .args in
+    omega (arith, row-end (a .shape .width) (a .shape .size) (a .q) (omega arith))
+
+-- src/place.rt:94:5
+add-part-requires : tie.Need-add-part-requires
+add-part-requires c κs =
+    let a = c .before .before .before .before .before .before .before .before .args in
+    (omega (arith, row-end (a .shape .width) (a .shape .size) (a .q) (omega arith)), search needs)
+
+-- src/place.rt:95:5
+mark-requires : tie.Need-mark-requires
+mark-requires c κs = search needs
+
+-- src/place.rt:84:1
+same-length : tie.Need-same-length
+same-length c = search needs
+
+-- src/place.rt:84:1
+returns-2 : tie.Need-returns-2
+returns-2 c =
+    let start = c .before .before .before .before .before .before .before .before .before .before .before .before .before .before .before in
+    let a = start .args in
+    let at = c .before .before .before .before .before .before .before .before .before .before .before .before .start-of in
+    let added = c .before .before .before .before .before .before .add-part in
+    cleared-row (a .shape .width) (a .shape .size) (a .r) (a .q) _ (a .row .now) (a .mem .now) (added .last .0) _
+    (start .pre .0) (omega arith) (omega arith) (omega arith)
+    (λ i. c .before .before .before .before .before .before .before .before .before .before .before .before .before .before .slice-known .given i .fits)
+    (λ i. c .before .before .before .before .before .before .before .before .before .before .before .before .before .shared-slice-known .given i .fits)
+    (at .result) (at .ensures .start)
+    (rw (← at .ensures .start) at (start .pre .4))
+    (c .before .before .before .before .before .before .before .before .before .if1 .left)
+    (added .ensures) (c .before .before .mark .ensures)
+
+pub clear-coefficient-spec : {M : Type 1} → statement M
+clear-coefficient-spec =
+    tie.close
+    (tie.spec
+    start-of-requires
+    add-n
+    add-if1
+    slice-read-if1
+    returns
+    add-c
+    slice-read-c
+    add-part-requires
+    mark-requires
+    same-length
+    returns-2)

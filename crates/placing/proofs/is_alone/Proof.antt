@@ -1,0 +1,82 @@
+use native.Mathlib.Omega.{arith}
+use Rattle.table.proofs.Marking.{tested-alone, tested-other}
+use Rattle.table.proofs.Rows.{row-end}
+use borrow.Author.Needs.{needs}
+use Rattle.placing.proofs.is_alone.Statement.{statement}
+use Rattle.placing.proofs.is_alone.Tie as tie
+use Rattle.placing.proofs.is_alone.Reads as reads
+use Rattle.placing.proofs.is_alone.Lts as lts
+use Rattle.table.proofs.or_all.Reads as or-all-reads
+use Rattle.table.proofs.start_of.Reads as start-of-reads
+
+-- src/place.rt:77:9
+start-of-requires : tie.Need-start-of-requires
+start-of-requires c κs = search needs
+
+-- src/place.rt:78:34
+add-or-all : tie.Need-add-or-all
+add-or-all c =
+    let a = c .before .before .args in
+    omega (arith, row-end (a .shape .width) (a .shape .size) (a .r) (omega arith))
+
+-- src/place.rt:78:9
+or-all-requires : tie.Need-or-all-requires
+or-all-requires c κs =
+    let a = c .before .before .args in
+    (search needs, omega (arith, row-end (a .shape .width) (a .shape .size) (a .r) (omega arith)))
+
+-- src/place.rt:79:35
+add-or-all-2 : tie.Need-add-or-all-2
+add-or-all-2 c = search needs
+
+-- src/place.rt:79:29
+add-or-all-3 : tie.Need-add-or-all-3
+add-or-all-3 c =
+    let a = c .before .before .before .args in
+    omega (arith, row-end (a .shape .width) (a .shape .size) (a .r) (omega arith))
+
+-- src/place.rt:79:43
+add-or-all-4 : tie.Need-add-or-all-4
+add-or-all-4 c =
+    let a = c .before .before .before .before .args in
+    omega (arith, row-end (a .shape .width) (a .shape .size) (a .r) (omega arith))
+
+-- src/place.rt:79:9
+or-all-requires-2 : tie.Need-or-all-requires-2
+or-all-requires-2 c κs =
+    let a = c .before .before .before .before .args in
+    (search needs, omega (arith, row-end (a .shape .width) (a .shape .size) (a .r) (omega arith)))
+
+-- src/place.rt:73:1
+returns : tie.Need-returns
+returns c =
+    let a = c .before .before .before .before .before .before .args in
+    let at = c .before .before .before .before .start-of in
+    let before = c .before .before .before .or-all in
+    let after = c .before .or-all2 in
+    tested-alone (a .shape .width) (a .shape .size) (a .r) (a .mem .now) (omega arith) (at .result) (at .ensures .start)
+    (before .result) (after .result) (before .ensures) (after .ensures) (c .if1 .taken)
+
+-- src/place.rt:73:1
+returns-2 : tie.Need-returns-2
+returns-2 c =
+    let a = c .before .before .before .before .before .before .args in
+    let at = c .before .before .before .before .start-of in
+    let before = c .before .before .before .or-all in
+    let after = c .before .or-all2 in
+    tested-other (a .shape .width) (a .shape .size) (a .r) (a .mem .now) (omega arith) (at .result) (at .ensures .start)
+    (before .result) (after .result) (before .ensures) (after .ensures) (c .if1 .left)
+
+pub is-alone-spec : {M : Type 1} → statement M
+is-alone-spec =
+    tie.close
+    (tie.spec
+    start-of-requires
+    add-or-all
+    or-all-requires
+    add-or-all-2
+    add-or-all-3
+    add-or-all-4
+    or-all-requires-2
+    returns
+    returns-2)

@@ -1,0 +1,125 @@
+-- `placing::place` meets its contract. The loop: the column is clear in the rows before q, of which count have become known, and the
+-- row q has a coefficient there.
+use mathlib.Core.Logic.{_≢_}
+use Prim.Native.Nat.{_+_, _≤_, _<_, _-_}
+use native.Mathlib.Omega.{arith}
+use lib.ListN.{getD}
+use borrow.Author.Needs.{needs}
+use Rattle.table.specs.Window.{place}
+use Rattle.table.proofs.Rows.{fits-kept}
+use Rattle.placing.proofs.Placing.{Cleared, cleared-none, cleared-more, cleared-skip, settled}
+use Rattle.placing.proofs.place.Statement.{statement}
+use Rattle.placing.proofs.place.Tie as tie
+
+abbrev Inv-loop : tie.InvT-loop
+Inv-loop mem₀ row shape r w count₀ q₀ mem count q =
+    (q ≤ w) × Cleared (shape .width) (shape .size) r q count row mem₀ mem × (q < w → getD mem (place (shape .width) (shape .size) q + r) 0 ≢ 0)
+
+abbrev μ-loop : tie.MeasureT-loop
+μ-loop mem₀ row shape r w count₀ q₀ mem count q = w - q
+
+-- src/place.rt:131:9
+next-with-requires : tie.Need-next-with-requires Inv-loop μ-loop
+next-with-requires c κs = search needs
+
+-- src/place.rt:132:5
+loop-holds : tie.Need-loop-holds Inv-loop μ-loop
+loop-holds c =
+    let start = c .before .before .before .before in
+    let a = start .args in
+    let found = c .next-with in
+    let none = cleared-none (a .shape .width) (a .shape .size) (a .r) (a .row .now) (a .mem .now) in (
+      omega (arith, found .ensures .most),
+      cleared-skip (a .shape .width) (a .shape .size) (a .r) (a .row .now) (a .mem .now) 0 (found .result) 0 (a .mem .now)
+          (omega (arith, start .pre .0 .some-symbol)) (omega arith) (found .ensures) none,
+      found .ensures .here,
+    )
+
+-- src/place.rt:133:18
+clear-coefficient-requires : tie.Need-clear-coefficient-requires Inv-loop μ-loop
+clear-coefficient-requires c κs =
+    let turn = c .before .before .loop in
+    (fits-kept (c .before .before .before .before .before .before .before .pre .0) (turn .inv .1 .kept), search needs, search needs, search needs, turn .inv .2 (omega arith))
+
+-- src/place.rt:133:9
+add-count : tie.Need-add-count Inv-loop μ-loop
+add-count c = search needs
+
+-- After a turn the column is clear in one row more.
+more : (c : tie.After-slice-known2 Inv-loop μ-loop)
+    → let a = c .before .before .before .before .before .before .before .before .before .before .args in
+    let turn = c .before .before .before .before .before .loop in
+    let done = c .before .before .clear-coefficient in
+    Cleared (a .shape .width) (a .shape .size) (a .r) (turn .q + 1) (turn .count + done .result) (a .row .now) (a .mem .now) (done .last .0)
+more c =
+    let a = c .before .before .before .before .before .before .before .before .before .before .args in
+    let turn = c .before .before .before .before .before .loop in
+    let done = c .before .before .clear-coefficient in
+    cleared-more (a .shape .width) (a .shape .size) (a .r) (a .row .now) (a .mem .now) (turn .q) (turn .count) (done .result) (turn .mem) (done .last .0)
+    (omega arith) (turn .inv .1) (done .ensures)
+
+-- src/place.rt:134:38
+add-next-with : tie.Need-add-next-with Inv-loop μ-loop
+add-next-with c = search needs
+
+-- src/place.rt:134:9
+next-with-requires-2 : tie.Need-next-with-requires-2 Inv-loop μ-loop
+next-with-requires-2 c κs =
+    (fits-kept (c .before .before .before .before .before .before .before .before .before .before .before .pre .0) (more (c .before) .kept), search needs, omega arith)
+
+-- src/place.rt:132:5
+loop-less : tie.Need-loop-less Inv-loop μ-loop
+loop-less c = omega (arith, c .next-with2 .ensures .least)
+
+-- src/place.rt:132:5
+loop-again : tie.Need-loop-again Inv-loop μ-loop
+loop-again c =
+    let start = c .before .before .before .before .before .before .before .before .before .before .before .before in
+    let a = start .args in
+    let found = c .next-with2 in (
+      omega (arith, found .ensures .most),
+      cleared-skip (a .shape .width) (a .shape .size) (a .r) (a .row .now) (a .mem .now) _ (found .result) _ _
+          (omega (arith, start .pre .0 .some-symbol)) (omega arith) (found .ensures) (more (c .before .before)),
+      found .ensures .here,
+    )
+
+-- src/place.rt:136:13
+store-row-requires : tie.Need-store-row-requires Inv-loop μ-loop
+store-row-requires c κs =
+    (fits-kept (c .before .before .before .before .before .before .before .pre .0) (c .before .before .loop .inv .1 .kept), search needs, search needs)
+
+-- src/place.rt:136:5
+add-result : tie.Need-add-result Inv-loop μ-loop
+add-result c = search needs
+
+-- src/place.rt:125:1
+same-length : tie.Need-same-length Inv-loop μ-loop
+same-length c = search needs
+
+-- src/place.rt:125:1
+returns : tie.Need-returns Inv-loop μ-loop
+returns c =
+    let a = c .before .before .before .before .before .before .before .before .before .before .args in
+    let end = c .before .before .before .before .before .loop in
+    let done = c .before .before .store-row in
+    settled (a .shape .width) (a .shape .size) (a .r) (a .row .now) (a .mem .now) (end .q) (end .count) (done .result) (end .mem) (done .last .0)
+    (omega arith) (omega arith) (end .inv .1) (done .ensures)
+
+pub place-spec : {M : Type 1} → statement M
+place-spec =
+    tie.close
+    (tie.spec
+    Inv-loop
+    μ-loop
+    next-with-requires
+    loop-holds
+    clear-coefficient-requires
+    add-count
+    add-next-with
+    next-with-requires-2
+    loop-less
+    loop-again
+    store-row-requires
+    add-result
+    same-length
+    returns)

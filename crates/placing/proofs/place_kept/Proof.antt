@@ -1,0 +1,96 @@
+use mathlib.Core.Path.{sym, ap, _∙_, subst}
+use Prim.Native.Nat.{_+_, _<_}
+use native.Mathlib.Omega.{arith}
+use lib.ListN.{length, getD}
+use Rattle.memory.proofs.Parts.{length-part}
+use Rattle.table.specs.Window.{row}
+use Rattle.table.specs.RowSteps.{Settled}
+use Rattle.table.proofs.Flags.{flag-at}
+use Rattle.placing.proofs.Joining.{settled-line, without-flags}
+use Rattle.table.proofs.Rows.{row-end}
+use borrow.Author.Needs.{needs}
+use Rattle.placing.proofs.place_kept.Statement.{statement}
+use Rattle.placing.proofs.place_kept.Tie as tie
+use Rattle.placing.proofs.place_kept.Reads as reads
+use Rattle.placing.proofs.place_kept.Lts as lts
+use Rattle.placing.proofs.place.Reads as place-reads
+use Rattle.table.proofs.start_of.Reads as start-of-reads
+use Rattle.memory.proofs.part.Reads as part-reads
+
+-- src/place.rt:141:9
+start-of-requires : tie.Need-start-of-requires
+start-of-requires c κs = search needs
+
+-- src/place.rt:142:13
+add-n : tie.Need-add-n
+add-n c = search needs
+
+-- src/place.rt:143:18
+add-r : tie.Need-add-r
+add-r c =
+    let a = c .before .before .before .before .args in
+    omega (arith, row-end (a .shape .width) (a .shape .size) (a .k) (omega arith))
+
+-- src/place.rt:143:13
+shared-slice-read-r : tie.Need-shared-slice-read-r
+shared-slice-read-r c =
+    let a = c .before .before .before .before .before .args in
+    omega (arith, row-end (a .shape .width) (a .shape .size) (a .k) (omega arith))
+
+-- src/place.rt:143:13
+cast-r : tie.Need-cast-r
+cast-r c =
+    let a = c .before .before .before .before .before .args in
+    omega (arith, c .shared-slice-known2 .given (c .before .before .start-of .result + (a .shape .width + a .shape .size)))
+
+-- src/place.rt:144:16
+part-requires : tie.Need-part-requires
+part-requires c κs =
+    let a = c .before .before .before .before .before .before .args in
+    omega (arith, row-end (a .shape .width) (a .shape .size) (a .k) (omega arith))
+
+-- src/place.rt:144:5
+place-requires : tie.Need-place-requires
+place-requires c κs =
+    let start = c .before .before .before .before .before .before .before in
+    let a = start .args in
+    let w = a .shape .width in
+    let E = a .shape .size in
+    let at = c .before .before .before .before .start-of in
+    let column = flag-at w E (a .k) (a .work .now) ∙ ap (λ k. getD (a .work .now) (k + (w + E)) 0) (sym (at .ensures .start)) in (
+      start .pre .0,
+      ap length (c .part .ensures .bytes) ∙ length-part (at .result) (w + E) (a .work .now) (omega (arith, row-end w E (a .k) (omega arith))),
+      subst (λ f. f < w) column (start .pre .1 .column),
+    )
+
+-- src/place.rt:137:1
+same-length : tie.Need-same-length
+same-length c = search needs
+
+-- src/place.rt:137:1
+returns : tie.Need-returns
+returns c =
+    let start = c .before .before .before .before .before .before .before .before .before .before in
+    let a = start .args in
+    let w = a .shape .width in
+    let E = a .shape .size in
+    let at = c .before .before .before .before .before .before .before .start-of in
+    let done = c .before .before .place in
+    let column = flag-at w E (a .k) (a .work .now) ∙ ap (λ k. getD (a .work .now) (k + (w + E)) 0) (sym (at .ensures .start)) in
+    subst (λ f. Settled w E f (done .result) (row w E (a .k) (a .work .now)) (a .mem .now) (done .last .0)) (sym column)
+    (settled-line (without-flags w E (a .k) (at .result) (a .work .now) (start .pre .0 .some-width) (at .ensures .start))
+    (subst (λ l. Settled w E (getD (a .work .now) (at .result + (w + E)) 0) (done .result) l (a .mem .now) (done .last .0)) (c .before .before .before .part .ensures .bytes) (done .ensures)))
+
+pub place-kept-spec : {M : Type 1} → statement M
+place-kept-spec =
+    tie.close
+    (tie.spec
+    start-of-requires
+    add-n
+    add-r
+    shared-slice-read-r
+    cast-r
+    part-requires
+    place-requires
+    same-length
+    returns)

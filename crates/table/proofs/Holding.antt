@@ -1,0 +1,78 @@
+-- The system that a memory holds is what its rows say: a store in the header, or in a row's other flags, leaves it.
+use mathlib.Core.Path.{_≡_, refl, sym, ap, _∙_, subst}
+use mathlib.Core.List.{List, [], _∷_}
+use Prim.Native.Nat.{ℕ, zero, suc, _+_, _*_, _%_, _≤_, _<_}
+use native.Mathlib.Nat.{mod-lt}
+use native.Mathlib.Decide.{decLt}
+use native.Mathlib.Omega.{arith}
+use lib.ListN.{length, getD}
+use lib.Dec.{ltb}
+use Rattle.memory.specs.Part.{splice}
+use Rattle.memory.proofs.Parts.{getD-part, getD-past, row-fits}
+use Rattle.decoder.specs.Bytes.{Coded}
+use Rattle.decoder.specs.Model.{State}
+use Rattle.decoder.specs.Table.{Echelon, view}
+use Rattle.decoder.proofs.Stretch.{line-same}
+use Rattle.table.specs.Window.{stride, place, row, inUse, line, table, Flags, Window, Fits}
+
+-- Two memories whose rows agree up to their first flag hold the same system.
+module _ (w E : ℕ) (m m′ : List ℕ) (pos : 0 < w)
+    (same : (r : ℕ) → r < w → (k : ℕ) → k < w + E + 1 → getD m′ (place w E r + k) 0 ≡ getD m (place w E r + k) 0) where
+  cell : (r : ℕ) → r < w → (k : ℕ) → k < w + E + 1 → getD (row w E r m) k 0 ≡ getD (row w E r m′) k 0
+  cell r h k l =
+      getD-part (place w E r) (stride w E) k m (omega arith) ∙ sym (same r h k l) ∙ sym (getD-part (place w E r) (stride w E) k m′ (omega arith))
+
+  used : (r : ℕ) → r < w → inUse w E (row w E r m) ≡ inUse w E (row w E r m′)
+  used r h = ap (ltb 0) (cell r h (w + E) (omega arith))
+
+  lines : (r : ℕ) → r < w → line w E (row w E r m) ≡ line w E (row w E r m′)
+  lines r h = line-same w E pos (row w E r m) (row w E r m′) (λ i l. cell r h i (omega arith))
+
+  table-same : table w E m ≡ table w E m′
+  table-same i = record { has = λ p. used (p % w) (mod-lt p pos) i; line = λ p. lines (p % w) (mod-lt p pos) i }
+
+  flags-same : Flags w E m → Flags w E m′
+  flags-same f r h = (
+    (λ t.
+        let (u, a) = f r h .0 (cell r h (w + E) (omega arith) ∙ t) in
+        (sym (used r h) ∙ u, λ j l d. sym (cell r h j (omega arith)) ∙ a j l d)),
+    λ s. sym (cell r h (w + E) (omega arith)) ∙ f r h .1 (used r h ∙ s .0, λ j l d. cell r h j (omega arith) ∙ s .1 j l d),
+  )
+
+  pub window-same : (b : ℕ) (S : State (Coded E) w) → Window w E m b S → Window w E m′ b S
+  window-same b S v = record {
+    echelon = subst (λ T. Echelon T b w) table-same (v .echelon);
+    reads = ap (λ T. view T w b) (sym table-same) ∙ v .reads;
+    flags = flags-same (v .flags);
+  }
+
+-- What is stored in the header, as the base, leaves the system as it is.
+pub window-header : (w E a b : ℕ) (x m : List ℕ) (S : State (Coded E) w) → Fits w E m → a + length x ≤ 64 → Window w E m b S → Window w E (splice a x m) b S
+window-header w E a b x m S fits h =
+    window-same w E m (splice a x m) (fits .some-width)
+    (λ r l k n. getD-past (place w E r + k) a x m (omega arith) (omega (arith, fits .room)))
+    b S
+
+pub getD-before : (i a : ℕ) (x m : List ℕ) → i < a → a ≤ length m → getD (splice a x m) i 0 ≡ getD m i 0
+unfolding splice
+getD-before i zero x m h l = absurd (omega arith)
+getD-before i (suc a) x [] h l = absurd (omega arith)
+getD-before zero (suc a) x (y ∷ m) h l = refl
+getD-before (suc i) (suc a) x (y ∷ m) h l = getD-before i a x m (omega arith) (omega arith)
+
+-- So does a store in a row's flags after the first, as a mark.
+pub window-flag : (w E r k b : ℕ) (v : ℕ) (m : List ℕ) (S : State (Coded E) w) → Fits w E m → r < w → w + E < k → k < stride w E
+    → Window w E m b S → Window w E (splice (place w E r + k) (v ∷ []) m) b S
+window-flag w E r k b v m S fits h c d =
+    window-same w E m (splice (place w E r + k) (v ∷ []) m) (fits .some-width) (λ q g j n. go q g j n (decLt r q)) b S
+  where
+    inside : place w E r + k ≤ length m
+    inside = omega (arith, fits .room, row-fits w (stride w E) r h)
+
+    go : (q : ℕ) → q < w → (j : ℕ) → j < w + E + 1 → Dec (r < q) → getD (splice (place w E r + k) (v ∷ []) m) (place w E q + j) 0 ≡ getD m (place w E q + j) 0
+    go q g j n (yes l) = getD-past (place w E q + j) (place w E r + k) (v ∷ []) m (omega (arith, row-fits q (stride w E) r l)) inside
+    go q g j n (no l) = getD-before (place w E q + j) (place w E r + k) (v ∷ []) m (before q j n (decLt q r) l) inside
+      where
+        before : (q j : ℕ) → j < w + E + 1 → Dec (q < r) → (r < q → ⊥) → place w E q + j < place w E r + k
+        before q j n (yes e) l = omega (arith, row-fits r (stride w E) q e)
+        before q j n (no e) l = let s : q ≡ r = omega arith in omega (arith, ap (λ x. x * stride w E) s)

@@ -1,0 +1,5 @@
+pub mod Rows
+pub mod Zero
+pub mod Holding
+pub mod Flags
+pub mod Marking

@@ -1,0 +1,25 @@
+-- `table::next` meets its contract.
+use mathlib.Core.Path.{sym, ap, _∙_}
+use Prim.Native.Nat.{_%_}
+use native.Mathlib.Nat.{mod-eq-of-lt, mod-self}
+use native.Mathlib.Omega.{arith}
+use borrow.Author.Needs.{needs}
+use Rattle.table.proofs.next.Statement.{statement}
+use Rattle.table.proofs.next.Tie as tie
+use Rattle.table.proofs.next.Reads as reads
+use Rattle.table.proofs.next.Lts as lts
+
+add-if1 : tie.Need-add-if1
+add-if1 c = search needs
+
+add-result : tie.Need-add-result
+add-result c = search needs
+
+returns : tie.Need-returns
+returns c = let a = c .before .args in (sym (ap (λ k. k % a .w) (c .if1 .taken) ∙ mod-self (a .w)), omega arith)
+
+returns-2 : tie.Need-returns-2
+returns-2 c = let a = c .before .args in (sym (mod-eq-of-lt (omega arith)), omega arith)
+
+pub next-spec : {M : Type 1} → statement M
+next-spec = tie.close (tie.spec add-if1 add-result returns returns-2)
