@@ -17,7 +17,7 @@ use Rattle.sender.specs.Promises as sender
 use Rattle.starts.specs.declared.Handed.the-variants.{Adu}
 use Rattle.receiver.specs.declared.PacketAnswer.{PacketAnswer}
 use Rattle.receiver.specs.declared.PacketAnswer.the-variants.{Accepted, NotAccepted}
-use Rattle.receiver.specs.History.{Said, value, refusal}
+use Rattle.history.specs.History.{Said, value, refusal}
 use Rattle.receiver.specs.Promises.{handedSaid}
 
 -- The largest number of 64 bits with a sign.

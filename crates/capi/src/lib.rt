@@ -7,7 +7,7 @@ ghost use Rattle.wire.specs.Settings.{settingOf};
 ghost use Rattle.latency.specs.Promises.{WindowAnswered};
 ghost use Rattle.sender.specs.State as sender;
 ghost use Rattle.sender.specs.Promises.{Opens, Adds, RepairMade};
-ghost use Rattle.receiver.specs.History.{value, refusal, memorySize, workingSize, source-call, repair-call};
+ghost use Rattle.history.specs.History.{value, refusal, memorySize, workingSize, source-call, repair-call};
 ghost use Rattle.receiver.specs.Promises.{Opened, PacketAnswered, SymbolAnswered, PlaceAnswered, AduAnswered, said, handedSaid};
 ghost use Rattle.receiver.specs.Layout.{receiverLayout};
 ghost use Rattle.capi.specs.Coding.{coded, senderSaid, withDraws, packetSaid, repairSaid, windowSaid, remainderAfter, Codes, asked};

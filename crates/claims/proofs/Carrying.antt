@@ -5,9 +5,9 @@ use Prim.Native.Nat.{ℕ, zero, suc, _+_, _≤_, _<_}
 use native.Mathlib.Omega.{arith}
 use lib.ListN.{length, getD, take, drop, length-append, length-take, length-drop, List·getD-append}
 use lib.Seq.{take-append-seam, drop-at, getD-take, getD-drop, getD-append-seam, ext-getD}
-use Rattle.receiver.specs.Symbol.{bytesOf, symbolOf}
-use Rattle.receiver.specs.History.{Filling, symbolsAt}
-use Rattle.receiver.proofs.Says.{bytes-symbol, length-at, getD-at}
+use Rattle.history.specs.Symbol.{bytesOf, symbolOf}
+use Rattle.history.specs.History.{Filling, symbolsAt}
+use Rattle.history.proofs.Says.{bytes-symbol, length-at, getD-at}
 use Rattle.claims.specs.SenderRun.{AreSymbols}
 use Rattle.claims.specs.Carrying.{Carries}
 

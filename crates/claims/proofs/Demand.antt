@@ -14,16 +14,16 @@ use Rattle.wire.proofs.Settings.{setting-names}
 use Rattle.decoder.specs.Model.{known}
 use Rattle.decoder.specs.Receiver as decoder
 use Rattle.receiver.specs.declared.Answer.{Answer}
-use Rattle.receiver.specs.Symbol.{Symbol, bytesOf}
-use Rattle.receiver.specs.History.{IsValue, Located, Filling, All, Known, located, reading, Log, fresh, OfBytes, esiOf}
-use Rattle.receiver.specs.History.{value, refusal, baseOf, readAfter, logged, Judged}
-use Rattle.receiver.specs.Model.{Joined, State, opened, foundBy, Outcome, refused, done, saidOf, stateAfter, responds, answering, receiving}
-use Rattle.receiver.specs.Model.{Finding, shows, hides, shown, finding}
+use Rattle.history.specs.Symbol.{Symbol, bytesOf}
+use Rattle.history.specs.History.{IsValue, Located, Filling, All, Known, located, reading, Log, fresh, OfBytes, esiOf}
+use Rattle.history.specs.History.{value, refusal, baseOf, readAfter, logged, Judged}
+use Rattle.history.specs.Model.{Joined, State, opened, foundBy, Outcome, refused, done, saidOf, stateAfter, responds, answering, receiving}
+use Rattle.history.specs.Model.{Finding, shows, hides, shown, finding}
 use Rattle.receiver.specs.Promises.{Layout, said, opening, Opened, Follows, Received, Finds, SymbolAnswered, Shows, PartShown}
-use Rattle.receiver.proofs.Answers.{Tracks, TracksFrom, Passes, baseIn, base-found, judged, known-exactly, known-value, tracks-consistent, fresh-tracks}
-use Rattle.receiver.proofs.Counting.{judged-once}
-use Rattle.receiver.proofs.Readings.{reading-passes}
-use Rattle.receiver.proofs.Places.{found-inside, found-past, found-behind}
+use Rattle.history.proofs.Answers.{Tracks, TracksFrom, Passes, baseIn, base-found, judged, known-exactly, known-value, tracks-consistent, fresh-tracks}
+use Rattle.history.proofs.Counting.{judged-once}
+use Rattle.history.proofs.Readings.{reading-passes}
+use Rattle.history.proofs.Places.{found-inside, found-past, found-behind}
 use Rattle.claims.specs.Run.{Step, Run, final, read, goes-on, history}
 use Rattle.claims.specs.Demand.{esi, ShownExactly, HiddenBefore, HiddenOutside, Demand-3, Every-list, Alike, No-choice}
 

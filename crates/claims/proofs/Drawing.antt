@@ -7,7 +7,7 @@ use Rattle.wire.specs.Settings.{settingOf}
 use Rattle.wire.proofs.Settings.{setting-names}
 use Rattle.coefficients.specs.Coefficients.{packetDraws}
 use Rattle.sender.specs.State as sender
-use Rattle.receiver.specs.History.{fresh}
+use Rattle.history.specs.History.{fresh}
 use Rattle.receiver.specs.Promises.{drawsFor}
 use Rattle.receiver.specs.Layout.{headerOf, receiverLayout}
 use Rattle.receiver.proofs.Headers.{setting-of}

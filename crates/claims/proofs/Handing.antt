@@ -18,13 +18,13 @@ use Rattle.starts.specs.Adu.{View, Handing, hands, withholds, handing, HandedAs
 use Rattle.starts.specs.Starts.{Starts, nowhere, seen}
 use Rattle.starts.proofs.Handing.{flow-of, adu-of, withheld, handing-exactly}
 use Rattle.receiver.specs.declared.Answer.{Answer}
-use Rattle.receiver.specs.History.{Located, reading, baseFor, Log, fresh, baseOf, OfBytes, esiOf, logged, value, Start, symbolsAt}
-use Rattle.receiver.specs.Model.{Joined, State, opened, foundBy, stateAfter, responds, answering, marking, aduAt}
+use Rattle.history.specs.History.{Located, reading, baseFor, Log, fresh, baseOf, OfBytes, esiOf, logged, value, Start, symbolsAt}
+use Rattle.history.specs.Model.{Joined, State, opened, foundBy, stateAfter, responds, answering, marking, aduAt}
 use Rattle.receiver.specs.Promises.{Layout, said, Opened, Received, AduAnswered}
-use Rattle.receiver.proofs.Answers.{Tracks, TracksFrom, baseIn, fresh-tracks}
-use Rattle.receiver.proofs.Places.{adu-inside, adu-past, adu-behind}
-use Rattle.receiver.proofs.Starting.{Sees, shown-whole, unseen, shows-held, held-shows, shows-inside, seen-outside, AreStarts, MarksTrack}
-use Rattle.receiver.proofs.Starting.{fresh-marks, tracks-sees, marking-tracks}
+use Rattle.history.proofs.Answers.{Tracks, TracksFrom, baseIn, fresh-tracks}
+use Rattle.history.proofs.Places.{adu-inside, adu-past, adu-behind}
+use Rattle.history.proofs.Starting.{Sees, shown-whole, unseen, shows-held, held-shows, shows-inside, seen-outside, AreStarts, MarksTrack}
+use Rattle.history.proofs.Starting.{fresh-marks, tracks-sees, marking-tracks}
 use Rattle.claims.specs.Run.{Step, Run, final, read, goes-on, history}
 use Rattle.claims.specs.Demand.{esi}
 use Rattle.claims.specs.Handing.{Told, HoldsAdu, Handed-out, Handing-told, Hands-out}

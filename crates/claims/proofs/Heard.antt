@@ -16,15 +16,15 @@ use Rattle.wire.proofs.Settings.{both}
 use Rattle.starts.specs.declared.Handed.{Handed}
 use Rattle.starts.specs.declared.Handed.the-variants.{Adu}
 use Rattle.starts.proofs.Chaining.{symbols-some}
-use Rattle.receiver.specs.Symbol.{bytesOf, symbolOf}
-use Rattle.receiver.specs.History.{Filling, symbolsAt, Located, source, repair, Satisfied, All, Consistent, Known, Reading, fails, located, first}
-use Rattle.receiver.specs.History.{esiOf, readSource, readPacket, baseFor, Log, fresh, Said, value, refusal, IsValue, raised, baseOf, logged}
-use Rattle.receiver.specs.History.{Spanned, MarkedBy}
-use Rattle.receiver.specs.History.{already, later, Start}
+use Rattle.history.specs.Symbol.{bytesOf, symbolOf}
+use Rattle.history.specs.History.{Filling, symbolsAt, Located, source, repair, Satisfied, All, Consistent, Known, Reading, fails, located, first}
+use Rattle.history.specs.History.{esiOf, readSource, readPacket, baseFor, Log, fresh, Said, value, refusal, IsValue, raised, baseOf, logged}
+use Rattle.history.specs.History.{Spanned, MarkedBy}
+use Rattle.history.specs.History.{already, later, Start}
 use Rattle.receiver.specs.Promises.{Layout, said, AduAnswered}
-use Rattle.receiver.proofs.Says.{symbol-bytes}
-use Rattle.receiver.proofs.Readings.{check-passed, source-read, reading-passed}
-use Rattle.receiver.proofs.Starting.{start-spanned}
+use Rattle.history.proofs.Says.{symbol-bytes}
+use Rattle.history.proofs.Readings.{check-passed, source-read, reading-passed}
+use Rattle.history.proofs.Starting.{start-spanned}
 use Rattle.claims.specs.Run.{Step, read, goes-on, history}
 use Rattle.claims.specs.Demand.{esi}
 use Rattle.claims.specs.Handing.{HoldsAdu, Handed-out, Goes-on, Heard, Heard-handed}

@@ -9,11 +9,11 @@ use lib.ListN.{length}
 use Rattle.wire.specs.declared.Setting.{Setting}
 use Rattle.wire.specs.Settings.{settingOf, Valid}
 use Rattle.wire.proofs.Settings.{setting-names}
-use Rattle.receiver.specs.History.{Located, source, repair, first, named, OfBytes, esiOf, Reading, fails, located, baseFor, joinedAt, Log, fresh, Said}
-use Rattle.receiver.specs.History.{value, refusal, IsValue, Consistent, raised, baseOf, logged, reading, Judged, Reached, already, later, MarkedBy, Start}
+use Rattle.history.specs.History.{Located, source, repair, first, named, OfBytes, esiOf, Reading, fails, located, baseFor, joinedAt, Log, fresh, Said}
+use Rattle.history.specs.History.{value, refusal, IsValue, Consistent, raised, baseOf, logged, reading, Judged, Reached, already, later, MarkedBy, Start}
 use Rattle.receiver.specs.Promises.{Layout, said}
-use Rattle.receiver.proofs.Cases.{numeral}
-use Rattle.receiver.proofs.Readings.{reading-fits, joins-at, joins-near}
+use Rattle.history.proofs.Cases.{numeral}
+use Rattle.history.proofs.Readings.{reading-fits, joins-at, joins-near}
 use Rattle.claims.specs.Run.{Step, Run, read, goes-on, history}
 use Rattle.claims.specs.Joining.{JoinsBy, Joins, Unmarked}
 use Rattle.claims.proofs.Demand.{demand-3}

@@ -19,14 +19,14 @@ use Rattle.starts.specs.Settled.{Settled}
 use Rattle.starts.proofs.Choosing.{with-starts}
 use Rattle.starts.proofs.Settling.{pass-settled}
 use Rattle.starts.proofs.Agreeing.{Agree}
-use Rattle.receiver.specs.History.{Located, Call, esiOf, Reading, fails, located, reading, memorySize, workingSize, Said, value, refusal, IsValue}
-use Rattle.receiver.specs.Model.{Joined, State, opened, foundBy, Outcome, refused, done, stateAfter, responds, answering, receiving, startsAfter, marking}
+use Rattle.history.specs.History.{Located, Call, esiOf, Reading, fails, located, reading, memorySize, workingSize, Said, value, refusal, IsValue}
+use Rattle.history.specs.Model.{Joined, State, opened, foundBy, Outcome, refused, done, stateAfter, responds, answering, receiving, startsAfter, marking}
 use Rattle.receiver.specs.Header.{headerIn}
 use Rattle.receiver.specs.Promises.{Contained, Follows, Received}
 use Rattle.receiver.specs.Layout.{headerOf, Holds, Marks, receiverLayout}
 use Rattle.receiver.proofs.Building.{built}
 use Rattle.receiver.proofs.Congruent.{Same, SameFrom, holds-same, held-same, found-same, Alike, both-refused, both-done, answering-alike, marking-alike}
-use Rattle.receiver.proofs.Naming.{Sound, answering-sound}
+use Rattle.history.proofs.Naming.{Sound, answering-sound}
 use Rattle.receiver.proofs.Headers.{header-room, header-fits, setting-of, setting-held, found-stands}
 use Rattle.receiver.proofs.Marking.{starts-holds, starts-contained}
 use Rattle.claims.specs.Run.{Step, Run}

@@ -11,11 +11,11 @@ use Rattle.wire.specs.Settings.{settingOf, Valid}
 use Rattle.wire.proofs.Settings.{setting-names}
 use Rattle.decoder.specs.Receiver as decoder
 use Rattle.receiver.specs.declared.Answer.{Answer}
-use Rattle.receiver.specs.Symbol.{Symbol, bytesOf}
-use Rattle.receiver.specs.History.{Filling, Located, All, fresh, value, refusal}
-use Rattle.receiver.specs.Model.{Finding, hides, finding}
+use Rattle.history.specs.Symbol.{Symbol, bytesOf}
+use Rattle.history.specs.History.{Filling, Located, All, fresh, value, refusal}
+use Rattle.history.specs.Model.{Finding, hides, finding}
 use Rattle.receiver.specs.Promises.{Layout, said, Places, PlaceAnswered}
-use Rattle.receiver.proofs.Places.{found-past, found-behind}
+use Rattle.history.proofs.Places.{found-past, found-behind}
 use Rattle.claims.specs.Run.{final, history}
 use Rattle.claims.specs.Demand.{esi}
 use Rattle.claims.specs.Placing.{PlacedExactly, Placed, Every-place}

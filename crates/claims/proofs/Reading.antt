@@ -14,9 +14,9 @@ use Rattle.wire.proofs.Settings.{within-true}
 use Rattle.wire.proofs.Reading.{source-form, source-adu, source-esi, repair-form, repair-symbols, repair-key, density-threshold, protected-count}
 use Rattle.wire.proofs.Reading.{first-esi}
 use Rattle.coefficients.specs.Coefficients.{keys, listsOf, allOk}
-use Rattle.receiver.specs.History.{Located, source, repair, placeOf, source-call, repair-call, Reading, located, check, placed, workingSize}
-use Rattle.receiver.specs.History.{readSource, readRepair, reading}
-use Rattle.receiver.proofs.Places.{placed-taken, placed-behind, placed-far}
+use Rattle.history.specs.History.{Located, source, repair, placeOf, source-call, repair-call, Reading, located, check, placed, workingSize}
+use Rattle.history.specs.History.{readSource, readRepair, reading}
+use Rattle.history.proofs.Places.{placed-taken, placed-behind, placed-far}
 use Rattle.claims.specs.Reading.{ReadBy, Reads}
 
 -- A reading that comes to a place.

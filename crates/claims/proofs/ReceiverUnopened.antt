@@ -6,7 +6,7 @@ use Rattle.wire.specs.Settings.{settingOf}
 use Rattle.wire.proofs.Settings.{setting-names}
 use Rattle.sender.specs.State as sender
 use Rattle.sender.proofs.Heads as heads
-use Rattle.receiver.specs.History.{fresh}
+use Rattle.history.specs.History.{fresh}
 use Rattle.receiver.specs.Layout.{headerOf, receiverLayout}
 use Rattle.receiver.proofs.Headers.{headed, setting-of, zeros-unopened, other-unopened, short-unopened}
 use Rattle.claims.specs.ReceiverUnopened.{Receiver-unopened}

@@ -18,11 +18,11 @@ use Rattle.coefficients.proofs.Lists.{length-keys}
 use Rattle.rows.specs.Combination.{combination}
 use Rattle.rows.proofs.Combinations.{length-combination}
 use Rattle.sender.specs.Repair.{repairSymbol}
-use Rattle.receiver.specs.History.{Filling, Located, source, repair, first, Satisfied, All, Call, source-call, repair-call, esiOf, Reading, fails}
-use Rattle.receiver.specs.History.{located, workingSize, readPacket, reading, baseFor, joinedAt, Log, fresh, Said, value, refusal, IsValue, readAfter}
-use Rattle.receiver.specs.History.{baseOf, logged, Judged}
+use Rattle.history.specs.History.{Filling, Located, source, repair, first, Satisfied, All, Call, source-call, repair-call, esiOf, Reading, fails}
+use Rattle.history.specs.History.{located, workingSize, readPacket, reading, baseFor, joinedAt, Log, fresh, Said, value, refusal, IsValue, readAfter}
+use Rattle.history.specs.History.{baseOf, logged, Judged}
 use Rattle.receiver.specs.Promises.{Layout, said}
-use Rattle.receiver.proofs.Readings.{source-read, repair-read, reading-passed}
+use Rattle.history.proofs.Readings.{source-read, repair-read, reading-passed}
 use Rattle.claims.specs.SenderRun.{SenderCall, symbolsOf, AreSymbols, Packet}
 use Rattle.claims.specs.SenderRun.{Wrote, wrote-source, wrote-repair}
 use Rattle.claims.specs.Run.{Step, read, goes-on, history}

@@ -3,8 +3,8 @@ use mathlib.Core.Path.{_≡_}
 use mathlib.Core.List.{List, []}
 use Prim.Native.Nat.{ℕ, _+_, _≤_, _<_}
 use lib.ListN.{length, getD}
-use Rattle.receiver.specs.Symbol.{bytesOf}
-use Rattle.receiver.specs.History.{Filling}
+use Rattle.history.specs.Symbol.{bytesOf}
+use Rattle.history.specs.History.{Filling}
 
 -- A filling carries a sender's symbols, as numbered from the position `join` on, when it holds each at its position: the sender's symbol number
 -- p + offset at the position p. Those before the joining one have no position.

@@ -9,8 +9,8 @@ use lib.ListN.{length, getD}
 use Rattle.wire.specs.declared.Setting.{Setting}
 use Rattle.wire.specs.Settings.{settingOf}
 use Rattle.receiver.specs.declared.Answer.{Answer}
-use Rattle.receiver.specs.Symbol.{bytesOf}
-use Rattle.receiver.specs.History.{Filling, Located, All, Consistent, Known, value, refusal, baseOf, Judged}
+use Rattle.history.specs.Symbol.{bytesOf}
+use Rattle.history.specs.History.{Filling, Located, All, Consistent, Known, value, refusal, baseOf, Judged}
 use Rattle.receiver.specs.Promises.{Layout, said, Opened, SymbolAnswered, PartShown}
 use Rattle.claims.specs.Run.{Step, Run, final, read, history}
 use Rattle.claims.specs.Carrying.{Carries}

@@ -10,7 +10,7 @@ use Rattle.sender.specs.declared.RepairAnswer.the-variants.{Made}
 use Rattle.sender.specs.Promises.{RepairMade}
 use Rattle.receiver.specs.declared.Answer.{Answer}
 use Rattle.receiver.specs.declared.PacketAnswer.the-variants.{Accepted}
-use Rattle.receiver.specs.History.{Call, repair-call, value}
+use Rattle.history.specs.History.{Call, repair-call, value}
 use Rattle.receiver.specs.Promises.{said, drawsFor, Opened, PacketAnswered}
 use Rattle.receiver.specs.Layout.{receiverLayout}
 use Rattle.claims.specs.Run.{Step, Run, final}

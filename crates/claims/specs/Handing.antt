@@ -13,8 +13,8 @@ use Rattle.starts.specs.declared.Handed.{Handed}
 use Rattle.starts.specs.declared.Handed.the-variants.{Adu}
 use Rattle.starts.specs.Adu.{View, withholds, handing, HandedAs}
 use Rattle.receiver.specs.declared.Answer.{Answer}
-use Rattle.receiver.specs.Symbol.{bytesOf}
-use Rattle.receiver.specs.History.{Filling, symbolsAt, Located, first, All, Consistent, Known, source-call, located, Log, value, IsValue, baseOf, MarkedBy, Start}
+use Rattle.history.specs.Symbol.{bytesOf}
+use Rattle.history.specs.History.{Filling, symbolsAt, Located, first, All, Consistent, Known, source-call, located, Log, value, IsValue, baseOf, MarkedBy, Start}
 use Rattle.receiver.specs.Promises.{Layout, said, Opened, AduAnswered}
 use Rattle.claims.specs.Run.{Step, Run, final, read, history}
 use Rattle.claims.specs.Demand.{esi}

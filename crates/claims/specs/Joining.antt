@@ -7,7 +7,7 @@ use Prim.Native.Nat.{ℕ}
 use Rattle.wire.specs.declared.Setting.{Setting}
 use Rattle.wire.specs.Settings.{settingOf}
 use Rattle.receiver.specs.declared.Answer.{Answer}
-use Rattle.receiver.specs.History.{Located, source, repair, esiOf, joinedAt, value, refusal, IsValue, baseOf, Start}
+use Rattle.history.specs.History.{Located, source, repair, esiOf, joinedAt, value, refusal, IsValue, baseOf, Start}
 use Rattle.receiver.specs.Promises.{Layout, said, Opened}
 use Rattle.claims.specs.Run.{Step, Run, history}
 

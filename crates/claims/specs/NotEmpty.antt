@@ -3,7 +3,7 @@ use mathlib.Core.Path.{_≡_}
 use mathlib.Core.List.{List, [], _∷_, map}
 use Prim.Native.Nat.{ℕ}
 use Rattle.receiver.specs.declared.Answer.{Answer}
-use Rattle.receiver.specs.History.{Call, OfBytes, value}
+use Rattle.history.specs.History.{Call, OfBytes, value}
 use Rattle.receiver.specs.Promises.{said, Opened}
 use Rattle.receiver.specs.Layout.{receiverLayout}
 use Rattle.claims.specs.Run.{Step, Run}

@@ -7,8 +7,8 @@ use Rattle.memory.specs.Part.{part}
 use Rattle.wire.specs.declared.Setting.{Setting}
 use Rattle.wire.specs.Settings.{settingOf}
 use Rattle.receiver.specs.declared.Answer.{Answer}
-use Rattle.receiver.specs.Symbol.{bytesOf}
-use Rattle.receiver.specs.History.{Filling, Located, All, Known, Log, value, refusal, baseOf}
+use Rattle.history.specs.Symbol.{bytesOf}
+use Rattle.history.specs.History.{Filling, Located, All, Known, Log, value, refusal, baseOf}
 use Rattle.receiver.specs.Promises.{Layout, said, Opened, PlaceAnswered}
 use Rattle.claims.specs.Run.{Step, Run, final, history}
 use Rattle.claims.specs.Demand.{esi}

@@ -8,7 +8,7 @@ use Rattle.wire.specs.declared.Setting.{Setting}
 use Rattle.wire.specs.Settings.{Valid}
 use Rattle.wire.specs.Packets.{Sized, symbolCount, sourceSymbols, sourcePacket, repairPacket}
 use Rattle.coefficients.specs.Coefficients.{keys, listsOf, allOk}
-use Rattle.receiver.specs.History.{Located, source, repair, source-call, repair-call, Reading, fails, located, workingSize, reading}
+use Rattle.history.specs.History.{Located, source, repair, source-call, repair-call, Reading, fails, located, workingSize, reading}
 
 -- n symbols from the ESI of the position base + d on: taken at that position, or behind (8), or too far ahead (9).
 pub record ReadBy (d n : ℕ) (q : Located) (r : Reading) : Type 0 where

@@ -10,8 +10,8 @@ use Rattle.wire.specs.Packets.{zeros}
 use Rattle.sender.specs.State as sender
 use Rattle.receiver.specs.declared.Answer.{Answer}
 use Rattle.receiver.specs.declared.Header.{Header}
-use Rattle.receiver.specs.History.{memorySize, value}
-use Rattle.receiver.specs.Model.{State}
+use Rattle.history.specs.History.{memorySize, value}
+use Rattle.history.specs.Model.{State}
 use Rattle.receiver.specs.Header.{headerIn}
 use Rattle.receiver.specs.Promises.{said, Opened}
 use Rattle.receiver.specs.Layout.{Holds, receiverLayout}

@@ -4,7 +4,7 @@ use Prim.Native.Nat.{ℕ}
 use lib.ListN.{length}
 use Rattle.wire.specs.declared.Setting.{Setting}
 use Rattle.receiver.specs.declared.Answer.{Answer}
-use Rattle.receiver.specs.History.{Call, OfBytes, Reading, Log, fresh, readAfter, logged}
+use Rattle.history.specs.History.{Call, OfBytes, Reading, Log, fresh, readAfter, logged}
 use Rattle.receiver.specs.Promises.{Layout, Received, said}
 
 -- A call: the packet with its flow, the working memory lent and as it is left, the answer, and the receiver's memory after it.

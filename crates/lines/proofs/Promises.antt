@@ -10,7 +10,7 @@ use lib.ListN.{length}
 use borrow.Author.Tests.{le-leb, leb-true}
 use Rattle.text.specs.Text.{ascii, decimal, hexadecimal}
 use Rattle.memory.specs.Number.{Bytes}
-use Rattle.receiver.specs.History.{Call, source-call, repair-call, OfBytes}
+use Rattle.history.specs.History.{Call, source-call, repair-call, OfBytes}
 use Rattle.lines.specs.Forms.{Values, firstLine, packetLine, longest, Says}
 use Rattle.lines.specs.Reading.{or, after, Numbered, numberIn, bytesIn, whole, fieldIn, valuesIn}
 use Rattle.lines.specs.Reading.{packetIn, repairIn, mostFlow, sourceIn, callIn}

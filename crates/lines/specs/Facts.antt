@@ -4,7 +4,7 @@ use mathlib.Core.List.{[], _∷_, _++_, map}
 use mathlib.Core.Option.{none, some}
 use lib.ListN.{replicate}
 use Rattle.text.specs.Text.{ascii}
-use Rattle.receiver.specs.History.{source-call, repair-call}
+use Rattle.history.specs.History.{source-call, repair-call}
 use Rattle.lines.specs.Lines.{linesFrom, linesOf}
 use Rattle.lines.specs.Reading.{after, numberFrom, numberIn, valueOf, bytesIn, valuesIn, repairIn, sourceIn, callIn}
 

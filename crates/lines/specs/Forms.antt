@@ -4,7 +4,7 @@ use Prim.Native.Nat.{ℕ, _≤_}
 use lib.ListN.{length}
 use mathlib.Core.Path.{_≡_}
 use Rattle.text.specs.Text.{ascii, hexadecimal, field}
-use Rattle.receiver.specs.History.{Call, source-call, repair-call, OfBytes}
+use Rattle.history.specs.History.{Call, source-call, repair-call, OfBytes}
 
 -- scheme, E and width, as a first line names them
 pub record Values : Type 0 where

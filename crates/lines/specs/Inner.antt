@@ -6,7 +6,7 @@ use mathlib.Core.Option.{Option, none, some}
 use Prim.Native.Nat.{ℕ, _≤_, _<_}
 use lib.Dec.{ltb}
 use lib.ListN.{length, getD, take, drop}
-use Rattle.receiver.specs.History.{Call, source-call, repair-call}
+use Rattle.history.specs.History.{Call, source-call, repair-call}
 use Rattle.lines.specs.declared.Number.{Number}
 use Rattle.lines.specs.declared.Number.the-variants.{Is, NoNumber}
 use Rattle.lines.specs.declared.Packet.{Packet}

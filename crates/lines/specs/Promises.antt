@@ -5,7 +5,7 @@ use mathlib.Core.List.{List, [], _∷_, _++_}
 use mathlib.Core.Option.{some}
 use Prim.Native.Nat.{ℕ, _≤_, _<_}
 use lib.ListN.{length, getD}
-use Rattle.receiver.specs.History.{Call}
+use Rattle.history.specs.History.{Call}
 use Rattle.lines.specs.Lines.{unended, linesOf}
 use Rattle.lines.specs.Forms.{Values, firstLine, Says}
 use Rattle.lines.specs.Reading.{valuesIn, callIn}

@@ -7,7 +7,7 @@ use lib.Dec.{eqb, leb, ltb}
 use lib.ListN.{length}
 use Rattle.text.specs.Text.{ascii}
 use Rattle.wire.specs.Numbers.{within}
-use Rattle.receiver.specs.History.{Call, source-call, repair-call}
+use Rattle.history.specs.History.{Call, source-call, repair-call}
 use Rattle.lines.specs.Forms.{Values, longest}
 
 -- what is made of what was read, if something was

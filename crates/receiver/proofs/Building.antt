@@ -31,13 +31,13 @@ use Rattle.decoder.specs.Stretch.{symbol-at}
 use Rattle.decoder.specs.Table.{Line, Table, read, slot, view, Echelon}
 use Rattle.decoder.proofs.Bytes.{byte-of}
 use Rattle.table.specs.Window as window
-use Rattle.receiver.specs.Symbol.{Symbol, bytesOf}
-use Rattle.receiver.specs.History.{memorySize}
-use Rattle.receiver.specs.Model.{Joined}
+use Rattle.history.specs.Symbol.{Symbol, bytesOf}
+use Rattle.history.specs.History.{memorySize}
+use Rattle.history.specs.Model.{Joined}
 use Rattle.receiver.specs.Header.{rowIn, headerIn}
 use Rattle.receiver.specs.Layout.{headerFrom, Holds}
 use Rattle.receiver.proofs.Headers.{found-joined}
-use Rattle.receiver.proofs.Says.{symbol-tail, bytes-sized}
+use Rattle.history.proofs.Says.{symbol-tail, bytes-sized}
 
 -- ---- A system, coefficient by coefficient
 

@@ -20,11 +20,11 @@ use Rattle.decoder.specs.Packets as packets
 use Rattle.decoder.specs.Table.{read, slot, view, Echelon}
 use Rattle.table.specs.Window as window
 use Rattle.receiver.specs.declared.Header.{Header}
-use Rattle.receiver.specs.History.{source, repair, Place, behind, ahead, placeOf, Call, source-call, repair-call, Reading, fails}
-use Rattle.receiver.specs.History.{located, check, placed, readSource, readRepair, reading}
+use Rattle.history.specs.History.{source, repair, Place, behind, ahead, placeOf, Call, source-call, repair-call, Reading, fails}
+use Rattle.history.specs.History.{located, check, placed, readSource, readRepair, reading}
 use Rattle.starts.specs.Starts.{Starts, also, moved, seen}
 use Rattle.starts.proofs.Agreeing.{Agree, also-agree, moved-agree, pass-agree}
-use Rattle.receiver.specs.Model.{Joined, State, foundBy, Outcome, refused, done, added, responds, answering, stateAfter, startsAfter, marking}
+use Rattle.history.specs.Model.{Joined, State, foundBy, Outcome, refused, done, added, responds, answering, stateAfter, startsAfter, marking}
 use Rattle.receiver.specs.Layout.{headerFrom, Holds}
 
 -- ---- Memory

@@ -12,7 +12,7 @@ use Rattle.receiver.specs.declared.Header.{Header}
 use Rattle.receiver.specs.declared.packet.PacketPlace.{PacketPlace}
 use Rattle.receiver.specs.declared.packet.Gathered.{Gathered}
 use Rattle.receiver.specs.declared.packet.Gathered.the-variants.{All}
-use Rattle.receiver.specs.History.{Call}
+use Rattle.history.specs.History.{Call}
 use Rattle.receiver.specs.Header.{headerIn}
 use Rattle.receiver.specs.Promises.{drawsFor, Received, PacketAnswered}
 use Rattle.receiver.specs.Layout.{receiverLayout}

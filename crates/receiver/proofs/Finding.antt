@@ -24,9 +24,9 @@ use Rattle.receiver.specs.declared.Answer.the-variants.{Done, Refused}
 use Rattle.receiver.specs.declared.Header.{Header}
 use Rattle.receiver.specs.declared.Spot.{Spot}
 use Rattle.receiver.specs.declared.Spot.the-variants.{At, Nowhere}
-use Rattle.receiver.specs.Symbol.{bytesOf}
-use Rattle.receiver.specs.History.{placeOf, Said, value, refusal, IsValue}
-use Rattle.receiver.specs.Model.{Joined, shows, hides, shown, finding}
+use Rattle.history.specs.Symbol.{bytesOf}
+use Rattle.history.specs.History.{placeOf, Said, value, refusal, IsValue}
+use Rattle.history.specs.Model.{Joined, shows, hides, shown, finding}
 use Rattle.receiver.specs.Header.{headerIn}
 use Rattle.receiver.specs.Promises.{Finds, SymbolAnswered, Shows, PartShown}
 use Rattle.receiver.specs.Layout.{receiverLayout}

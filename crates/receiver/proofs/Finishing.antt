@@ -27,8 +27,8 @@ use Rattle.table.proofs.Holding.{window-header}
 use Rattle.starts.specs.Marks.{flagAt}
 use Rattle.receiver.specs.declared.Header.{Header}
 use Rattle.receiver.specs.declared.packet.PacketPlace.{PacketPlace}
-use Rattle.receiver.specs.History.{memorySize}
-use Rattle.receiver.specs.Model.{Joined}
+use Rattle.history.specs.History.{memorySize}
+use Rattle.history.specs.Model.{Joined}
 use Rattle.receiver.specs.Header.{rowIn, headerIn}
 use Rattle.receiver.specs.Layout.{headerFrom, Holds}
 use Rattle.receiver.specs.Inner.{Based}

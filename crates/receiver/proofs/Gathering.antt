@@ -25,7 +25,7 @@ use Rattle.gather.proofs.Spelling.{symbol-moved}
 use Rattle.receiver.specs.declared.packet.PacketPlace.{PacketPlace}
 use Rattle.receiver.specs.declared.packet.Gathered.{Gathered}
 use Rattle.receiver.specs.declared.packet.Gathered.the-variants.{All, Contradiction}
-use Rattle.receiver.specs.Symbol.{symbolOf}
+use Rattle.history.specs.Symbol.{symbolOf}
 use Rattle.receiver.specs.Promises.{Contained}
 use Rattle.receiver.specs.Steps.{gatheredBy, Comes, WorksOn, Spells, firsts, Lies, EquationAdmitted, Admits, Gathers}
 

@@ -19,12 +19,12 @@ use Rattle.starts.specs.Starts.{Starts, seen}
 use Rattle.starts.specs.Marks as marks
 use Rattle.starts.specs.Contracts.{HandedOut}
 use Rattle.receiver.specs.declared.Header.{Header}
-use Rattle.receiver.specs.History.{placeOf, refusal}
-use Rattle.receiver.specs.Model.{Joined, aduAt}
+use Rattle.history.specs.History.{placeOf, refusal}
+use Rattle.history.specs.Model.{Joined, aduAt}
 use Rattle.receiver.specs.Header.{headerIn}
 use Rattle.receiver.specs.Promises.{handedSaid, AduAnswered}
 use Rattle.receiver.specs.Layout.{Marks, receiverLayout}
-use Rattle.receiver.proofs.Cases.{IsRefusal, numeral}
+use Rattle.history.proofs.Cases.{IsRefusal, numeral}
 use Rattle.receiver.proofs.Headers.{of-header, of-joined}
 
 pub adu-unopened : (m out : List ℕ) (e : ℕ) → headerIn m ≡ none → AduAnswered receiverLayout m e out out (Withheld Unopened)

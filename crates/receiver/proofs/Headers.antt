@@ -24,8 +24,8 @@ use Rattle.table.specs.Window.{Fits}
 use Rattle.receiver.specs.declared.Header.{Header}
 use Rattle.receiver.specs.declared.Found.{Found}
 use Rattle.receiver.specs.declared.Found.the-variants.{HeaderIs, NoHeader}
-use Rattle.receiver.specs.History.{memorySize}
-use Rattle.receiver.specs.Model.{Joined, State, foundBy}
+use Rattle.history.specs.History.{memorySize}
+use Rattle.history.specs.Model.{Joined, State, foundBy}
 use Rattle.receiver.specs.Header.{rowIn, headerWith, headerIn}
 use Rattle.receiver.specs.Layout.{headerFrom, headerOf, Stands, Holds}
 use Rattle.receiver.specs.Inner.{foundOf, headerFor, Based}

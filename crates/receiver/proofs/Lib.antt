@@ -1,13 +1,5 @@
-pub mod Says
-pub mod Cases
-pub mod Counting
-pub mod Answers
-pub mod Readings
-pub mod Places
-pub mod Starting
 pub mod Building
 pub mod Congruent
-pub mod Naming
 pub mod Headers
 pub mod Finding
 pub mod Placing

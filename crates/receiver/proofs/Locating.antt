@@ -13,7 +13,7 @@ use Rattle.receiver.specs.declared.Header.{Header}
 use Rattle.receiver.specs.declared.packet.PacketPlace.{PacketPlace}
 use Rattle.receiver.specs.declared.packet.PlaceFound.{PlaceFound}
 use Rattle.receiver.specs.declared.packet.PlaceFound.the-variants.{PlaceIs, Out}
-use Rattle.receiver.specs.History.{Reading, fails, check, behind, ahead, placeOf, placed}
+use Rattle.history.specs.History.{Reading, fails, check, behind, ahead, placeOf, placed}
 use Rattle.receiver.specs.Steps.{placeAt, placeFound}
 
 abbrev place-in : PacketPlace → PlaceFound → PacketPlace

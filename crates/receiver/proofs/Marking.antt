@@ -27,8 +27,8 @@ use Rattle.starts.proofs.Only.{starts-of, starts-window, header-no-mark, past-n
 use Rattle.starts.proofs.Gaining.{old-ones}
 use Rattle.receiver.specs.declared.Header.{Header}
 use Rattle.receiver.specs.declared.packet.PacketPlace.{PacketPlace}
-use Rattle.receiver.specs.History.{memorySize}
-use Rattle.receiver.specs.Model.{Joined, State}
+use Rattle.history.specs.History.{memorySize}
+use Rattle.history.specs.Model.{Joined, State}
 use Rattle.receiver.specs.Header.{headerWith, headerIn}
 use Rattle.receiver.specs.Promises.{Contained}
 use Rattle.receiver.specs.Layout.{headerFrom, headerOf, Stands, Rows, Holds, MarksFrom}

@@ -20,13 +20,13 @@ use Rattle.placing.specs.Place.{Emptied}
 use Rattle.starts.specs.Starts.{nowhere}
 use Rattle.starts.specs.Contracts.{Cleared}
 use Rattle.receiver.specs.declared.Answer.the-variants.{Done, Refused}
-use Rattle.receiver.specs.History.{memorySize}
-use Rattle.receiver.specs.Model.{opened}
+use Rattle.history.specs.History.{memorySize}
+use Rattle.history.specs.Model.{opened}
 use Rattle.receiver.specs.Header.{rowIn, headerIn}
 use Rattle.receiver.specs.Promises.{Contained, Opened}
 use Rattle.receiver.specs.Layout.{headerOf, Holds, Marks, receiverLayout}
 use Rattle.receiver.specs.Inner.{freshHeader}
-use Rattle.receiver.proofs.Cases.{IsRefusal}
+use Rattle.history.proofs.Cases.{IsRefusal}
 use Rattle.receiver.proofs.Headers.{found}
 use Rattle.receiver.proofs.Gathering.{contained-more}
 use Rattle.receiver.proofs.Marking.{only-contained, only-holds}

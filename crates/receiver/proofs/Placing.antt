@@ -8,8 +8,8 @@ use Rattle.wire.specs.declared.Refusal.{Refusal}
 use Rattle.receiver.specs.declared.Answer.the-variants.{Done, Refused}
 use Rattle.receiver.specs.declared.Spot.{Spot}
 use Rattle.receiver.specs.declared.Spot.the-variants.{At, Nowhere}
-use Rattle.receiver.specs.Symbol.{bytesOf}
-use Rattle.receiver.specs.History.{Said, value, refusal, IsValue}
+use Rattle.history.specs.Symbol.{bytesOf}
+use Rattle.history.specs.History.{Said, value, refusal, IsValue}
 use Rattle.receiver.specs.Promises.{Places, PlaceAnswered}
 use Rattle.receiver.specs.Layout.{receiverLayout}
 use Rattle.receiver.specs.Inner.{Spotted}

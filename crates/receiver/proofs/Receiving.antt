@@ -29,15 +29,15 @@ use Rattle.receiver.specs.declared.packet.PacketPlace.{PacketPlace}
 use Rattle.receiver.specs.declared.packet.PlaceFound.the-variants.{PlaceIs, Out}
 use Rattle.receiver.specs.declared.packet.Gathered.{Gathered}
 use Rattle.receiver.specs.declared.packet.Gathered.the-variants.{All, Contradiction}
-use Rattle.receiver.specs.History.{Located, source, repair, first, named, placeOf, placed, Call, esiOf, Reading, fails, located, check, memorySize, workingSize, reading}
-use Rattle.receiver.specs.History.{value}
-use Rattle.receiver.specs.Model.{Joined, State, foundBy, Outcome, packetOf, added, responds, answering, stateAfter, naming, startsAfter, marking}
+use Rattle.history.specs.History.{Located, source, repair, first, named, placeOf, placed, Call, esiOf, Reading, fails, located, check, memorySize, workingSize, reading}
+use Rattle.history.specs.History.{value}
+use Rattle.history.specs.Model.{Joined, State, foundBy, Outcome, packetOf, added, responds, answering, stateAfter, naming, startsAfter, marking}
 use Rattle.receiver.specs.Header.{headerIn}
 use Rattle.receiver.specs.Promises.{Contained, Follows, Received}
 use Rattle.receiver.specs.Layout.{headerFrom, headerOf, Stands, Holds, MarksFrom, Marks, receiverLayout}
 use Rattle.receiver.specs.Inner.{headerFor, Based}
 use Rattle.receiver.specs.Steps.{placeAt, placeFound, Comes, WorksOn, firsts, Lies, Gathers, PlacedBy, Accepted}
-use Rattle.receiver.proofs.Cases.{IsRefusal, numeral}
+use Rattle.history.proofs.Cases.{IsRefusal, numeral}
 use Rattle.receiver.proofs.Headers.{header-fits, based-fits, setting-held, found-header, found-stands}
 use Rattle.receiver.proofs.Locating.{distance, found-at, at-placed, out-placed, out-other}
 use Rattle.receiver.proofs.Gathering.{contained-none}

@@ -30,8 +30,8 @@ use Rattle.receiver.specs.declared.packet.PacketPlace.{PacketPlace}
 use Rattle.receiver.specs.declared.packet.Gathered.{Gathered}
 use Rattle.receiver.specs.declared.packet.Gathered.the-variants.{All, Contradiction}
 use Rattle.receiver.specs.declared.packet.PlaceFound.the-variants.{PlaceIs, Out}
-use Rattle.receiver.specs.History.{Located, repair, named, Call, repair-call, esiOf, Reading, located, check, placeOf, placed, workingSize, readRepair, reading}
-use Rattle.receiver.specs.Model.{packetOf}
+use Rattle.history.specs.History.{Located, repair, named, Call, repair-call, esiOf, Reading, located, check, placeOf, placed, workingSize, readRepair, reading}
+use Rattle.history.specs.Model.{packetOf}
 use Rattle.receiver.specs.Header.{headerIn}
 use Rattle.receiver.specs.Promises.{drawsFor, Received}
 use Rattle.receiver.specs.Layout.{receiverLayout}

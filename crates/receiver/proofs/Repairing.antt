@@ -17,9 +17,9 @@ use Rattle.table.specs.Packet.{Works}
 use Rattle.gather.proofs.Spelling.{spells}
 use Rattle.receiver.specs.declared.packet.PacketPlace.{PacketPlace}
 use Rattle.receiver.specs.declared.packet.Gathered.{Gathered}
-use Rattle.receiver.specs.Symbol.{Symbol}
-use Rattle.receiver.specs.History.{repair}
-use Rattle.receiver.specs.Model.{packetOf}
+use Rattle.history.specs.Symbol.{Symbol}
+use Rattle.history.specs.History.{repair}
+use Rattle.history.specs.Model.{packetOf}
 use Rattle.receiver.specs.Steps.{firsts, EquationAdmitted, Admits}
 use Rattle.receiver.specs.RepairSteps.{repairEquation, equationAt}
 use Rattle.receiver.proofs.Gathering.{stored-admitted, firsts-same, firsts-cons}

@@ -18,9 +18,9 @@ use Rattle.table.specs.Packet as packet
 use Rattle.gather.proofs.Spelling.{spells-one}
 use Rattle.receiver.specs.declared.packet.PacketPlace.{PacketPlace}
 use Rattle.receiver.specs.declared.packet.Gathered.{Gathered}
-use Rattle.receiver.specs.Symbol.{Symbol, symbolOf}
-use Rattle.receiver.specs.History.{source}
-use Rattle.receiver.specs.Model.{packetOf}
+use Rattle.history.specs.Symbol.{Symbol, symbolOf}
+use Rattle.history.specs.History.{source}
+use Rattle.history.specs.Model.{packetOf}
 use Rattle.receiver.specs.Inner.{RowOf}
 use Rattle.receiver.specs.Steps.{firsts, Lies, EquationAdmitted, Admits}
 use Rattle.receiver.specs.SourceSteps.{equationOf}

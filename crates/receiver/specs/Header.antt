@@ -10,7 +10,7 @@ use Rattle.memory.specs.Number.{number}
 use Rattle.wire.specs.declared.Setting.{Setting}
 use Rattle.wire.specs.Settings.{settingIn}
 use Rattle.receiver.specs.declared.Header.{Header}
-use Rattle.receiver.specs.History.{memorySize}
+use Rattle.history.specs.History.{memorySize}
 
 -- bytes 8 and 9 of a receiver's memory: 0 before any base, else one more than the row of the base
 abbrev pub rowIn : List ℕ → ℕ

@@ -17,9 +17,9 @@ use Rattle.receiver.specs.declared.Found.{Found}
 use Rattle.receiver.specs.declared.Found.the-variants.{HeaderIs, NoHeader}
 use Rattle.receiver.specs.declared.Spot.{Spot}
 use Rattle.receiver.specs.declared.Spot.the-variants.{At, Nowhere}
-use Rattle.receiver.specs.Symbol.{Symbol, bytesOf}
-use Rattle.receiver.specs.History.{memorySize}
-use Rattle.receiver.specs.Model.{State, shows, hides, finding}
+use Rattle.history.specs.Symbol.{Symbol, bytesOf}
+use Rattle.history.specs.History.{memorySize}
+use Rattle.history.specs.Model.{State, shows, hides, finding}
 use Rattle.receiver.specs.Header.{headerIn}
 use Rattle.receiver.specs.Layout.{Holds, symbolStart}
 

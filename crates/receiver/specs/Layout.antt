@@ -14,7 +14,7 @@ use Rattle.starts.specs.Starts.{Starts, seen}
 use Rattle.starts.specs.Marks as marks
 use Rattle.starts.specs.Settled.{Settled}
 use Rattle.receiver.specs.declared.Header.{Header}
-use Rattle.receiver.specs.Model.{Joined, State}
+use Rattle.history.specs.Model.{Joined, State}
 use Rattle.receiver.specs.Header.{headerIn}
 use Rattle.receiver.specs.Promises.{Layout}
 

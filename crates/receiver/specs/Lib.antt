@@ -1,6 +1,3 @@
-pub mod Symbol
-pub mod History
-pub mod Model
 pub mod Header
 pub mod Promises
 pub mod Layout

@@ -23,9 +23,9 @@ use Rattle.receiver.specs.declared.Answer.the-variants.{Done, Refused}
 use Rattle.receiver.specs.declared.PacketAnswer.{PacketAnswer}
 use Rattle.receiver.specs.declared.PacketAnswer.the-variants.{Accepted, NotAccepted}
 use Rattle.receiver.specs.declared.Header.{Header}
-use Rattle.receiver.specs.Symbol.{bytesOf}
-use Rattle.receiver.specs.History.{Call, source-call, repair-call, esiOf, reading, memorySize, workingSize, Said, value, refusal}
-use Rattle.receiver.specs.Model.{State, opened, foundBy, Outcome, refused, done, stateAfter, receiving, marking, Finding, shows, hides, finding, aduAt}
+use Rattle.history.specs.Symbol.{bytesOf}
+use Rattle.history.specs.History.{Call, source-call, repair-call, esiOf, reading, memorySize, workingSize, Said, value, refusal}
+use Rattle.history.specs.Model.{State, opened, foundBy, Outcome, refused, done, stateAfter, receiving, marking, Finding, shows, hides, finding, aduAt}
 use Rattle.receiver.specs.Header.{headerIn}
 
 -- Document 01's number of an answer.

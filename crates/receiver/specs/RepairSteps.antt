@@ -8,7 +8,7 @@ use Rattle.decoder.specs.Bytes.{byte, Coded}
 use Rattle.decoder.specs.Model.{Row}
 use Rattle.decoder.specs.Receiver.{embed}
 use Rattle.decoder.specs.Packets.{row}
-use Rattle.receiver.specs.Symbol.{symbolOf}
+use Rattle.history.specs.Symbol.{symbolOf}
 
 -- The equation of a repair symbol with its n coefficients, whose positions are from the d-th of the window on.
 abbrev pub repairEquation : (w E n : ℕ) (list symbol : List ℕ) (d : ℕ) → Row (Coded E) w

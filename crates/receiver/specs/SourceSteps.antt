@@ -8,7 +8,7 @@ use Rattle.decoder.specs.Bytes.{Coded}
 use Rattle.decoder.specs.Model.{Row}
 use Rattle.decoder.specs.Receiver.{embed}
 use Rattle.decoder.specs.Packets.{row, only}
-use Rattle.receiver.specs.Symbol.{symbolOf}
+use Rattle.history.specs.Symbol.{symbolOf}
 
 -- The equation of the i-th symbol of an ADU, whose positions are from the d-th of the window on.
 abbrev pub equationOf : (w E flow : ℕ) (adu : List ℕ) (d i : ℕ) → Row (Coded E) w

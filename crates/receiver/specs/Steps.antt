@@ -28,9 +28,9 @@ use Rattle.receiver.specs.declared.packet.PlaceFound.{PlaceFound}
 use Rattle.receiver.specs.declared.packet.PlaceFound.the-variants.{PlaceIs, Out}
 use Rattle.receiver.specs.declared.packet.Gathered.{Gathered}
 use Rattle.receiver.specs.declared.packet.Gathered.the-variants.{All, Contradiction}
-use Rattle.receiver.specs.Symbol.{Symbol}
-use Rattle.receiver.specs.History.{memorySize}
-use Rattle.receiver.specs.Model.{Joined}
+use Rattle.history.specs.Symbol.{Symbol}
+use Rattle.history.specs.History.{memorySize}
+use Rattle.history.specs.Model.{Joined}
 use Rattle.receiver.specs.Promises.{Contained}
 use Rattle.receiver.specs.Layout.{headerFrom, Stands, Holds, MarksFrom}
 

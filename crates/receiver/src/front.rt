@@ -3,7 +3,7 @@ ghost use mathlib.Core.Path.{_≡_};
 ghost use Prim.Native.Nat.{_-_, _≤_};
 ghost use lib.ListN.{length};
 ghost use Rattle.wire.specs.Settings.{Valid};
-ghost use Rattle.receiver.specs.History.{memorySize, workingSize};
+ghost use Rattle.history.specs.History.{memorySize, workingSize};
 ghost use Rattle.receiver.specs.Header.{headerIn};
 ghost use Rattle.receiver.specs.Inner.{foundOf, freshHeader};
 use super::Found;

@@ -10,8 +10,8 @@ use Rattle.memory.specs.Part.{part}
 use Rattle.wire.specs.declared.Setting.{Setting}
 use Rattle.receiver.specs.declared.PacketAnswer.{PacketAnswer}
 use Rattle.receiver.specs.declared.PacketAnswer.the-variants.{Accepted, NotAccepted}
-use Rattle.receiver.specs.History.{Call, source-call, repair-call}
-use Rattle.receiver.specs.Model.{State, Outcome, refused, done, saidOf, stateAfter, receiving}
+use Rattle.history.specs.History.{Call, source-call, repair-call}
+use Rattle.history.specs.Model.{State, Outcome, refused, done, saidOf, stateAfter, receiving}
 use Rattle.receiver.specs.Promises.{said, answerOf, Draws, Follows, PacketAnswered}
 use Rattle.receiver.specs.Layout.{Holds, receiverLayout}
 use Rattle.lines.specs.declared.Spoken.{Spoken}

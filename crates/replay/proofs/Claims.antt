@@ -13,9 +13,9 @@ use Rattle.wire.specs.declared.Scheme.{Scheme}
 use Rattle.wire.specs.declared.Scheme.the-variants.{Gf2, Gf256}
 use Rattle.wire.specs.Settings.{schemeNumber, settingOf}
 use Rattle.wire.proofs.Settings.{both, setting-named, Named, setting-names}
-use Rattle.receiver.specs.History.{memorySize, workingSize, fresh}
-use Rattle.receiver.specs.Model.{opened}
-use Rattle.receiver.proofs.Answers.{fresh-tracks}
+use Rattle.history.specs.History.{memorySize, workingSize, fresh}
+use Rattle.history.specs.Model.{opened}
+use Rattle.history.proofs.Answers.{fresh-tracks}
 use Rattle.text.proofs.Decimals.{decimal-length}
 use Rattle.printing.specs.Printed.{lastLine}
 use Rattle.lines.specs.Lines.{linesOf}

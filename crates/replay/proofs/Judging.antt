@@ -9,13 +9,13 @@ use native.Mathlib.Omega.{arith}
 use lib.Dec.{eqb}
 use borrow.Author.Tests.{ne-eqb}
 use Rattle.wire.specs.declared.Setting.{Setting}
-use Rattle.receiver.specs.History.{Call, source-call, repair-call, OfBytes, esiOf, Place, behind, ahead, Reading, fails, located, check, placed}
-use Rattle.receiver.specs.History.{readSource, readRepair, reading, Located, Log, Said, value, refusal, readAfter, logged, Judged}
+use Rattle.history.specs.History.{Call, source-call, repair-call, OfBytes, esiOf, Place, behind, ahead, Reading, fails, located, check, placed}
+use Rattle.history.specs.History.{readSource, readRepair, reading, Located, Log, Said, value, refusal, readAfter, logged, Judged}
 use Rattle.decoder.specs.Receiver as decoder
-use Rattle.receiver.specs.Model.{packetOf, Joined, State, foundBy, saidOf, stateAfter, added, responds, answering, receiving}
-use Rattle.receiver.proofs.Answers.{Tracks, Passes, base-found, judged}
-use Rattle.receiver.proofs.Counting.{judged-once}
-use Rattle.receiver.proofs.Readings.{reading-passes}
+use Rattle.history.specs.Model.{packetOf, Joined, State, foundBy, saidOf, stateAfter, added, responds, answering, receiving}
+use Rattle.history.proofs.Answers.{Tracks, Passes, base-found, judged}
+use Rattle.history.proofs.Counting.{judged-once}
+use Rattle.history.proofs.Readings.{reading-passes}
 use Rattle.lines.specs.Forms.{Says}
 use Rattle.lines.specs.Reading.{callIn}
 use Rattle.lines.proofs.Promises.{read-exactly}

@@ -15,8 +15,8 @@ use Rattle.wire.specs.Settings.{settingOf, checkedOf}
 use Rattle.receiver.specs.declared.Answer.{Answer}
 use Rattle.receiver.specs.declared.Answer.the-variants.{Done, Refused}
 use Rattle.wire.specs.declared.Refusal.{Refusal}
-use Rattle.receiver.specs.History.{memorySize, workingSize, value, refusal}
-use Rattle.receiver.specs.Model.{opened}
+use Rattle.history.specs.History.{memorySize, workingSize, value, refusal}
+use Rattle.history.specs.Model.{opened}
 use Rattle.receiver.specs.Promises.{said, opening}
 use Rattle.receiver.specs.Layout.{Holds}
 use Rattle.lines.specs.declared.First.{First}

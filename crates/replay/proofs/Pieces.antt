@@ -11,7 +11,7 @@ use lib.Dec.{ltb}
 use lib.Seq.{take-append-seam}
 use borrow.Author.Tests.{leb-true, le-leb, ltb-true, ltb-false}
 use Rattle.wire.specs.declared.Setting.{Setting}
-use Rattle.receiver.specs.Model.{State, opened}
+use Rattle.history.specs.Model.{State, opened}
 use Rattle.lines.specs.Lines.{linesFrom, linesOf}
 use Rattle.lines.specs.Reading.{callIn}
 use Rattle.lines.specs.Promises.{Unbroken, AllUnbroken, joined}

@@ -9,7 +9,7 @@ use lib.Dec.{eqb, ltb}
 use lib.ListN.{length, take, length-append}
 use borrow.Author.Tests.{lt-ltb, le-ltb, ltb-true, ltb-false}
 use Rattle.wire.specs.declared.Setting.{Setting}
-use Rattle.receiver.specs.Model.{State}
+use Rattle.history.specs.Model.{State}
 use Rattle.printing.specs.Printed.{recordLine}
 use Rattle.lines.specs.Reading.{callIn}
 use Rattle.replay.specs.declared.Record.{Record}

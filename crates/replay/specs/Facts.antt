@@ -16,8 +16,8 @@ use Rattle.coefficients.specs.Coefficients.{nonzeroFrom, bitOf, byteOf, extend,
 use Rattle.decoder.specs.Model as model
 use Rattle.decoder.specs.Receiver as decoder
 use Rattle.decoder.specs.Packets as packets
-use Rattle.receiver.specs.History.{placeOf, check, placed, readSource, readRepair, reading}
-use Rattle.receiver.specs.Model.{answering}
+use Rattle.history.specs.History.{placeOf, check, placed, readSource, readRepair, reading}
+use Rattle.history.specs.Model.{answering}
 use Rattle.text.specs.Text.{ascii, digit, decimalWithin, decimal}
 use Rattle.printing.specs.Printed.{recordLine, lastLine}
 use Rattle.lines.specs.Lines.{linesFrom}

@@ -8,8 +8,8 @@ use lib.Dec.{leb}
 use lib.ListN.{length, take}
 use Rattle.wire.specs.declared.Setting.{Setting}
 use Rattle.wire.specs.Settings.{settingOf}
-use Rattle.receiver.specs.History.{Call, memorySize, workingSize, Said, value, refusal}
-use Rattle.receiver.specs.Model.{State, opened, saidOf, stateAfter, receiving}
+use Rattle.history.specs.History.{Call, memorySize, workingSize, Said, value, refusal}
+use Rattle.history.specs.Model.{State, opened, saidOf, stateAfter, receiving}
 use Rattle.lines.specs.Lines.{linesOf}
 use Rattle.lines.specs.Forms.{Values, longest}
 use Rattle.lines.specs.Reading.{on, valuesIn, callIn}

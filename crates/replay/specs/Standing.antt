@@ -7,7 +7,7 @@ use Prim.Native.Nat.{ℕ, _+_, _*_, _≤_, min}
 use lib.Dec.{ltb}
 use lib.ListN.{length, take}
 use Rattle.wire.specs.declared.Setting.{Setting}
-use Rattle.receiver.specs.Model.{State, opened}
+use Rattle.history.specs.Model.{State, opened}
 use Rattle.receiver.specs.Layout.{Holds}
 use Rattle.printing.specs.Printed.{recordLine}
 use Rattle.lines.specs.Forms.{longest}

@@ -24,12 +24,12 @@ use Rattle.sender.specs.Repair.{repairSymbol}
 use Rattle.sender.specs.Calls.{Outcome, refused, done, opening, adding, repairing}
 use Rattle.starts.specs.Adu.{joint, Handing, hands, withholds, need, handing}
 use Rattle.starts.specs.Starts.{Starts, nowhere, pass}
-use Rattle.receiver.specs.Symbol.{bytesOf}
-use Rattle.receiver.specs.History.{Call, source-call, repair-call, esiOf, placeOf, check, placed, readSource, readRepair, reading, workingSize}
-use Rattle.receiver.specs.History.{Said, value, refusal as refuses}
-use Rattle.receiver.specs.Model as receiver
+use Rattle.history.specs.Symbol.{bytesOf}
+use Rattle.history.specs.History.{Call, source-call, repair-call, esiOf, placeOf, check, placed, readSource, readRepair, reading, workingSize}
+use Rattle.history.specs.History.{Said, value, refusal as refuses}
+use Rattle.history.specs.Model as receiver
 use Rattle.receiver.specs.Promises.{drawsFor}
-use Rattle.receiver.specs.Model.{State, foundBy, saidOf, stateAfter, answering, receiving, Finding, shows, hides, finding, startsAfter, marking, aduAt}
+use Rattle.history.specs.Model.{State, foundBy, saidOf, stateAfter, answering, receiving, Finding, shows, hides, finding, startsAfter, marking, aduAt}
 
 -- what the symbol call and the part show for an ESI: an answer, and bytes
 pub record Sight : Type 0 where

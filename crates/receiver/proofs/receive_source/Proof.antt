@@ -9,7 +9,7 @@ use Rattle.wire.specs.Packets.{symbolCount}
 use Rattle.receiver.specs.declared.Header.{Header}
 use Rattle.receiver.specs.declared.packet.PacketPlace.{PacketPlace}
 use Rattle.receiver.specs.declared.packet.PlaceFound.the-variants.{PlaceIs}
-use Rattle.receiver.specs.History.{workingSize}
+use Rattle.history.specs.History.{workingSize}
 use Rattle.receiver.specs.Header.{headerIn}
 use Rattle.receiver.specs.Inner.{headerFor, Based}
 use Rattle.receiver.specs.Steps.{placeFound}

@@ -4,7 +4,7 @@ use mathlib.Core.List.{List}
 use mathlib.Core.Option.{some}
 use Prim.Native.Nat.{ℕ}
 use native.Mathlib.Omega.{arith}
-use Rattle.receiver.specs.History.{source-call, repair-call}
+use Rattle.history.specs.History.{source-call, repair-call}
 use Rattle.lines.specs.Reading.{callIn}
 use Rattle.replay.specs.Standing.{Kept}
 use Rattle.replay.proofs.Keeping.{kept-line, kept-long}

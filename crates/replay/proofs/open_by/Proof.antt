@@ -11,7 +11,7 @@ use borrow.Author.Tests.{le-leb}
 use Rattle.wire.specs.declared.Setting.{Setting}
 use Rattle.wire.specs.Settings.{settingOf}
 use Rattle.wire.proofs.Settings.{setting-names}
-use Rattle.receiver.specs.History.{workingSize}
+use Rattle.history.specs.History.{workingSize}
 use Rattle.receiver.specs.Promises.{said, opening}
 use Rattle.lines.specs.Forms.{longest}
 use Rattle.lines.specs.Reading.{on, valuesIn}

@@ -24,12 +24,12 @@ use Rattle.wire.proofs.Settings.{both, within-bounds}
 use Rattle.wire.proofs.Adui.{length-adui, symbols-count}
 use Rattle.coefficients.specs.Coefficients.{keys, listsOf}
 use Rattle.coefficients.proofs.Lists.{length-keys, list-bytes}
-use Rattle.receiver.specs.History.{Located, source, repair, first, ahead, placeOf, Call, source-call, repair-call, baseFor, Log, baseOf, readAfter}
-use Rattle.receiver.specs.History.{OfBytes, esiOf, Reading, fails, located, check, placed, readSource, readRepair, workingSize, readPacket, reading}
-use Rattle.receiver.proofs.Cases.{IsLocated, packet-path, number-in}
-use Rattle.receiver.proofs.Places.{placed-taken}
-use Rattle.receiver.proofs.Says.{Wholes, AllBytes}
-use Rattle.receiver.proofs.Answers.{Fits}
+use Rattle.history.specs.History.{Located, source, repair, first, ahead, placeOf, Call, source-call, repair-call, baseFor, Log, baseOf, readAfter}
+use Rattle.history.specs.History.{OfBytes, esiOf, Reading, fails, located, check, placed, readSource, readRepair, workingSize, readPacket, reading}
+use Rattle.history.proofs.Cases.{IsLocated, packet-path, number-in}
+use Rattle.history.proofs.Places.{placed-taken}
+use Rattle.history.proofs.Says.{Wholes, AllBytes}
+use Rattle.history.proofs.Answers.{Fits}
 
 pub check-passed : (t : Bool) (n : ℕ) (r : Reading) (q : Located) → check t n r ≡ located q → (t ≡ true) × (r ≡ located q)
 unfolding check

@@ -15,13 +15,13 @@ use Rattle.decoder.specs.Packets as packets
 use Rattle.decoder.specs.Promises.{Follows}
 use Rattle.decoder.proofs.Bytes.{laws}
 use Rattle.decoder.proofs.History as history
-use Rattle.receiver.specs.Symbol.{Symbol}
-use Rattle.receiver.specs.History.{Filling, Located, source, repair, first, named, All, Consistent, Known, Reading, fails, located}
-use Rattle.receiver.specs.History.{baseFor, Log, fresh, raised, baseOf, refusal, logged, Counted, New, Judged}
-use Rattle.receiver.specs.Model.{packetOf, Joined, State, opened, foundBy, saidOf, stateAfter, added, responds}
-use Rattle.receiver.proofs.Cases.{IsRefusal, numeral, IsLocated, packet-path, number-in}
-use Rattle.receiver.proofs.Counting.{count-counted}
-use Rattle.receiver.proofs.Says.{Formed, says}
+use Rattle.history.specs.Symbol.{Symbol}
+use Rattle.history.specs.History.{Filling, Located, source, repair, first, named, All, Consistent, Known, Reading, fails, located}
+use Rattle.history.specs.History.{baseFor, Log, fresh, raised, baseOf, refusal, logged, Counted, New, Judged}
+use Rattle.history.specs.Model.{packetOf, Joined, State, opened, foundBy, saidOf, stateAfter, added, responds}
+use Rattle.history.proofs.Cases.{IsRefusal, numeral, IsLocated, packet-path, number-in}
+use Rattle.history.proofs.Counting.{count-counted}
+use Rattle.history.proofs.Says.{Formed, says}
 
 -- What a packet's form and place have passed: it does not lie behind the base, is no longer than the window, and has symbols of E bytes.
 pub record Fits (s : Setting) (base : ℕ) (q : Located) : Type 0 where

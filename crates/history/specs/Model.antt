@@ -13,9 +13,9 @@ use Rattle.decoder.specs.Receiver as decoder
 use Rattle.decoder.specs.Packets as packets
 use Rattle.starts.specs.Adu.{Handing, withholds, need, handing}
 use Rattle.starts.specs.Starts.{Starts, also, moved, pass, seen}
-use Rattle.receiver.specs.Symbol.{Symbol, symbolOf}
-use Rattle.receiver.specs.History.{Located, source, repair, Place, behind, ahead, placeOf, Call, esiOf, Reading, fails, located, reading, Said, value}
-use Rattle.receiver.specs.History.{refusal}
+use Rattle.history.specs.Symbol.{Symbol, symbolOf}
+use Rattle.history.specs.History.{Located, source, repair, Place, behind, ahead, placeOf, Call, esiOf, Reading, fails, located, reading, Said, value}
+use Rattle.history.specs.History.{refusal}
 
 module _ (E : ℕ) where
   -- A repair packet's equations.

@@ -16,7 +16,7 @@ use Rattle.wire.specs.Packets.{firstEsi, repairSymbols}
 use Rattle.coefficients.specs.Coefficients.{keys, listsOf, allOk}
 use Rattle.rows.specs.Combination.{combination}
 use Rattle.starts.specs.Adu.{needs}
-use Rattle.receiver.specs.Symbol.{Symbol, bytesOf}
+use Rattle.history.specs.Symbol.{Symbol, bytesOf}
 
 -- ---- What a packet says
 

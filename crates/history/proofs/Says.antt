@@ -26,9 +26,9 @@ use Rattle.decoder.proofs.Bytes.{byte-of, laws}
 use Rattle.decoder.proofs.Stretch.{bytes-of-symbol}
 use Rattle.decoder.proofs.History.{shift-at}
 use Rattle.decoder.proofs.Packets.{source-satisfies, repair-satisfies}
-use Rattle.receiver.specs.Symbol.{Symbol, bytesOf, symbolOf}
-use Rattle.receiver.specs.History.{Filling, Located, source, repair, symbolsAt, Satisfied}
-use Rattle.receiver.specs.Model.{equations, packetOf}
+use Rattle.history.specs.Symbol.{Symbol, bytesOf, symbolOf}
+use Rattle.history.specs.History.{Filling, Located, source, repair, symbolsAt, Satisfied}
+use Rattle.history.specs.Model.{equations, packetOf}
 
 -- ---- A symbol and its bytes
 

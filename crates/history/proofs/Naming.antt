@@ -18,9 +18,9 @@ use Rattle.decoder.specs.Model.{Rref}
 use Rattle.decoder.specs.Receiver as decoder
 use Rattle.decoder.proofs.Bytes.{laws}
 use Rattle.decoder.proofs.History as history
-use Rattle.receiver.specs.History.{Place, behind, ahead, placeOf, Call, source-call, repair-call, Reading, fails, located, check}
-use Rattle.receiver.specs.History.{placed, readSource, readRepair, reading}
-use Rattle.receiver.specs.Model.{packetOf, Joined, Outcome, refused, done, added, responds, answering}
+use Rattle.history.specs.History.{Place, behind, ahead, placeOf, Call, source-call, repair-call, Reading, fails, located, check}
+use Rattle.history.specs.History.{placed, readSource, readRepair, reading}
+use Rattle.history.specs.Model.{packetOf, Joined, Outcome, refused, done, added, responds, answering}
 
 -- The number of a refusal that is not 3.
 pub record Named (n : ℕ) : Type 0 where

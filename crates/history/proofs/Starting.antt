@@ -23,12 +23,12 @@ use Rattle.starts.specs.Settled.{Reaches, seed, next}
 use Rattle.starts.proofs.Chaining.{pass-reaches}
 use Rattle.starts.proofs.Giving.{known-past}
 use Rattle.starts.proofs.Handing.{Shows}
-use Rattle.receiver.specs.Symbol.{Symbol, bytesOf, symbolOf}
-use Rattle.receiver.specs.History.{Filling, symbolsAt, Located, source, repair, first, named, All, Consistent, Known, Reading, fails, located}
-use Rattle.receiver.specs.History.{baseFor, Log, fresh, raised, baseOf, logged, Spanned, MarkedBy, Reached, already, later, Start}
-use Rattle.receiver.specs.Model.{Joined, State, foundBy, Outcome, refused, done, saidOf, stateAfter, responds, naming, startsAfter, marking}
-use Rattle.receiver.proofs.Says.{Whole, symbol-bytes, bytes-whole, head, rest}
-use Rattle.receiver.proofs.Answers.{Tracks, TracksFrom, Passes, known-exactly, known-value, tracks-consistent, judged}
+use Rattle.history.specs.Symbol.{Symbol, bytesOf, symbolOf}
+use Rattle.history.specs.History.{Filling, symbolsAt, Located, source, repair, first, named, All, Consistent, Known, Reading, fails, located}
+use Rattle.history.specs.History.{baseFor, Log, fresh, raised, baseOf, logged, Spanned, MarkedBy, Reached, already, later, Start}
+use Rattle.history.specs.Model.{Joined, State, foundBy, Outcome, refused, done, saidOf, stateAfter, responds, naming, startsAfter, marking}
+use Rattle.history.proofs.Says.{Whole, symbol-bytes, bytes-whole, head, rest}
+use Rattle.history.proofs.Answers.{Tracks, TracksFrom, Passes, known-exactly, known-value, tracks-consistent, judged}
 
 -- What is seen from the base on is what is known there, with the bytes of every filling.
 pub record Sees (E : ℕ) (qs : List Located) (base : ℕ) (see : View) : Type 0 where

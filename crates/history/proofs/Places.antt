@@ -7,10 +7,10 @@ use borrow.Author.Tests.{lt-ltb, le-ltb, le-leb, lt-leb}
 use Rattle.wire.specs.declared.Setting.{Setting}
 use Rattle.wire.specs.Numbers.{distanceOf}
 use Rattle.decoder.specs.Model.{known}
-use Rattle.receiver.specs.History.{behind, ahead, placeOf, Reading, fails, check, placed}
+use Rattle.history.specs.History.{behind, ahead, placeOf, Reading, fails, check, placed}
 use Rattle.starts.specs.Adu.{withholds, need, handing}
 use Rattle.starts.specs.Starts.{Starts, seen}
-use Rattle.receiver.specs.Model.{Joined, hides, shown, finding, aduAt}
+use Rattle.history.specs.Model.{Joined, hides, shown, finding, aduAt}
 
 pub distance-is : (base d : ℕ) → d < 2 ^ 32 → distanceOf ((base + d) % 2 ^ 32) (base % 2 ^ 32) ≡ d
 distance-is base d h = omega arith

@@ -1,0 +1,8 @@
+pub mod Cases
+pub mod Counting
+pub mod Says
+pub mod Answers
+pub mod Starting
+pub mod Naming
+pub mod Places
+pub mod Readings

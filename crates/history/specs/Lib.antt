@@ -1,0 +1,3 @@
+pub mod Symbol
+pub mod History
+pub mod Model

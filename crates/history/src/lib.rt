@@ -1,0 +1,1 @@
+// The receiver as a plain history, the model that computes it, and that they agree; no code.
