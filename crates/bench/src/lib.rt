@@ -209,9 +209,9 @@ fn mark_new(mem: &mut [u8], size: usize, width: usize, oldest: usize)
         size,
         base: (oldest + 1) % width,
     };
-    let had = starts::marks::known_among(mem, before, width, 1);
-    let has = starts::marks::known_among(mem, shape, width - 1, 1);
-    starts::marks::update(mem, shape, oldest, 1, width - 1, 1, has < had);
+    let had = marks::known_among(mem, before, width, 1);
+    let has = marks::known_among(mem, shape, width - 1, 1);
+    marks::update(mem, shape, oldest, 1, width - 1, 1, has < had);
 }
 
 #[no_mangle]

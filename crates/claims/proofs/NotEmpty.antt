@@ -13,10 +13,10 @@ use Rattle.receiver.specs.declared.Answer.{Answer}
 use Rattle.receiver.specs.declared.Answer.the-variants.{Done, Refused}
 use Rattle.receiver.specs.declared.Header.{Header}
 use Rattle.starts.specs.Starts.{Starts, seen}
-use Rattle.starts.specs.Marks as stored
-use Rattle.starts.specs.Marks.{marked, notedIn}
+use Rattle.marks.specs.Marks as stored
+use Rattle.marks.specs.Marks.{marked, notedIn}
 use Rattle.starts.specs.Settled.{Settled}
-use Rattle.starts.proofs.Choosing.{with-starts}
+use Rattle.marks.proofs.Choosing.{with-starts}
 use Rattle.starts.proofs.Settling.{pass-settled}
 use Rattle.starts.proofs.Agreeing.{Agree}
 use Rattle.history.specs.History.{Located, Call, esiOf, Reading, fails, located, reading, memorySize, workingSize, Said, value, refusal, IsValue}

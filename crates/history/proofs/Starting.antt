@@ -21,7 +21,7 @@ use Rattle.starts.specs.Starts.{Starts, nowhere, also, moved, pass, shown, seen
 use Rattle.starts.proofs.Tests.{also-true, moved-true}
 use Rattle.starts.specs.Settled.{Reaches, seed, next}
 use Rattle.starts.proofs.Chaining.{pass-reaches}
-use Rattle.starts.proofs.Giving.{known-past}
+use Rattle.starts.proofs.Unseen.{known-past}
 use Rattle.starts.proofs.Handing.{Shows}
 use Rattle.history.specs.Symbol.{Symbol, bytesOf, symbolOf}
 use Rattle.history.specs.History.{Filling, symbolsAt, Located, source, repair, first, named, All, Consistent, Known, Reading, fails, located}

@@ -24,7 +24,7 @@ use Rattle.table.specs.Window as window
 use Rattle.placing.specs.Place.{Committed}
 use Rattle.table.proofs.Rows.{fits-kept}
 use Rattle.table.proofs.Holding.{window-header}
-use Rattle.starts.specs.Marks.{flagAt}
+use Rattle.marks.specs.Marks.{flagAt}
 use Rattle.receiver.specs.declared.Header.{Header}
 use Rattle.receiver.specs.declared.packet.PacketPlace.{PacketPlace}
 use Rattle.history.specs.History.{memorySize}

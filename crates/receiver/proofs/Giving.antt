@@ -16,8 +16,8 @@ use Rattle.starts.specs.declared.Handed.{Handed}
 use Rattle.starts.specs.declared.Handed.the-variants.{Adu, Withheld}
 use Rattle.starts.specs.Adu.{withholds, need, handing, HandedAs}
 use Rattle.starts.specs.Starts.{Starts, seen}
-use Rattle.starts.specs.Marks as marks
-use Rattle.starts.specs.Contracts.{HandedOut}
+use Rattle.marks.specs.Marks as marks
+use Rattle.handing.specs.Contracts.{HandedOut}
 use Rattle.receiver.specs.declared.Header.{Header}
 use Rattle.history.specs.History.{placeOf, refusal}
 use Rattle.history.specs.Model.{Joined, aduAt}

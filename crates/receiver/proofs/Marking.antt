@@ -19,12 +19,12 @@ use Rattle.decoder.specs.Bytes.{Coded}
 use Rattle.decoder.specs.Model as model
 use Rattle.decoder.specs.Receiver as decoder
 use Rattle.table.specs.Window as window
-use Rattle.starts.specs.Starts.{Starts, moved, pass, seen}
+use Rattle.starts.specs.Starts.{Starts, owning, moved, pass, seen}
 use Rattle.starts.specs.Settled.{Settled, Old}
-use Rattle.starts.specs.Marks as marks
-use Rattle.starts.specs.MarkSteps.{owning, Updated, Tallied}
-use Rattle.starts.proofs.Only.{starts-of, starts-window, header-no-mark, past-no-mark, mark-row, mark-past}
-use Rattle.starts.proofs.Gaining.{old-ones}
+use Rattle.marks.specs.Marks as marks
+use Rattle.marks.specs.MarkSteps.{Updated, Tallied}
+use Rattle.marks.proofs.Only.{starts-of, starts-window, header-no-mark, past-no-mark, mark-row, mark-past}
+use Rattle.marks.proofs.Gaining.{old-ones}
 use Rattle.receiver.specs.declared.Header.{Header}
 use Rattle.receiver.specs.declared.packet.PacketPlace.{PacketPlace}
 use Rattle.history.specs.History.{memorySize}

@@ -18,7 +18,7 @@ use Rattle.wire.specs.Settings.{settingOf, settingIn, settingBytes, Valid}
 use Rattle.wire.proofs.Settings.{setting-names, setting-written, setting-kept}
 use Rattle.placing.specs.Place.{Emptied}
 use Rattle.starts.specs.Starts.{nowhere}
-use Rattle.starts.specs.Contracts.{Cleared}
+use Rattle.marks.specs.Contracts.{Cleared}
 use Rattle.receiver.specs.declared.Answer.the-variants.{Done, Refused}
 use Rattle.history.specs.History.{memorySize}
 use Rattle.history.specs.Model.{opened}

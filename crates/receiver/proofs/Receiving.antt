@@ -18,10 +18,9 @@ use Rattle.decoder.specs.Receiver as decoder
 use Rattle.decoder.specs.Packets as packets
 use Rattle.table.specs.Window.{place, Fits}
 use Rattle.table.specs.Packet as packet
-use Rattle.starts.specs.Starts.{Starts, moved, pass, seen}
-use Rattle.starts.specs.MarkSteps.{owning}
+use Rattle.starts.specs.Starts.{Starts, owning, moved, pass, seen}
 use Rattle.starts.proofs.Settling.{unseen-settled}
-use Rattle.starts.proofs.Gaining.{unseen-empty}
+use Rattle.marks.proofs.Gaining.{unseen-empty}
 use Rattle.receiver.specs.declared.Answer.{Answer}
 use Rattle.receiver.specs.declared.Answer.the-variants.{Done, Refused}
 use Rattle.receiver.specs.declared.Header.{Header}

@@ -22,8 +22,7 @@ use Rattle.wire.specs.Headers.{sourceFields, sourceHeaderOf}
 use Rattle.wire.proofs.Adui as adui
 use Rattle.decoder.specs.Bytes.{Coded}
 use Rattle.decoder.specs.Receiver as decoder
-use Rattle.starts.specs.Starts.{Starts, also}
-use Rattle.starts.specs.MarkSteps.{owning}
+use Rattle.starts.specs.Starts.{Starts, also, owning}
 use Rattle.receiver.specs.declared.Answer.the-variants.{Done, Refused}
 use Rattle.receiver.specs.declared.Header.{Header}
 use Rattle.receiver.specs.declared.packet.PacketPlace.{PacketPlace}

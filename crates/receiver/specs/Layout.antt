@@ -11,7 +11,7 @@ use Rattle.decoder.specs.Model.{Rref}
 use Rattle.decoder.specs.Receiver as decoder
 use Rattle.table.specs.Window as window
 use Rattle.starts.specs.Starts.{Starts, seen}
-use Rattle.starts.specs.Marks as marks
+use Rattle.marks.specs.Marks as marks
 use Rattle.starts.specs.Settled.{Settled}
 use Rattle.receiver.specs.declared.Header.{Header}
 use Rattle.history.specs.Model.{Joined, State}

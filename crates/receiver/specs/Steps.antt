@@ -19,9 +19,8 @@ use Rattle.gather.specs.declared.Verdict.the-variants as verdict
 use Rattle.table.specs.Window.{place, row, equation, Window}
 use Rattle.gather.specs.Gather.{Laid}
 use Rattle.table.specs.Packet as packet
-use Rattle.starts.specs.Starts.{Starts, moved, pass, seen}
-use Rattle.starts.specs.Marks.{flagAt}
-use Rattle.starts.specs.MarkSteps.{owning}
+use Rattle.starts.specs.Starts.{Starts, owning, moved, pass, seen}
+use Rattle.marks.specs.Marks.{flagAt}
 use Rattle.receiver.specs.declared.Header.{Header}
 use Rattle.receiver.specs.declared.packet.PacketPlace.{PacketPlace}
 use Rattle.receiver.specs.declared.packet.PlaceFound.{PlaceFound}

@@ -71,7 +71,7 @@ pub fn open(mem: &mut [u8], scheme: usize, size: usize, width: usize) -> Answer
         base: 0,
     };
     placing::clear(mem, shape);
-    starts::marks::clear(mem, shape);
+    marks::clear(mem, shape);
     Answer::Done(0)
 }
 
@@ -128,7 +128,7 @@ pub fn adu(mem: &[u8], esi: Esi, out: &mut [u8]) -> Handed
         size: header.setting.size,
         base: header.row,
     };
-    starts::hand::hand_out(mem, shape, d, out)
+    handing::hand_out(mem, shape, d, out)
 }
 
 // Receives a source packet that came with a flow. The state is only read until all its symbols are known to agree with it. Gives how many

@@ -10,7 +10,6 @@ ghost use Rattle.receiver.specs.Steps.{placeFound, gatheredBy, EquationA
 use super::Header;
 use super::front;
 use gather::Verdict;
-use starts::marks;
 use table::Shape;
 use wire::Esi;
 use wire::Refusal;

@@ -18,9 +18,8 @@ use Rattle.wire.proofs.Adui.{room as wire-room, length-adui, symbols-count, sym
 use Rattle.wire.proofs.Reading.{length-joined, cut-joined}
 use Rattle.starts.specs.Adu.{flowIn, lengthIn, needs, allZero, View, before, joint, Handing, hands, withholds, need, unpack, begin, handing}
 use Rattle.starts.specs.Starts.{Starts}
-use Rattle.starts.proofs.Texts.{part-front}
 use Rattle.starts.proofs.Chaining.{needs-some, symbols-some}
-use Rattle.starts.proofs.Packing.{joined-chunks, length-small, packed}
+use Rattle.starts.proofs.Packing.{part-front, joined-chunks, length-small, packed}
 use Rattle.starts.proofs.Packing.{adui-length, adui-flow, adui-adu, adui-padding}
 
 -- ---- What is handed out

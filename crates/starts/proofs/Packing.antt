@@ -6,7 +6,7 @@ use Prim.Native.Nat.{ℕ, zero, suc, _+_, _-_, _*_, _≤_, _<_}
 use native.Mathlib.Nat.{suc-mul, zero-mul}
 use native.Mathlib.Omega.{arith}
 use lib.ListN.{length, take, drop, length-drop, take-append-drop}
-use lib.Seq.{take-append-seam, drop-append-seam, length-take-le}
+use lib.Seq.{take-append-le, drop-append-le, take-append-seam, drop-append-seam, length-take-le}
 use lib.Dec.{eqb}
 use borrow.Author.Tests.{eqb-true}
 use Rattle.memory.specs.Part.{part}
@@ -17,6 +17,10 @@ use Rattle.wire.specs.Packets.{zeros, joined, chunks, symbolCount, adui}
 use Rattle.wire.proofs.Adui.{room}
 use Rattle.starts.specs.Adu.{flowIn, lengthIn, allZero}
 use Rattle.starts.proofs.Tests.{and-true}
+
+pub part-front : (a k : ℕ) (v y : List ℕ) → a + k ≤ length v → part a k (v ++ y) ≡ part a k v
+unfolding part
+part-front a k v y h = ap (take k) (drop-append-le a v y (omega arith)) ∙ take-append-le k (drop a v) y (simp length-drop (omega arith))
 
 -- ---- Symbols and their bytes
 

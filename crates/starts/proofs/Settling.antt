@@ -11,9 +11,8 @@ use native.Mathlib.Omega.{arith}
 use lib.Dec.{eqb, ltb}
 use borrow.Author.Tests.{ne-eqb, le-leb, ltb-true}
 use Rattle.starts.specs.Adu.{needs, View}
-use Rattle.starts.specs.Starts.{Starts, also, moved, pass}
+use Rattle.starts.specs.Starts.{Starts, also, owning, moved, pass}
 use Rattle.starts.specs.Settled.{Open, Settled, Old, Reaches, seed, next}
-use Rattle.starts.specs.MarkSteps.{owning}
 use Rattle.starts.proofs.Tests.{also-true, moved-true}
 use Rattle.starts.proofs.Agreeing.{Agree}
 use Rattle.starts.proofs.Chaining.{pass-reaches}

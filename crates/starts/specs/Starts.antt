@@ -1,10 +1,10 @@
 -- The marks of starts as the receiver computes them: by a position's distance from the base, up to the width.
 -- That these are the history's is proved (crate `claims`): a reader of the claims need not believe it.
-use mathlib.Core.Bool.{Bool, true, false, _&&_, _||_}
+use mathlib.Core.Bool.{Bool, true, false, _&&_, _||_, cond}
 use mathlib.Core.Option.{Option, none, some}
 use mathlib.Core.List.{List}
 use Prim.Native.Nat.{ℕ, zero, suc, _+_}
-use lib.Dec.{eqb, leb}
+use lib.Dec.{eqb, leb, ltb}
 use Rattle.decoder.specs.Symbols.{Tuple}
 use Rattle.decoder.specs.Bytes.{Byte, Coded}
 use Rattle.decoder.specs.Stretch.{bytes-of}
@@ -22,6 +22,10 @@ nowhere i = false
 -- One more.
 abbrev pub also : ℕ → Starts → Starts
 also j M i = eqb i j || M i
+
+-- A packet with n symbols of its own from the position `first` on marks that and the one after its last.
+abbrev pub owning : (first n : ℕ) → Starts → Starts
+owning first n M = cond (ltb 0 n) (also first (also (first + n) M)) M
 
 -- The base has risen: marks below it, and marks past the old base + width, are dropped.
 abbrev pub moved : (width rise : ℕ) → Starts → Starts

@@ -1,8 +1,5 @@
-// Starts of ADUs: the marks in the receiver's memory and the pass that follows the ADUs' lengths (`marks`), and handing out an ADU (`hand`).
+// Starts of ADUs and what is handed out of a window: definitions and what follows from them, and the answer of the ADU call. No code.
 use wire::Refusal;
-
-pub mod hand;
-pub mod marks;
 
 // An ADU that was handed out, with its flow and its length; or why none was.
 pub enum Handed {

@@ -1,0 +1,105 @@
+// Handing out an ADU: its symbols are looked up in the window, its padding is checked, and its bytes are copied from where the symbols stand.
+ghost use mathlib.Core.Path.{_≡_};
+ghost use Prim.Native.Nat.{_+_, _≤_, _<_, min};
+ghost use lib.ListN.{length, drop};
+ghost use Rattle.memory.specs.Part.{part, splice};
+ghost use Rattle.table.specs.Window.{Fits};
+ghost use Rattle.starts.specs.Adu.{allZero};
+ghost use Rattle.handing.specs.Contracts.{HandedOut};
+ghost use Rattle.handing.specs.HandSteps.{text, SymbolAt, AllKnown, Spans};
+use starts::Handed;
+use table::Shape;
+use wire::Refusal;
+
+// Where the symbol of the i-th position of the window begins.
+fn symbol_of(shape: Shape, i: usize) -> usize
+    requires { ⌜ (shape .base < shape .width) × (i < shape .width) × (shape .width ≤ 255) × (shape .size ≤ 1500) ⌝ }
+    ensures { λ at. ⌜ SymbolAt (shape .width) (shape .size) (shape .base) i at ⌝ }
+{
+    let r = marks::row_of(shape, i);
+    marks::symbol_at(shape, r)
+}
+
+// Whether the `n` positions from the d-th on are all known. None past the window is.
+fn all_known(mem: &[u8], shape: Shape, d: usize, n: usize) -> bool
+    requires { ⌜ Fits (shape .width) (shape .size) (now mem) × (shape .base < shape .width) × (d < shape .width) ⌝ }
+    ensures { λ t. ⌜ AllKnown (shape .width) (shape .size) (shape .base) d n t (now (mem .entry)) ⌝ }
+{
+    if shape.width - d < n {
+        return false;
+    }
+    for i in 0..n {
+        let r = marks::row_of(shape, d + i);
+        if !placing::is_known(mem, shape, r) {
+            return false;
+        }
+    }
+    true
+}
+
+// Whether the padding after an ADU of `len` bytes in the `n` symbols from the d-th on is zero. Only the last symbol has any.
+fn is_padded(mem: &[u8], shape: Shape, d: usize, n: usize, len: usize) -> bool
+    requires { ⌜ Fits (shape .width) (shape .size) (now mem) × (shape .base < shape .width) × Spans (shape .width) (shape .size) d n len ⌝ }
+    ensures { λ t. ⌜ t ≡ allZero (drop (3 + len) (text (shape .width) (shape .size) (shape .base) (now (mem .entry)) d n)) ⌝ }
+{
+    let before = (n - 1) * shape.size;
+    let last = symbol_of(shape, d + (n - 1));
+    table::or_all(mem, last + (3 + len - before), last + shape.size) == 0
+}
+
+// The smaller of both.
+fn least(a: usize, b: usize) -> usize
+    ensures { λ r. ⌜ r ≡ min a b ⌝ }
+{
+    if a < b { a } else { b }
+}
+
+// Copies the ADU of `len` bytes in the `n` symbols from the d-th on to the front of the output: from each symbol what it has of it, which is
+// all of it but what stands before the ADU and after it.
+fn copy_adu(mem: &[u8], shape: Shape, d: usize, n: usize, len: usize, out: &mut [u8])
+    requires { ⌜ Fits (shape .width) (shape .size) (now mem) × (shape .base < shape .width) × Spans (shape .width) (shape .size) d n len
+        × (len ≤ length (now out)) ⌝ }
+    ensures { λ _. ⌜ now (out .exit)
+        ≡ splice 0 (part 3 len (text (shape .width) (shape .size) (shape .base) (now (mem .entry)) d n)) (now (out .entry)) ⌝ }
+{
+    let mut at: usize = 0;
+    let mut skip: usize = 3;
+    for i in 0..n {
+        let k = least(shape.size - skip, len - at);
+        let from = symbol_of(shape, d + i);
+        memory::copy_part(out, at, mem, from + skip, k);
+        at = at + k;
+        skip = 0;
+    }
+}
+
+// The ADU call for the d-th position of the window.
+pub fn hand_out(mem: &[u8], shape: Shape, d: usize, out: &mut [u8]) -> Handed
+    requires { ⌜ Fits (shape .width) (shape .size) (now mem) × (shape .base < shape .width) × (d < shape .width) ⌝ }
+    ensures { λ r. ⌜ HandedOut (shape .width) (shape .size) (shape .base) d (now (mem .entry)) (now (out .entry)) (now (out .exit)) r ⌝ }
+{
+    if !marks::is_marked(mem, shape, d) {
+        return Handed::Withheld(Refusal::NoStart);
+    }
+    let r = marks::row_of(shape, d);
+    if !placing::is_known(mem, shape, r) {
+        return Handed::Withheld(Refusal::Unknown);
+    }
+    let at = symbol_of(shape, d);
+    let len = memory::load_u16(mem, at + 1) as usize;
+    let n = wire::symbol_count(shape.size, len);
+    if shape.width < n {
+        return Handed::Withheld(Refusal::Padding);
+    }
+    if !all_known(mem, shape, d, n) {
+        return Handed::Withheld(Refusal::Unknown);
+    }
+    if !is_padded(mem, shape, d, n, len) {
+        return Handed::Withheld(Refusal::Padding);
+    }
+    if out.len() < len {
+        return Handed::Withheld(Refusal::Short);
+    }
+    copy_adu(mem, shape, d, n, len, out);
+    Handed::Adu(mem[at], len)
+}

@@ -1,0 +1,147 @@
+-- Where marks stand, and what is as it was when nothing but marks has changed.
+use mathlib.Core.Path.{_≡_, refl, sym, ap, _∙_}
+use mathlib.Core.Logic.{_≢_}
+use mathlib.Core.Bool.{true, false}
+use mathlib.Core.List.{List}
+use Prim.Native.Nat.{ℕ, _+_, _-_, _*_, _%_, _≤_, _<_}
+use native.Mathlib.Nat.{mod-lt, mod-eq-of-lt, mod-eq-sub-mod, mul-le-mul}
+use native.Mathlib.Decide.{decLt}
+use native.Mathlib.Omega.{arith}
+use lib.Dec.{ltb}
+use borrow.Author.Tests.{lt-ltb, le-ltb}
+use Rattle.memory.proofs.Parts.{row-fits}
+use Rattle.decoder.specs.Bytes.{Coded}
+use Rattle.decoder.specs.Model.{State}
+use Rattle.decoder.proofs.Stretch.{remainders}
+use Rattle.table.specs.Window.{stride, place, Window, Fits}
+use Rattle.table.proofs.Holding.{window-same}
+use Rattle.marks.specs.Marks.{flagAt, markAt, NoMark, OnlyMarks, OnlyStarts}
+
+-- ---- where marks stand
+
+pub row-wrapped : (base i w : ℕ) → base < w → i < w → w ≤ base + i → base + i - w ≡ (base + i) % w
+row-wrapped base i w a b h = sym (mod-eq-sub-mod h ∙ mod-eq-of-lt (omega arith))
+
+-- A row lies below the window's area.
+pub row-area : (w E r : ℕ) → r ≤ w → w ≤ 255 → E ≤ 1500 → r * (w + E + 4) ≤ 448545
+row-area w E r h a b =
+    let x : r ≤ 255 = omega arith in
+    let y : w + E + 4 ≤ 1759 = omega arith in
+    mul-le-mul x y
+
+-- A mark lies among the rows, and so does a symbol.
+pub flag-inside : (w E r : ℕ) → r < w → flagAt w E r < place w E w
+flag-inside w E r h = omega (arith, row-fits w (stride w E) r h)
+
+pub symbol-inside : (w E r : ℕ) → r < w → place w E r + w + E ≤ place w E w
+symbol-inside w E r h = omega (arith, row-fits w (stride w E) r h)
+
+-- The mark of a position of the window, and of the one just past it.
+pub mark-row : (w E base i r : ℕ) → i < w → r ≡ (base + i) % w → flagAt w E r ≡ markAt w E base i
+mark-row w E base i r h e = let t : ltb i w ≡ true = lt-ltb i w h in rw (t, e)
+
+pub mark-past : (w E base i : ℕ) → w ≤ i → 10 ≡ markAt w E base i
+mark-past w E base i h = let t : ltb i w ≡ false = le-ltb i w h in rw t
+
+-- Other rows have other marks.
+flag-apart : (w E p q : ℕ) → p ≢ q → flagAt w E p ≢ flagAt w E q
+flag-apart w E p q n e = go (decLt p q) (decLt q p)
+  where
+    go : Dec (p < q) → Dec (q < p) → ⊥
+    go (yes l) d = omega (arith, e, row-fits q (stride w E) p l)
+    go (no l) (yes k) = omega (arith, e, row-fits p (stride w E) q k)
+    go (no l) (no k) = n (omega arith)
+
+-- Other positions have other marks.
+pub mark-apart : (w E base i j : ℕ) → i ≤ w → j ≤ w → i ≢ j → markAt w E base i ≢ markAt w E base j
+mark-apart w E base i j h k n e = go (decLt i w) (decLt j w)
+  where
+    go : Dec (i < w) → Dec (j < w) → ⊥
+    go (yes a) (yes b) =
+        flag-apart w E ((base + i) % w) ((base + j) % w)
+        (λ q. n (omega (arith, remainders w base (base + i) (base + j) (omega arith) (omega arith) (omega arith) (omega arith) q)))
+        (mark-row w E base i ((base + i) % w) a refl ∙ e ∙ sym (mark-row w E base j ((base + j) % w) b refl))
+    go (yes a) (no b) =
+        let q : flagAt w E ((base + i) % w) ≡ 10 = mark-row w E base i ((base + i) % w) a refl ∙ e ∙ sym (mark-past w E base j (omega arith)) in
+        omega (arith, q)
+    go (no a) (yes b) =
+        let q : flagAt w E ((base + j) % w) ≡ 10 = mark-row w E base j ((base + j) % w) b refl ∙ sym e ∙ sym (mark-past w E base i (omega arith)) in
+        omega (arith, q)
+    go (no a) (no b) = n (omega arith)
+
+-- Where a mark stands is no byte that is no mark.
+pub no-mark : (w E base i k : ℕ) → 0 < w → NoMark w E k → k ≢ markAt w E base i
+no-mark w E base i k pos n e = go (decLt i w)
+  where
+    go : Dec (i < w) → ⊥
+    go (yes a) = n .rows ((base + i) % w) (mod-lt (base + i) pos) (e ∙ sym (mark-row w E base i ((base + i) % w) a refl))
+    go (no a) = n .header (e ∙ sym (mark-past w E base i (omega arith)))
+
+-- ---- nothing but marks has changed
+
+pub only-refl : {w E : ℕ} {m : List ℕ} → OnlyMarks w E m m
+only-refl = record { size = refl; others = λ k n. refl }
+
+pub only-trans : {w E : ℕ} {m m′ m″ : List ℕ} → OnlyMarks w E m m′ → OnlyMarks w E m′ m″ → OnlyMarks w E m m″
+only-trans f g = record { size = g .size ∙ f .size; others = λ k n. g .others k n ∙ f .others k n }
+
+pub only-fits : {w E : ℕ} {m m′ : List ℕ} → Fits w E m → OnlyMarks w E m m′ → Fits w E m′
+only-fits f o = record {
+  some-width = f .some-width;
+  wide = f .wide;
+  some-symbol = f .some-symbol;
+  long = f .long;
+  room = rw (o .size) (f .room);
+}
+
+-- The header but for byte 10.
+pub header-no-mark : (w E k : ℕ) → k < 64 → k ≢ 10 → NoMark w E k
+header-no-mark w E k h n = record { header = n; rows = λ r l e. omega (arith, e) }
+
+-- What is past the rows.
+pub past-no-mark : (w E k : ℕ) → place w E w ≤ k → NoMark w E k
+past-no-mark w E k h = record { header = λ e. omega arith; rows = λ r l e. omega (arith, e, flag-inside w E r l) }
+
+-- A row up to its first flag.
+pub row-no-mark : (w E r k : ℕ) → k < w + E + 1 → NoMark w E (place w E r + k)
+row-no-mark w E r k h = record { header = λ e. omega arith; rows = λ q l e. go q e (decLt r q) (decLt q r) }
+  where
+    go : (q : ℕ) → place w E r + k ≡ flagAt w E q → Dec (r < q) → Dec (q < r) → ⊥
+    go q e (yes l) d = omega (arith, e, row-fits q (stride w E) r l)
+    go q e (no l) (yes g) = omega (arith, e, row-fits r (stride w E) q g)
+    go q e (no l) (no g) = let s : q ≡ r = omega arith in omega (arith, e, ap (λ x. x * stride w E) s)
+
+-- The system that the memory holds.
+pub only-window : {w E : ℕ} {m m′ : List ℕ} → 0 < w → OnlyMarks w E m m′ → (b : ℕ) (S : State (Coded E) w) → Window w E m b S → Window w E m′ b S
+only-window {w} {E} {m} {m′} pos o = window-same w E m m′ pos (λ r l k n. o .others (place w E r + k) (row-no-mark w E r k n))
+
+-- ---- nothing but marks and the note has changed
+
+pub starts-refl : {w E : ℕ} {m : List ℕ} → OnlyStarts w E m m
+starts-refl = record { size = refl; others = λ k n d. refl }
+
+pub starts-of : {w E : ℕ} {m m′ : List ℕ} → OnlyMarks w E m m′ → OnlyStarts w E m m′
+starts-of f = record { size = f .size; others = λ k n d. f .others k n }
+
+pub starts-trans : {w E : ℕ} {m m′ m″ : List ℕ} → OnlyStarts w E m m′ → OnlyStarts w E m′ m″ → OnlyStarts w E m m″
+starts-trans f g = record { size = g .size ∙ f .size; others = λ k n d. g .others k n d ∙ f .others k n d }
+
+pub starts-fits : {w E : ℕ} {m m′ : List ℕ} → Fits w E m → OnlyStarts w E m m′ → Fits w E m′
+starts-fits f o = record {
+  some-width = f .some-width;
+  wide = f .wide;
+  some-symbol = f .some-symbol;
+  long = f .long;
+  room = rw (o .size) (f .room);
+}
+
+pub starts-window : {w E : ℕ} {m m′ : List ℕ} → 0 < w → OnlyStarts w E m m′ → (b : ℕ) (S : State (Coded E) w) → Window w E m b S → Window w E m′ b S
+starts-window {w} {E} {m} {m′} pos o =
+    window-same w E m m′ pos (λ r l k n. o .others (place w E r + k) (row-no-mark w E r k n) (λ e. omega (arith, e)))
+
+-- Byte 11 is no mark.
+pub note-no-mark : (w E : ℕ) → NoMark w E 11
+note-no-mark w E = header-no-mark w E 11 (omega arith) (λ e. omega (arith, e))
+
+pub mark-not-note : (w E base i : ℕ) → 0 < w → markAt w E base i ≢ 11
+mark-not-note w E base i pos e = no-mark w E base i 11 pos (note-no-mark w E) (sym e)

@@ -1,0 +1,28 @@
+-- `marks::clear` meets its contract.
+use Rattle.marks.proofs.Marking.{cleared}
+use borrow.Author.Needs.{needs}
+use Rattle.marks.proofs.clear.Statement.{statement}
+use Rattle.marks.proofs.clear.Tie as tie
+
+-- src/marks.rt:84:28
+add-drop-first : tie.Need-add-drop-first
+add-drop-first c = search needs
+
+-- src/marks.rt:84:5
+drop-first-requires : tie.Need-drop-first-requires
+drop-first-requires c κs = search needs
+
+-- src/marks.rt:80:1
+same-length : tie.Need-same-length
+same-length c = search needs
+
+-- src/marks.rt:80:1
+returns : tie.Need-returns
+returns c =
+    let p2 = c .before .before in
+    let p6 = p2 .before .before .before .before in
+    cleared _ _ _ _ _ (p6 .pre .1) (p2 .drop-first .ensures)
+
+pub clear-spec : {M : Type 1} → statement M
+clear-spec =
+    tie.close (tie.spec add-drop-first drop-first-requires same-length returns)

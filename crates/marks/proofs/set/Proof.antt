@@ -1,0 +1,24 @@
+-- `marks::set` meets its contract.
+use native.Mathlib.Omega.{arith}
+use Rattle.marks.proofs.Marking.{added}
+use borrow.Author.Needs.{needs}
+use Rattle.marks.proofs.set.Statement.{statement}
+use Rattle.marks.proofs.set.Tie as tie
+
+-- src/marks.rt:76:5
+write-requires : tie.Need-write-requires
+write-requires c κs = search needs
+
+-- src/marks.rt:72:1
+same-length : tie.Need-same-length
+same-length c = c .before .before .write .ensures .size
+
+-- src/marks.rt:72:1
+returns : tie.Need-returns
+returns c =
+    let p2 = c .before .before in
+    let p5 = p2 .before .before .before in
+    added _ _ _ (p5 .args .i) _ _ (p5 .pre .0 .some-width) (omega arith) (p2 .write .ensures)
+
+pub set-spec : {M : Type 1} → statement M
+set-spec = tie.close (tie.spec write-requires same-length returns)

@@ -1,0 +1,32 @@
+-- Contracts of inner functions: a reader need not believe these.
+-- Each holds for every system S that the memory holds for a window from b on, where `base` is the row of b.
+use mathlib.Core.Path.{_≡_}
+use mathlib.Core.List.{List}
+use Prim.Native.Nat.{ℕ, _+_, _%_}
+use Rattle.decoder.specs.Bytes.{Coded}
+use Rattle.decoder.specs.Model.{State}
+use Rattle.table.specs.Window.{Window}
+use Rattle.starts.specs.Starts.{Starts, nowhere, also, moved, pass, seen}
+use Rattle.marks.specs.Marks.{Marks, OnlyMarks, notedIn, OnlyStarts}
+use Rattle.starts.specs.Settled.{Settled}
+
+-- No position is marked, wherever the base will be.
+pub record Cleared (w E : ℕ) (m m′ : List ℕ) : Type 0 where
+  pub only : OnlyMarks w E m m′
+  pub marks : (base : ℕ) → Marks w E base m′ nowhere
+
+-- One more position is marked.
+pub record Added (w E base i : ℕ) (m m′ : List ℕ) : Type 0 where
+  pub only : OnlyMarks w E m m′
+  pub marks : (M : Starts) → Marks w E base m M → Marks w E base m′ (also i M)
+
+-- The base has risen from the row `base` on.
+pub record Moved (w E base rise : ℕ) (m m′ : List ℕ) : Type 0 where
+  pub only : OnlyMarks w E m m′
+  pub marks : (M : Starts) → Marks w E base m M → Marks w E ((base + rise) % w) m′ (moved w rise M)
+
+-- The pass through the window has been made.
+pub record Passed (w E base : ℕ) (m m′ : List ℕ) : Type 0 where
+  pub only : OnlyStarts w E m m′
+  pub marks : (b : ℕ) (S : State (Coded E) w) (M : Starts) → b % w ≡ base → Window w E m b S → Marks w E base m M
+      → Marks w E base m′ (pass E (seen E w S) w M) × Settled E w (seen E w S) (notedIn m′) (pass E (seen E w S) w M)

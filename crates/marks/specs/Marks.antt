@@ -1,0 +1,44 @@
+-- Where the receiver's memory keeps the marks: that of a position of the window in the second flag of its row, that of the position just past the
+-- window in byte 10 of the header.
+use mathlib.Core.Path.{_≡_}
+use mathlib.Core.Logic.{_≢_}
+use mathlib.Core.Bool.{cond}
+use mathlib.Core.List.{List}
+use Prim.Native.Nat.{ℕ, _+_, _%_, _≤_, _<_}
+use lib.ListN.{length, getD}
+use lib.Dec.{ltb}
+use Rattle.table.specs.Window.{place}
+use Rattle.starts.specs.Starts.{Starts}
+
+-- Where the mark of the row r, and of the i-th position from that of the row `base` on, stands.
+abbrev pub flagAt : (w E r : ℕ) → ℕ
+flagAt w E r = place w E r + (w + E + 1)
+
+abbrev pub markAt : (w E base i : ℕ) → ℕ
+markAt w E base i = cond (ltb i w) (flagAt w E ((base + i) % w)) 10
+
+-- The byte there says whether the position is marked.
+abbrev pub marked : (w E base : ℕ) → List ℕ → Starts
+marked w E base m i = ltb 0 (getD m (markAt w E base i) 0)
+
+-- The memory has these marks.
+abbrev pub Marks : (w E base : ℕ) → List ℕ → Starts → Type 0
+Marks w E base m M = (i : ℕ) → i ≤ w → marked w E base m i ≡ M i
+
+-- A byte that is no mark.
+pub record NoMark (w E k : ℕ) : Type 0 where
+  pub header : k ≢ 10
+  pub rows : (r : ℕ) → r < w → k ≢ flagAt w E r
+
+-- Nothing but marks has changed.
+pub record OnlyMarks (w E : ℕ) (m m′ : List ℕ) : Type 0 where
+  pub size : length m′ ≡ length m
+  pub others : (k : ℕ) → NoMark w E k → getD m′ k 0 ≡ getD m k 0
+
+-- And whether an ADU ends past the window is noted in byte 11 of the header. Nothing but marks and that note has changed.
+abbrev pub notedIn : List ℕ → ℕ
+notedIn m = getD m 11 0
+
+pub record OnlyStarts (w E : ℕ) (m m′ : List ℕ) : Type 0 where
+  pub size : length m′ ≡ length m
+  pub others : (k : ℕ) → NoMark w E k → k ≢ 11 → getD m′ k 0 ≡ getD m k 0

@@ -1,0 +1,280 @@
+// The marks of starts: read, set, moved on with the window, and the pass that follows the lengths of known ADUs.
+ghost use mathlib.Core.Path.{_≡_};
+ghost use Prim.Native.Nat.{_+_, _%_, _≤_, _<_};
+ghost use lib.ListN.{length};
+ghost use Rattle.table.specs.Window.{place, Fits};
+ghost use Rattle.marks.specs.Marks.{markAt, marked};
+ghost use Rattle.marks.specs.MarkSteps.{Written, Dropped, Noted, Stepped, Followed, Owned, Decided, Extended, Updated, OneKnown, Tallied};
+ghost use Rattle.marks.specs.Contracts.{Cleared, Added, Moved, Passed};
+use table::Shape;
+
+// The row of the i-th position of the window.
+pub fn row_of(shape: Shape, i: usize) -> usize
+    requires { ⌜ (shape .base < shape .width) × (i < shape .width) × (shape .width ≤ 255) ⌝ }
+    ensures { λ r. ⌜ (r ≡ (shape .base + i) % shape .width) × (r < shape .width) ⌝ }
+{
+    let r = shape.base + i;
+    if r < shape.width { r } else { r - shape.width }
+}
+
+// Where the mark of the i-th position of the window, or of the one just past it, stands.
+fn mark_at(shape: Shape, i: usize) -> usize
+    requires { ⌜ (shape .base < shape .width) × (i ≤ shape .width) × (shape .width ≤ 255) × (shape .size ≤ 1500) ⌝ }
+    ensures { λ at. ⌜ (at ≡ markAt (shape .width) (shape .size) (shape .base) i) × (at < place (shape .width) (shape .size) (shape .width)) ⌝ }
+{
+    let w = shape.width;
+    if i < w {
+        let n = w + shape.size;
+        let r = row_of(shape, i);
+        64 + r * (n + 4) + (n + 1)
+    } else {
+        10
+    }
+}
+
+// Where the symbol of the row `r` begins.
+pub fn symbol_at(shape: Shape, r: usize) -> usize
+    requires { ⌜ (r < shape .width) × (shape .width ≤ 255) × (shape .size ≤ 1500) ⌝ }
+    ensures { λ at. ⌜ (at ≡ place (shape .width) (shape .size) r + shape .width)
+        × (at + shape .size ≤ place (shape .width) (shape .size) (shape .width)) ⌝ }
+{
+    64 + r * (shape.width + shape.size + 4) + shape.width
+}
+
+// One if the i-th position is one of the window and known, else zero.
+fn one_known(mem: &[u8], shape: Shape, i: usize) -> usize
+    requires { ⌜ Fits (shape .width) (shape .size) (now mem) × (shape .base < shape .width) ⌝ }
+    ensures { λ r. ⌜ OneKnown (shape .width) (shape .size) (shape .base) i r (now (mem .entry)) ⌝ }
+{
+    if shape.width <= i {
+        return 0;
+    }
+    let r = row_of(shape, i);
+    if placing::is_known(mem, shape, r) {
+        1
+    } else {
+        0
+    }
+}
+
+// How many of the n positions from `first` on are known.
+pub fn known_among(mem: &[u8], shape: Shape, first: usize, n: usize) -> usize
+    requires { ⌜ Fits (shape .width) (shape .size) (now mem) × (shape .base < shape .width) × (first + n ≤ 100000) ⌝ }
+    ensures { λ r. ⌜ Tallied (shape .width) (shape .size) (shape .base) first n r (now (mem .entry)) ⌝ }
+{
+    let mut count: usize = 0;
+    for i in 0..n {
+        count += one_known(mem, shape, first + i);
+    }
+    count
+}
+
+// Whether the i-th position of the window, or the one just past it, is marked.
+pub fn is_marked(mem: &[u8], shape: Shape, i: usize) -> bool
+    requires { ⌜ Fits (shape .width) (shape .size) (now mem) × (shape .base < shape .width) × (i ≤ shape .width) ⌝ }
+    ensures { λ r. ⌜ r ≡ marked (shape .width) (shape .size) (shape .base) (now (mem .entry)) i ⌝ }
+{
+    let at = mark_at(shape, i);
+    0 < mem[at]
+}
+
+// The byte of the i-th position's mark becomes `v`.
+fn write(mem: &mut [u8], shape: Shape, i: usize, v: u8)
+    requires { ⌜ Fits (shape .width) (shape .size) (now mem) × (shape .base < shape .width) × (i ≤ shape .width) ⌝ }
+    ensures { λ _. ⌜ Written (shape .width) (shape .size) (shape .base) i v (now (mem .entry)) (now (mem .exit)) ⌝ }
+{
+    let at = mark_at(shape, i);
+    mem[at] = v;
+}
+
+// The first n positions are no longer marked.
+fn drop_first(mem: &mut [u8], shape: Shape, n: usize)
+    requires { ⌜ Fits (shape .width) (shape .size) (now mem) × (shape .base < shape .width) × (n ≤ shape .width + 1) ⌝ }
+    ensures { λ _. ⌜ Dropped (shape .width) (shape .size) (shape .base) n (now (mem .entry)) (now (mem .exit)) ⌝ }
+{
+    for i in 0..n {
+        write(mem, shape, i, 0);
+    }
+}
+
+// The i-th position of the window, or the one just past it, is marked.
+fn set(mem: &mut [u8], shape: Shape, i: usize)
+    requires { ⌜ Fits (shape .width) (shape .size) (now mem) × (shape .base < shape .width) × (i ≤ shape .width) ⌝ }
+    ensures { λ _. ⌜ Added (shape .width) (shape .size) (shape .base) i (now (mem .entry)) (now (mem .exit)) ⌝ }
+{
+    write(mem, shape, i, 1);
+}
+
+// No position is marked.
+pub fn clear(mem: &mut [u8], shape: Shape)
+    requires { ⌜ Fits (shape .width) (shape .size) (now mem) × (shape .base < shape .width) ⌝ }
+    ensures { λ _. ⌜ Cleared (shape .width) (shape .size) (now (mem .entry)) (now (mem .exit)) ⌝ }
+{
+    drop_first(mem, shape, shape.width + 1);
+}
+
+// The window moves on by `rise` positions: marks below its base are dropped, and the one just past it comes into a row.
+fn move_on(mem: &mut [u8], shape: Shape, rise: usize)
+    requires { ⌜ Fits (shape .width) (shape .size) (now mem) × (shape .base < shape .width) ⌝ }
+    ensures { λ _. ⌜ Moved (shape .width) (shape .size) (shape .base) rise (now (mem .entry)) (now (mem .exit)) ⌝ }
+{
+    if rise == 0 {
+        return;
+    }
+    let w = shape.width;
+    if w < rise {
+        drop_first(mem, shape, w + 1);
+        return;
+    }
+    let past = mem[10];
+    drop_first(mem, shape, rise);
+    write(mem, shape, w, 0);
+    write(mem, shape, 0, past);
+}
+
+// Whether an ADU ends past the window is noted.
+fn note(mem: &mut [u8], v: u8)
+    requires { ⌜ 64 ≤ length (now mem) ⌝ }
+    ensures { λ _. ⌜ Noted v (now (mem .entry)) (now (mem .exit)) ⌝ }
+{
+    mem[11] = v;
+}
+
+// The turn of the i-th position in the pass: if it is marked and known, it marks the position where the ADU that it begins ends. Gives that
+// position if it was not marked before, else the width.
+fn step(mem: &mut [u8], shape: Shape, i: usize) -> usize
+    requires { ⌜ Fits (shape .width) (shape .size) (now mem) × (shape .base < shape .width) × (i < shape .width) ⌝ }
+    ensures { λ r. ⌜ Stepped (shape .width) (shape .size) (shape .base) i r (now (mem .entry)) (now (mem .exit)) ⌝ }
+{
+    let w = shape.width;
+    if !is_marked(mem, shape, i) {
+        return w;
+    }
+    let r = row_of(shape, i);
+    if !placing::is_known(mem, shape, r) {
+        return w;
+    }
+    let at = symbol_at(shape, r);
+    let n = wire::symbol_count(shape.size, memory::load_u16(mem, at + 1) as usize);
+    if w < n {
+        return w;
+    }
+    if w - i < n {
+        note(mem, 1);
+        return w;
+    }
+    if is_marked(mem, shape, i + n) {
+        return w;
+    }
+    set(mem, shape, i + n);
+    i + n
+}
+
+// The turns of all positions of the window, rising.
+fn step_all(mem: &mut [u8], shape: Shape)
+    requires { ⌜ Fits (shape .width) (shape .size) (now mem) × (shape .base < shape .width) ⌝ }
+    ensures { λ _. ⌜ Passed (shape .width) (shape .size) (shape .base) (now (mem .entry)) (now (mem .exit)) ⌝ }
+{
+    let w = shape.width;
+    for i in 0..w {
+        step(mem, shape, i);
+    }
+}
+
+// A marked known position marks the one where the ADU that it begins ends, rising through the window.
+fn pass(mem: &mut [u8], shape: Shape)
+    requires { ⌜ Fits (shape .width) (shape .size) (now mem) × (shape .base < shape .width) ⌝ }
+    ensures { λ _. ⌜ Passed (shape .width) (shape .size) (shape .base) (now (mem .entry)) (now (mem .exit)) ⌝ }
+{
+    note(mem, 0);
+    step_all(mem, shape);
+}
+
+// The turns of the position `from`, and of the one that it marks, and so on.
+fn walk(mem: &mut [u8], shape: Shape, from: usize)
+    requires { ⌜ Fits (shape .width) (shape .size) (now mem) × (shape .base < shape .width) × (from ≤ shape .width) ⌝ }
+    ensures { λ _. ⌜ Followed (shape .width) (shape .size) (shape .base) (λ k. k ≡ from) (now (mem .entry)) (now (mem .exit)) ⌝ }
+{
+    let w = shape.width;
+    let mut i = from;
+    while i < w {
+        i = step(mem, shape, i);
+    }
+}
+
+// Walks from each of the n positions from `first` on.
+fn walk_all(mem: &mut [u8], shape: Shape, first: usize, n: usize)
+    requires { ⌜ Fits (shape .width) (shape .size) (now mem) × (shape .base < shape .width) × (first + n ≤ shape .width + 1) ⌝ }
+    ensures { λ _. ⌜ Followed (shape .width) (shape .size) (shape .base) (λ k. (first ≤ k) × (k < first + n)) (now (mem .entry)) (now (mem .exit)) ⌝ }
+{
+    for i in 0..n {
+        walk(mem, shape, first + i);
+    }
+}
+
+// A packet with `named` symbols of its own from the position `first` on, if any, marks that and the one after its last.
+fn set_own(mem: &mut [u8], shape: Shape, first: usize, named: usize)
+    requires { ⌜ Fits (shape .width) (shape .size) (now mem) × (shape .base < shape .width) × (first + named ≤ shape .width) ⌝ }
+    ensures { λ _. ⌜ Owned (shape .width) (shape .size) (shape .base) first named (now (mem .entry)) (now (mem .exit)) ⌝ }
+{
+    if named == 0 {
+        return;
+    }
+    set(mem, shape, first + named);
+    set(mem, shape, first);
+}
+
+// Whether only the pass will do: positions other than the packet's own have become known, or an ADU that ended past the window may end in it.
+fn must_pass(mem: &[u8], rise: usize, others: bool) -> bool
+    requires { ⌜ 64 ≤ length (now mem) ⌝ }
+    ensures { λ r. ⌜ Decided rise others (now (mem .entry)) r ⌝ }
+{
+    if others {
+        return true;
+    }
+    if rise == 0 {
+        return false;
+    }
+    0 < mem[11]
+}
+
+// What the marks reach is marked, after a packet with `named` symbols of its own from the position `first` on.
+fn reach(mem: &mut [u8], shape: Shape, rise: usize, first: usize, named: usize, others: bool)
+    requires { ⌜ Fits (shape .width) (shape .size) (now mem) × (shape .base < shape .width) × (first + named ≤ shape .width) ⌝ }
+    ensures { λ _. ⌜ Extended (shape .width) (shape .size) (shape .base) rise first named others (now (mem .entry)) (now (mem .exit)) ⌝ }
+{
+    if must_pass(mem, rise, others) {
+        pass(mem, shape);
+        return;
+    }
+    if named == 0 {
+        return;
+    }
+    walk_all(mem, shape, first, named + 1);
+}
+
+// A packet was accepted, with `named` symbols of its own from the position `first` on: the window has moved on by `rise` positions from the row
+// `oldest` on, and the packet's first position and the one after its last are marked, and what they and the marks before reach. `others` tells
+// whether positions other than the packet's own have become known.
+pub fn update(
+    mem: &mut [u8],
+    shape: Shape,
+    oldest: usize,
+    rise: usize,
+    first: usize,
+    named: usize,
+    others: bool,
+)
+    requires { ⌜ Fits (shape .width) (shape .size) (now mem) × (oldest < shape .width) × (shape .base ≡ (oldest + rise) % shape .width)
+        × (first + named ≤ shape .width) ⌝ }
+    ensures { λ _. ⌜ Updated (shape .width) (shape .size) oldest rise first named others (now (mem .entry)) (now (mem .exit)) ⌝ }
+{
+    let before = Shape {
+        width: shape.width,
+        size: shape.size,
+        base: oldest,
+    };
+    move_on(mem, before, rise);
+    set_own(mem, shape, first, named);
+    reach(mem, shape, rise, first, named, others);
+}

@@ -1,0 +1,15 @@
+-- No position past the window is known.
+use mathlib.Core.Path.{_≡_, refl}
+use mathlib.Core.Option.{none}
+use Prim.Native.Nat.{ℕ, zero, suc, _≤_}
+use native.Mathlib.Nat.{not-suc-le-zero, le-of-suc-le-suc}
+use Rattle.decoder.specs.Field.{Ops}
+use Rattle.decoder.specs.Model.{State, end, free, pivot, known}
+
+pub known-past : {O : Ops} {n : ℕ} (S : State O n) (i : ℕ) → n ≤ i → known S i ≡ none
+unfolding known
+known-past end i h = refl
+known-past (free S) zero h = absurd (not-suc-le-zero h)
+known-past (free S) (suc i) h = known-past S i (le-of-suc-le-suc h)
+known-past (pivot r S) zero h = absurd (not-suc-le-zero h)
+known-past (pivot r S) (suc i) h = known-past S i (le-of-suc-le-suc h)
