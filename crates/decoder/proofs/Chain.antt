@@ -138,9 +138,6 @@ module _ {O : Ops} (L : Laws O) where
         ap (λ d. axpy O n (at O n (g k) d) (g k) d) (chain-reduce k e (chain-before k c))
         ∙ sym (reduce-place (place-rows g k S) (g k) e (c .reduced k (omega arith)) (c .leads k (omega arith)))
 
-    pub chain-eliminate : (k : ℕ) (e : Row O n) → Reduced S e → Chain S g k → eliminate O n g k e ≡ reduce (place-rows g k S) e
-    chain-eliminate k e r c = ap (eliminate O n g k) (sym (reduce-fixed S e r)) ∙ chain-reduce k e c
-
   -- Only the first `k` rows count.
   pub eliminate-same : (n : ℕ) (g h : ℕ → Row O n) (k : ℕ) (e : Row O n) → ((j : ℕ) → j < k → g j ≡ h j) → eliminate O n g k e ≡ eliminate O n h k e
   unfolding eliminate

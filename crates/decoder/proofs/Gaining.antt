@@ -120,9 +120,6 @@ module _ {O : Ops} (L : Laws O) where
     chain-gain k c =
         count-steps n (known (place-rows g (suc k) S)) (known (place-rows g k S)) (known S) (chain-step k c) (chain-known k (chain-before L S g k c))
 
-  pub no-gain : {n : ℕ} (S : State O n) → count-new n (known S) (known S) ≡ 0
-  no-gain {n} S = let x = count-split n (known S) (known S) (λ i e. e) in omega arith
-
   -- The count of a call is the gain over the window moved on.
   pub newly-gain : {w : ℕ} (b d : ℕ) (S T : State O w)
       → newly (record { base = b; window = S }) (record { base = b +ₙ d; window = T }) ≡ count-new w (known T) (known (advance-by d S))

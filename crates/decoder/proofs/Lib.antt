@@ -6,7 +6,6 @@ pub mod Canonical
 pub mod History
 pub mod Promises
 pub mod Packets
-pub mod Esi
 pub mod Jump
 pub mod Counting
 pub mod Refine

@@ -1,7 +1,7 @@
 // An equation of a packet in working memory. It is laid in a row, reduced there by the state's rows that stay and by the packet's rows before
 // it, and kept as the packet's next row, unless it is implied by these or contradicts them. The state is only read.
 ghost use mathlib.Core.Path.{_≡_};
-ghost use Prim.Native.Nat.{ℕ, _+_, _%_, _≤_, _<_};
+ghost use Prim.Native.Nat.{_+_, _%_, _≤_, _<_};
 ghost use lib.ListN.{length, take};
 ghost use Rattle.table.specs.Window.{row, inUse, Fits};
 ghost use Rattle.table.specs.Packet.{Works};
@@ -78,7 +78,7 @@ fn collect(
         let k = multiplier(mem, shape, c, equation[c]);
         multipliers[c] = k;
         any = any | k;
-        c = table::next(c, w);
+        c = memory::next(c, w);
     }
     any
 }
@@ -158,7 +158,7 @@ fn find_pivot(work: &[u8], shape: Shape, first: usize, from: usize, to: usize) -
                 break 'rows Pivot::At(r, c);
             }
             i += 1;
-            c = table::next(c, w);
+            c = memory::next(c, w);
         }
         r += 1;
     }
@@ -183,7 +183,7 @@ fn settle(work: &mut [u8], shape: Shape, k: usize, first: usize) -> Verdict
     ensures { λ r. ⌜ Settled (shape .width) (shape .size) first k r (now (work .entry)) (now (work .exit)) ⌝ }
 {
     let w = shape.width;
-    if let Pivot::At(r, c) = find_pivot(work, shape, first, k, least(k + 1, w)) {
+    if let Pivot::At(r, c) = find_pivot(work, shape, first, k, memory::least(k + 1, w)) {
         normalise(work, shape, r, c);
         return Verdict::Kept;
     }
@@ -192,13 +192,6 @@ fn settle(work: &mut [u8], shape: Shape, k: usize, first: usize) -> Verdict
         return Verdict::Implied;
     }
     Verdict::Contradiction
-}
-
-// The smaller of both.
-fn least(a: usize, b: usize) -> usize
-    ensures { λ r. ⌜ (r ≤ a) × (r ≤ b) × ((i : ℕ) → i ≤ a → i ≤ b → i ≤ r) ⌝ }
-{
-    if a < b { a } else { b }
 }
 
 // How many columns after the base the column `c` comes.
@@ -222,7 +215,7 @@ fn staying(shape: Shape, first: usize, count: usize, stay: usize) -> usize
     if stay <= d {
         return 0;
     }
-    least(count, stay - d)
+    memory::least(count, stay - d)
 }
 
 // The equation in the row `kept` of working memory, with coefficients in the `count` columns from `first` on, for the window from `shape.base`

@@ -1,6 +1,6 @@
 // Handing out an ADU: its symbols are looked up in the window, its padding is checked, and its bytes are copied from where the symbols stand.
 ghost use mathlib.Core.Path.{_≡_};
-ghost use Prim.Native.Nat.{_+_, _≤_, _<_, min};
+ghost use Prim.Native.Nat.{_+_, _≤_, _<_};
 ghost use lib.ListN.{length, drop};
 ghost use Rattle.memory.specs.Part.{part, splice};
 ghost use Rattle.table.specs.Window.{Fits};
@@ -47,13 +47,6 @@ fn is_padded(mem: &[u8], shape: Shape, d: usize, n: usize, len: usize) -> bool
     table::or_all(mem, last + (3 + len - before), last + shape.size) == 0
 }
 
-// The smaller of both.
-fn least(a: usize, b: usize) -> usize
-    ensures { λ r. ⌜ r ≡ min a b ⌝ }
-{
-    if a < b { a } else { b }
-}
-
 // Copies the ADU of `len` bytes in the `n` symbols from the d-th on to the front of the output: from each symbol what it has of it, which is
 // all of it but what stands before the ADU and after it.
 fn copy_adu(mem: &[u8], shape: Shape, d: usize, n: usize, len: usize, out: &mut [u8])
@@ -65,7 +58,7 @@ fn copy_adu(mem: &[u8], shape: Shape, d: usize, n: usize, len: usize, out: &mut 
     let mut at: usize = 0;
     let mut skip: usize = 3;
     for i in 0..n {
-        let k = least(shape.size - skip, len - at);
+        let k = memory::least(shape.size - skip, len - at);
         let from = symbol_of(shape, d + i);
         memory::copy_part(out, at, mem, from + skip, k);
         at = at + k;

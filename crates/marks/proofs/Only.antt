@@ -111,10 +111,6 @@ row-no-mark w E r k h = record { header = λ e. omega arith; rows = λ q l e. go
     go q e (no l) (yes g) = omega (arith, e, row-fits r (stride w E) q g)
     go q e (no l) (no g) = let s : q ≡ r = omega arith in omega (arith, e, ap (λ x. x * stride w E) s)
 
--- The system that the memory holds.
-pub only-window : {w E : ℕ} {m m′ : List ℕ} → 0 < w → OnlyMarks w E m m′ → (b : ℕ) (S : State (Coded E) w) → Window w E m b S → Window w E m′ b S
-only-window {w} {E} {m} {m′} pos o = window-same w E m m′ pos (λ r l k n. o .others (place w E r + k) (row-no-mark w E r k n))
-
 -- ---- nothing but marks and the note has changed
 
 pub starts-refl : {w E : ℕ} {m : List ℕ} → OnlyStarts w E m m

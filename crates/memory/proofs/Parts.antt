@@ -48,11 +48,6 @@ drop-splice zero a x m h = rw zero-add
 drop-splice (suc n) a x [] h = absurd (not-suc-le-zero (rw suc-add at h))
 drop-splice (suc n) a x (y ∷ m) h = rw suc-add (drop-splice n a x m (le-of-suc-le-suc (rw suc-add at h)))
 
--- the front of a splice at the front
-pub take-front : (n : ℕ) (x m : List ℕ) → n ≤ length x → take n (splice 0 x m) ≡ take n x
-unfolding splice
-take-front n x m h = take-append-le n x _ h
-
 -- what is past x
 pub drop-front : (n : ℕ) (x m : List ℕ) → drop (length x + n) (splice 0 x m) ≡ drop (length x + n) m
 unfolding splice

@@ -44,7 +44,7 @@ pub fn move_on(mem: &mut [u8], shape: Shape, rise: usize)
             return;
         }
         set_flag(mem, shape, oldest, 0);
-        oldest = table::next(oldest, w);
+        oldest = memory::next(oldest, w);
     }
 }
 

@@ -1,6 +1,6 @@
 // The header at the front of a receiver's memory.
 ghost use mathlib.Core.Path.{_≡_};
-ghost use Prim.Native.Nat.{_-_, _≤_};
+ghost use Prim.Native.Nat.{_≤_};
 ghost use lib.ListN.{length};
 ghost use Rattle.wire.specs.Settings.{Valid};
 ghost use Rattle.history.specs.History.{memorySize, workingSize};
@@ -28,13 +28,6 @@ pub fn working_size(setting: Setting) -> usize
     64 + (setting.width + 1) * (setting.width + setting.size + 4)
 }
 
-// By how much `a` is more than `b`.
-pub fn excess(a: usize, b: usize) -> usize
-    ensures { λ r. ⌜ r ≡ a - b ⌝ }
-{
-    if a < b { 0 } else { a - b }
-}
-
 // Reads the header, if the memory has a receiver's and is long enough for its setting.
 pub fn read_header(mem: &[u8]) -> Found
     ensures { λ r. ⌜ r ≡ foundOf (headerIn (now (mem .entry))) ⌝ }
@@ -50,7 +43,7 @@ pub fn read_header(mem: &[u8]) -> Found
     if setting.width < stored {
         return Found::NoHeader;
     }
-    let row = excess(stored, 1);
+    let row = memory::excess(stored, 1);
     let base = Esi(memory::load_u32(mem, 12));
     Found::HeaderIs(Header {
         setting,

@@ -67,7 +67,7 @@ pub fn locate(header: Header, first: Esi, n: usize) -> PlaceFound
         return PlaceFound::Out(Refusal::Ahead);
     }
     let width = header.setting.width;
-    let rise = front::excess(d + n, width);
+    let rise = memory::excess(d + n, width);
     let shape = Shape {
         width,
         size: header.setting.size,
@@ -76,7 +76,7 @@ pub fn locate(header: Header, first: Esi, n: usize) -> PlaceFound
     PlaceFound::PlaceIs(PacketPlace {
         shape,
         rise,
-        stay: front::excess(width, rise),
+        stay: memory::excess(width, rise),
         first: (header.row + d) % width,
         offset: d - rise,
     })
@@ -156,7 +156,7 @@ pub fn accept(
     let had = marks::known_among(mem, before, place.rise + place.offset, own);
     let known = finish(mem, work, header, place, kept);
     let has = marks::known_among(mem, place.shape, place.offset, own);
-    let others = known != front::excess(has, had);
+    let others = known != memory::excess(has, had);
     marks::update(
         mem,
         place.shape,

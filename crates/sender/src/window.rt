@@ -1,6 +1,6 @@
 // The window's slots: the symbol of position p stands in slot p mod width.
 ghost use mathlib.Core.Path.{_≡_};
-ghost use Prim.Native.Nat.{_+_, _*_, _%_, _<_, _≤_, min};
+ghost use Prim.Native.Nat.{_+_, _*_, _<_, _≤_};
 ghost use lib.ListN.{length};
 ghost use mathlib.Core.Option.{some};
 ghost use Rattle.memory.specs.Part.{part, splice};
@@ -10,23 +10,6 @@ ghost use Rattle.sender.specs.Inner.{Fitting, PlacedAdu, Takeable, Took}
 use super::Header;
 use super::front;
 use wire::Setting;
-
-// The slot after a slot, around the window.
-pub fn next_slot(slot: usize, width: usize) -> usize
-    requires { ⌜ (slot < width) × (width ≤ 255) ⌝ }
-    ensures { λ r. ⌜ r ≡ (slot + 1) % width ⌝ }
-{
-    if slot + 1 == width {
-        return 0;
-    }
-    slot + 1
-}
-
-fn smaller(a: usize, b: usize) -> usize
-    ensures { λ r. ⌜ r ≡ min a b ⌝ }
-{
-    if a < b { a } else { b }
-}
 
 // The i-th symbol of an ADU, of `size` bytes, at a.
 fn place_symbol(mem: &mut [u8], a: usize, size: usize, flow: u8, adu: &[u8], i: usize)
@@ -53,7 +36,7 @@ fn place_symbols(
     let mut slot = first;
     for i in 0..count {
         place_symbol(mem, 32 + slot * size, size, flow, adu, i);
-        slot = next_slot(slot, width);
+        slot = memory::next(slot, width);
     }
     slot
 }
@@ -65,7 +48,7 @@ pub fn take_adu(mem: &mut [u8], header: Header, flow: u8, adu: &[u8], count: usi
 {
     let setting = header.setting;
     let next = place_symbols(mem, setting, header.next, flow, adu, count);
-    let held = smaller(header.held + count, setting.width);
+    let held = memory::least(header.held + count, setting.width);
     let esi = header.esi;
     front::write_counts(mem, held, next, esi.plus(count as u32));
 }

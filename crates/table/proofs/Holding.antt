@@ -1,14 +1,13 @@
 -- The system that a memory holds is what its rows say: a store in the header, or in a row's other flags, leaves it.
 use mathlib.Core.Path.{_≡_, refl, sym, ap, _∙_, subst}
 use mathlib.Core.List.{List, [], _∷_}
-use Prim.Native.Nat.{ℕ, zero, suc, _+_, _*_, _%_, _≤_, _<_}
+use Prim.Native.Nat.{ℕ, zero, suc, _+_, _%_, _≤_, _<_}
 use native.Mathlib.Nat.{mod-lt}
-use native.Mathlib.Decide.{decLt}
 use native.Mathlib.Omega.{arith}
 use lib.ListN.{length, getD}
 use lib.Dec.{ltb}
 use Rattle.memory.specs.Part.{splice}
-use Rattle.memory.proofs.Parts.{getD-part, getD-past, row-fits}
+use Rattle.memory.proofs.Parts.{getD-part, getD-past}
 use Rattle.decoder.specs.Bytes.{Coded}
 use Rattle.decoder.specs.Model.{State}
 use Rattle.decoder.specs.Table.{Echelon, view}
@@ -59,20 +58,3 @@ getD-before i zero x m h l = absurd (omega arith)
 getD-before i (suc a) x [] h l = absurd (omega arith)
 getD-before zero (suc a) x (y ∷ m) h l = refl
 getD-before (suc i) (suc a) x (y ∷ m) h l = getD-before i a x m (omega arith) (omega arith)
-
--- So does a store in a row's flags after the first, as a mark.
-pub window-flag : (w E r k b : ℕ) (v : ℕ) (m : List ℕ) (S : State (Coded E) w) → Fits w E m → r < w → w + E < k → k < stride w E
-    → Window w E m b S → Window w E (splice (place w E r + k) (v ∷ []) m) b S
-window-flag w E r k b v m S fits h c d =
-    window-same w E m (splice (place w E r + k) (v ∷ []) m) (fits .some-width) (λ q g j n. go q g j n (decLt r q)) b S
-  where
-    inside : place w E r + k ≤ length m
-    inside = omega (arith, fits .room, row-fits w (stride w E) r h)
-
-    go : (q : ℕ) → q < w → (j : ℕ) → j < w + E + 1 → Dec (r < q) → getD (splice (place w E r + k) (v ∷ []) m) (place w E q + j) 0 ≡ getD m (place w E q + j) 0
-    go q g j n (yes l) = getD-past (place w E q + j) (place w E r + k) (v ∷ []) m (omega (arith, row-fits q (stride w E) r l)) inside
-    go q g j n (no l) = getD-before (place w E q + j) (place w E r + k) (v ∷ []) m (before q j n (decLt q r) l) inside
-      where
-        before : (q j : ℕ) → j < w + E + 1 → Dec (q < r) → (r < q → ⊥) → place w E q + j < place w E r + k
-        before q j n (yes e) l = omega (arith, row-fits r (stride w E) q e)
-        before q j n (no e) l = let s : q ≡ r = omega arith in omega (arith, ap (λ x. x * stride w E) s)

@@ -2,7 +2,7 @@
 // Row and column of a position are its remainder by the width, so nothing moves when the base rises.
 ghost use mathlib.Core.Path.{_≡_};
 ghost use mathlib.Core.Logic.{_↔_};
-ghost use Prim.Native.Nat.{_+_, _%_, _<_, _≤_};
+ghost use Prim.Native.Nat.{_≤_};
 ghost use lib.ListN.{length};
 ghost use Rattle.table.specs.RowSteps.{RowAt, Zero-from};
 
@@ -19,14 +19,6 @@ pub fn start_of(shape: Shape, r: usize) -> usize
     ensures { λ at. ⌜ RowAt (shape .width) (shape .size) r at ⌝ }
 {
     64 + r * (shape.width + shape.size + 4)
-}
-
-// The row of the next position: the one after `r`, or the first.
-pub fn next(r: usize, w: usize) -> usize
-    requires { ⌜ r < w ⌝ }
-    ensures { λ n. ⌜ (n ≡ (r + 1) % w) × (n < w) ⌝ }
-{
-    if r + 1 == w { 0 } else { r + 1 }
 }
 
 // The bytes from `from` on and before `to`, or-ed: zero just where all are.

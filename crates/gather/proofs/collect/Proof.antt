@@ -12,7 +12,7 @@ use Rattle.gather.proofs.collect.Tie as tie
 use Rattle.gather.proofs.collect.Reads as reads
 use Rattle.gather.proofs.collect.Lts as lts
 use Rattle.gather.proofs.multiplier.Reads as multiplier-reads
-use Rattle.table.proofs.next.Reads as next-reads
+use Rattle.memory.proofs.next.Reads as next-reads
 
 abbrev Inv-loop : tie.InvT-loop
 Inv-loop mem equation multipliers₀ shape first n w c₀ any₀ -i₀ multipliers c any -i =

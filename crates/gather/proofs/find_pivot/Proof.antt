@@ -11,7 +11,7 @@ use Rattle.gather.proofs.find_pivot.Statement.{statement}
 use Rattle.gather.proofs.find_pivot.Tie as tie
 use Rattle.gather.proofs.find_pivot.Reads as reads
 use Rattle.gather.proofs.find_pivot.Lts as lts
-use Rattle.table.proofs.next.Reads as next-reads
+use Rattle.memory.proofs.next.Reads as next-reads
 use Rattle.table.proofs.start_of.Reads as start-of-reads
 
 abbrev Inv-loop : tie.InvT-loop

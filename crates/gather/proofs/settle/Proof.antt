@@ -14,7 +14,7 @@ use Rattle.gather.proofs.settle.Reads as reads
 use Rattle.gather.proofs.settle.Lts as lts
 use Rattle.table.proofs.or_all.Reads as or-all-reads
 use Rattle.gather.proofs.find_pivot.Reads as find-pivot-reads
-use Rattle.gather.proofs.least.Reads as least-reads
+use Rattle.memory.proofs.least.Reads as least-reads
 use Rattle.gather.proofs.normalise.Reads as normalise-reads
 use Rattle.table.proofs.start_of.Reads as start-of-reads
 
@@ -28,7 +28,7 @@ find-pivot-requires : tie.Need-find-pivot-requires
 find-pivot-requires c κs =
     let start = c .before .before .before in
     let a = start .args in
-    (works-none (start .pre .0), search needs, c .least .ensures .2 (a .k) (omega arith) (omega (arith, start .pre .0 .within)), c .least .ensures .1)
+    (works-none (start .pre .0), search needs, omega (arith, c .least .ensures, start .pre .0 .within), omega (arith, c .least .ensures))
 
 enum-known-r : tie.Need-enum-known-r
 enum-known-r c = search needs
@@ -41,7 +41,7 @@ normalise-requires c κs =
     let column = c .before .before .r .given .0 .1 .0 in
     let found = subst (λ p. Searched (a .shape .width) (a .shape .size) (a .first) (a .k) (c .before .before .before .before .before .least .result) p (a .work .now)) (c .before .before .r .given .1) (c .before .before .before .before .find-pivot .ensures) in
     let least = c .before .before .before .before .before .least in
-    let here : a .k ≡ r = omega (arith, found .3, found .4, least .ensures .0) in
+    let here : a .k ≡ r = omega (arith, found .3, found .4, least .ensures) in
     (subst (λ k. Works (a .shape .width) (a .shape .size) k (a .work .now)) here (start .pre .0), omega (arith, found .2, mod-lt (a .first + found .0) {m = a .shape .width} (omega arith)))
 
 same-length : tie.Need-same-length
@@ -56,7 +56,7 @@ returns c =
     let found = subst (λ p. Searched (a .shape .width) (a .shape .size) (a .first) (a .k) (c .before .before .before .before .before .before .before .before .least .result) p (a .work .now)) (c .before .before .before .before .before .r .given .1) (c .before .before .before .before .before .before .before .find-pivot .ensures) in
     let least = c .before .before .before .before .before .before .before .before .least in
     settled-kept (a .shape .width) (a .shape .size) (a .first) (a .k) (a .work .now) (start .pre .0) (λ i. c .before .before .before .before .before .before .before .before .before .before .slice-known .given i .fits) r column (found .0) (c .before .before .normalise .last .0)
-    (found .3) (omega (arith, found .4, least .ensures .0)) (omega (arith, found .4, least .ensures .1)) (found .1) (found .2) (found .6) (c .before .before .normalise .ensures)
+    (found .3) (omega (arith, found .4, least .ensures)) (omega (arith, found .4, least .ensures)) (found .1) (found .2) (found .6) (c .before .before .normalise .ensures)
 
 enum-told : tie.Need-enum-told
 enum-told c = search needs
@@ -83,7 +83,7 @@ returns-2 c =
     let found = subst (λ p. Searched (a .shape .width) (a .shape .size) (a .first) (a .k) (c .before .before .before .before .before .before .before .before .least .result) p (a .work .now)) (c .before .before .before .before .before .enum-told .given .1) (c .before .before .before .before .before .before .before .find-pivot .ensures) in
     let least = c .before .before .before .before .before .before .before .before .least in
     settled-implied (a .shape .width) (a .shape .size) (a .first) (a .k) (a .work .now) (start .pre .0) (λ i. c .before .before .before .before .before .before .before .before .before .before .slice-known .given i .fits) (c .before .before .before .before .start-of .result + a .shape .width)
-    (ap (λ x. x + a .shape .width) (c .before .before .before .before .start-of .ensures .start)) (λ h. found (a .k) (omega arith) (omega (arith, least .ensures .2 (a .k + 1) (omega arith) (omega arith))))
+    (ap (λ x. x + a .shape .width) (c .before .before .before .before .start-of .ensures .start)) (λ h. found (a .k) (omega arith) (omega (arith, least .ensures)))
     (c .before .or-all .ensures .0 (c .if1 .taken))
 
 same-length-3 : tie.Need-same-length-3
@@ -96,7 +96,7 @@ returns-3 c =
     let found = subst (λ p. Searched (a .shape .width) (a .shape .size) (a .first) (a .k) (c .before .before .before .before .before .before .before .before .least .result) p (a .work .now)) (c .before .before .before .before .before .enum-told .given .1) (c .before .before .before .before .before .before .before .find-pivot .ensures) in
     let least = c .before .before .before .before .before .before .before .before .least in
     settled-contradiction (a .shape .width) (a .shape .size) (a .first) (a .k) (a .work .now) (start .pre .0) (λ i. c .before .before .before .before .before .before .before .before .before .before .slice-known .given i .fits) (c .before .before .before .before .start-of .result + a .shape .width)
-    (ap (λ x. x + a .shape .width) (c .before .before .before .before .start-of .ensures .start)) (λ h. found (a .k) (omega arith) (omega (arith, least .ensures .2 (a .k + 1) (omega arith) (omega arith))))
+    (ap (λ x. x + a .shape .width) (c .before .before .before .before .start-of .ensures .start)) (λ h. found (a .k) (omega arith) (omega (arith, least .ensures)))
     (λ z. c .if1 .left (c .before .or-all .ensures .1 z))
 
 pub settle-spec : {M : Type 1} → statement M

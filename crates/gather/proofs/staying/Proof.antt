@@ -7,7 +7,7 @@ use Rattle.gather.proofs.staying.Tie as tie
 use Rattle.gather.proofs.staying.Reads as reads
 use Rattle.gather.proofs.staying.Lts as lts
 use Rattle.gather.proofs.distance.Reads as distance-reads
-use Rattle.gather.proofs.least.Reads as least-reads
+use Rattle.memory.proofs.least.Reads as least-reads
 
 distance-requires : tie.Need-distance-requires
 distance-requires c κs = search needs
@@ -27,7 +27,7 @@ returns-2 : tie.Need-returns-2
 returns-2 c =
     let found = c .before .before .distance in
     let least = c .least in
-    staying-some (found .result) (least .result) (found .ensures .0) (found .ensures .1) (omega arith) (least .ensures .0) (least .ensures .1) (least .ensures .2)
+    staying-some (found .result) (least .result) (found .ensures .0) (found .ensures .1) (omega arith) (omega (arith, least .ensures)) (omega (arith, least .ensures)) (λ i a b. omega (arith, least .ensures))
 
 pub staying-spec : {M : Type 1} → statement M
 staying-spec = tie.close (tie.spec distance-requires returns sub-least least-requires returns-2)

@@ -9,7 +9,7 @@ use Rattle.placing.proofs.move_on.Statement.{statement}
 use Rattle.placing.proofs.move_on.Tie as tie
 use Rattle.placing.proofs.move_on.Reads as reads
 use Rattle.placing.proofs.move_on.Lts as lts
-use Rattle.table.proofs.next.Reads as next-reads
+use Rattle.memory.proofs.next.Reads as next-reads
 use Rattle.placing.proofs.set_flag.Reads as set-flag-reads
 
 abbrev Inv-loop : tie.InvT-loop

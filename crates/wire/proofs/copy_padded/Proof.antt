@@ -9,7 +9,7 @@ returns : tie.Need-returns
 returns c =
     let p = c .before .before .before .before .before .before .before .before in
     let a = p .before .before .before .args in
-    cc (copied (a .at) (a .from) (p .smaller .result) (a .dst .now) (a .adu .now) (omega arith) (omega arith) (p .smaller .ensures))
+    cc (copied (a .at) (a .from) (p .least .result) (a .dst .now) (a .adu .now) (omega arith) (omega arith) (p .least .ensures))
 
 pub copy-padded-spec : {M : Type 1} → statement M
 copy-padded-spec =

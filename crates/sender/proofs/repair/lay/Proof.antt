@@ -21,15 +21,15 @@ loop-holds c = (search needs, refl, refl, refl, laying-none _ _ _ (c .before .be
 slice-write-cs : tie.Need-slice-write-cs Inv-loop μ-loop
 slice-write-cs c = omega (arith, c .before .before .loop .inv .4 .inside)
 
-next-slot-requires : tie.Need-next-slot-requires Inv-loop μ-loop
-next-slot-requires c κs = omega (arith, c .before .before .loop .inv .4 .inside)
+next-requires : tie.Need-next-requires Inv-loop μ-loop
+next-requires c κs = omega (arith, c .before .before .loop .inv .4 .inside)
 
 loop-again : tie.Need-loop-again Inv-loop μ-loop
 loop-again c =
     let a = c .before .before .before .before .before .before .args in
     let l = c .before .before .before .loop in
     let e : length (l .cs) ≡ length (a .cs .now) = l .inv .3 in
-    (search needs, refl, refl, rw length-set e, laying-more (a .first) (a .list .now) (l .cs) (l .slot) (c .next-slot .result) (l .i) (omega arith) (rw e (c .next-slot .ensures)) (l .inv .4))
+    (search needs, refl, refl, rw length-set e, laying-more (a .first) (a .list .now) (l .cs) (l .slot) (c .next .result) (l .i) (omega arith) (rw e (c .next .ensures .0)) (l .inv .4))
 
 returns : tie.Need-returns Inv-loop μ-loop
 returns c = let l = c .before .loop in laying-done _ _ _ (l .slot) (l .i) (omega arith) (l .inv .4)
@@ -43,7 +43,7 @@ lay-spec =
     loop-holds
     (λ c. search needs)
     slice-write-cs
-    next-slot-requires
+    next-requires
     (λ c. search needs)
     (λ c. search needs)
     loop-again

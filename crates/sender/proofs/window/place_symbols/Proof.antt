@@ -45,8 +45,8 @@ add-place-symbol c = omega (arith, bound (c .before .before))
 place-symbol-requires : tie.Need-place-symbol-requires Inv-loop μ-loop
 place-symbol-requires c κs = omega (arith, inside (c .before .before))
 
-next-slot-requires : tie.Need-next-slot-requires Inv-loop μ-loop
-next-slot-requires c κs = omega (arith, c .before .before .before .before .before .loop .inv .1 .within)
+next-requires : tie.Need-next-requires Inv-loop μ-loop
+next-requires c κs = omega (arith, c .before .before .before .before .before .loop .inv .1 .within)
 
 loop-again : tie.Need-loop-again Inv-loop μ-loop
 loop-again c =
@@ -60,7 +60,7 @@ loop-again c =
     let more = placed-more (t .size) (t .width) (a .mem .now) (a .first) (take (l .i) s) (l .mem) (l .slot) (l .inv .1) x (symbol-length (a .flow) (a .adu .now) (t .size) (omega arith) (l .i) h) (omega arith) in
     let e : c .before .before .before .place-symbol .last .0 ≡ splice (32 + l .slot * t .size) x (l .mem) =
     (c .before .before .before .place-symbol .ensures) ∙ ap (λ (y : List ℕ). splice (32 + l .slot * t .size) y (l .mem)) (sym (symbol-at (a .flow) (a .adu .now) (t .size) (l .i) h)) in
-    (omega arith, rw (add-one, take-suc s (l .i) [] k, e, c .next-slot .ensures) more)
+    (omega arith, rw (add-one, take-suc s (l .i) [] k, e, c .next .ensures .0) more)
 
 same-length : tie.Need-same-length Inv-loop μ-loop
 same-length c = c .before .loop .inv .1 .same
@@ -82,7 +82,7 @@ place-symbols-spec =
     mul-place-symbol
     add-place-symbol
     place-symbol-requires
-    next-slot-requires
+    next-requires
     (λ c. omega arith)
     (λ c. omega arith)
     loop-again

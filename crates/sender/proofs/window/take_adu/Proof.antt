@@ -17,8 +17,8 @@ place-symbols-requires c κs =
     let k = c .before .before .before .before .pre .1 in
     record { valid = o .valid; room = o .room; slot = o .next; short = k .short; counted = k .counted }
 
-add-smaller : tie.Need-add-smaller
-add-smaller c = let o = says (c .before .before .before .before .before .before .before .before) in omega arith
+add-least : tie.Need-add-least
+add-least c = let o = says (c .before .before .before .before .before .before .before .before) in omega arith
 
 cast-plus : tie.Need-cast-plus
 cast-plus c = let o = says (c .before .before .before .before .before .before .before .before .before .before .before) in omega arith
@@ -27,7 +27,7 @@ write-counts-requires : tie.Need-write-counts-requires
 write-counts-requires c κs =
     let o = says (c .before .before .before .before .before .before .before .before .before .before .before .before) in
     let p = c .before .before .before .before .before .before .before .place-symbols .ensures in
-    omega (arith, p .same, p .within, c .before .before .before .smaller .ensures)
+    omega (arith, p .same, p .within, c .before .before .before .least .ensures)
 
 same-length : tie.Need-same-length
 same-length c = c .before .before .write-counts .kept .0 ∙ c .before .before .before .before .before .before .before .before .before .before .place-symbols .ensures .same
@@ -38,14 +38,14 @@ returns c =
     let a = s .args in
     let p = c .before .before .before .before .before .before .before .before .before .before .place-symbols in
     let e = rw (c .before .before .before .plus .ensures) at (c .before .before .write-counts .ensures) in
-    rw e (took (a .header) (a .flow) (a .adu .now) (a .mem .now) (p .last .0) (p .result) (a .count) (c .before .before .before .before .before .before .smaller .result) (s .pre .0) (s .pre .1 .counted) (c .before .before .before .before .before .before .smaller .ensures) (p .ensures))
+    rw e (took (a .header) (a .flow) (a .adu .now) (a .mem .now) (p .last .0) (p .result) (a .count) (c .before .before .before .before .before .before .least .result) (s .pre .0) (s .pre .1 .counted) (c .before .before .before .before .before .before .least .ensures) (p .ensures))
 
 pub take-adu-spec : {M : Type 1} → statement M
 take-adu-spec =
     tie.close
     (tie.spec
     place-symbols-requires
-    add-smaller
+    add-least
     (λ c κs. search needs)
     cast-plus
     (λ c κs. search needs)

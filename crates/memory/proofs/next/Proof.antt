@@ -1,13 +1,13 @@
--- `table::next` meets its contract.
+-- `memory::next` meets its contract.
 use mathlib.Core.Path.{sym, ap, _∙_}
 use Prim.Native.Nat.{_%_}
 use native.Mathlib.Nat.{mod-eq-of-lt, mod-self}
 use native.Mathlib.Omega.{arith}
 use borrow.Author.Needs.{needs}
-use Rattle.table.proofs.next.Statement.{statement}
-use Rattle.table.proofs.next.Tie as tie
-use Rattle.table.proofs.next.Reads as reads
-use Rattle.table.proofs.next.Lts as lts
+use Rattle.memory.proofs.next.Statement.{statement}
+use Rattle.memory.proofs.next.Tie as tie
+use Rattle.memory.proofs.next.Reads as reads
+use Rattle.memory.proofs.next.Lts as lts
 
 add-if1 : tie.Need-add-if1
 add-if1 c = search needs
