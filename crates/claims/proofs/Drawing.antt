@@ -9,8 +9,9 @@ use Rattle.coefficients.specs.Coefficients.{packetDraws}
 use Rattle.sender.specs.State as sender
 use Rattle.history.specs.History.{fresh}
 use Rattle.receiver.specs.Promises.{drawsFor}
-use Rattle.receiver.specs.Layout.{headerOf, receiverLayout}
-use Rattle.receiver.proofs.Headers.{setting-of}
+use Rattle.holding.specs.Layout.{headerOf}
+use Rattle.receiver.specs.Layout.{receiverLayout}
+use Rattle.holding.proofs.Headers.{setting-of}
 use Rattle.claims.specs.SenderRun.{symbolsOf}
 use Rattle.claims.specs.Drawing.{Accepted-draws, Made-draws}
 use Rattle.claims.proofs.Demand.{opened-stands, stands, had-setting}

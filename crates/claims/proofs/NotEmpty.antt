@@ -11,7 +11,7 @@ use Rattle.wire.specs.Settings.{settingOf, Valid}
 use Rattle.wire.proofs.Settings.{setting-names}
 use Rattle.receiver.specs.declared.Answer.{Answer}
 use Rattle.receiver.specs.declared.Answer.the-variants.{Done, Refused}
-use Rattle.receiver.specs.declared.Header.{Header}
+use Rattle.holding.specs.declared.Header.{Header}
 use Rattle.starts.specs.Starts.{Starts, seen}
 use Rattle.marks.specs.Marks as stored
 use Rattle.marks.specs.Marks.{marked, notedIn}
@@ -21,14 +21,17 @@ use Rattle.starts.proofs.Settling.{pass-settled}
 use Rattle.starts.proofs.Agreeing.{Agree}
 use Rattle.history.specs.History.{Located, Call, esiOf, Reading, fails, located, reading, memorySize, workingSize, Said, value, refusal, IsValue}
 use Rattle.history.specs.Model.{Joined, State, opened, foundBy, Outcome, refused, done, stateAfter, responds, answering, receiving, startsAfter, marking}
-use Rattle.receiver.specs.Header.{headerIn}
-use Rattle.receiver.specs.Promises.{Contained, Follows, Received}
-use Rattle.receiver.specs.Layout.{headerOf, Holds, Marks, receiverLayout}
-use Rattle.receiver.proofs.Building.{built}
-use Rattle.receiver.proofs.Congruent.{Same, SameFrom, holds-same, held-same, found-same, Alike, both-refused, both-done, answering-alike, marking-alike}
+use Rattle.holding.specs.Header.{headerIn}
+use Rattle.receiver.specs.Promises.{Follows, Received}
+use Rattle.holding.specs.Contained.{Contained}
+use Rattle.holding.specs.Layout.{headerOf, Holds, Marks}
+use Rattle.receiver.specs.Layout.{receiverLayout}
+use Rattle.holding.proofs.Building.{built}
+use Rattle.holding.proofs.Congruent.{Same, SameFrom, holds-same, held-same, found-same, Alike, both-refused, both-done, answering-alike, marking-alike}
 use Rattle.history.proofs.Naming.{Sound, answering-sound}
-use Rattle.receiver.proofs.Headers.{header-room, header-fits, setting-of, setting-held, found-stands}
-use Rattle.receiver.proofs.Marking.{starts-holds, starts-contained}
+use Rattle.holding.proofs.Headers.{header-room, header-fits, setting-of, setting-held}
+use Rattle.admission.proofs.Joining.{found-stands}
+use Rattle.admission.proofs.Marking.{starts-holds, starts-contained}
 use Rattle.claims.specs.Run.{Step, Run}
 use Rattle.claims.specs.NotEmpty.{Asked, asked, AllOfBytes, Runs-exist}
 use Rattle.claims.proofs.Demand.{had-setting}

@@ -7,8 +7,9 @@ use Rattle.wire.proofs.Settings.{setting-names}
 use Rattle.sender.specs.State as sender
 use Rattle.sender.proofs.Heads as heads
 use Rattle.history.specs.History.{fresh}
-use Rattle.receiver.specs.Layout.{headerOf, receiverLayout}
-use Rattle.receiver.proofs.Headers.{headed, setting-of, zeros-unopened, other-unopened, short-unopened}
+use Rattle.holding.specs.Layout.{headerOf}
+use Rattle.receiver.specs.Layout.{receiverLayout}
+use Rattle.holding.proofs.Headers.{headed, setting-of, zeros-unopened, other-unopened, short-unopened}
 use Rattle.claims.specs.ReceiverUnopened.{Receiver-unopened}
 use Rattle.claims.proofs.Demand.{had-setting, stands, opened-stands}
 

@@ -9,12 +9,13 @@ use Rattle.wire.specs.declared.Setting.{Setting}
 use Rattle.wire.specs.Packets.{zeros}
 use Rattle.sender.specs.State as sender
 use Rattle.receiver.specs.declared.Answer.{Answer}
-use Rattle.receiver.specs.declared.Header.{Header}
+use Rattle.holding.specs.declared.Header.{Header}
 use Rattle.history.specs.History.{memorySize, value}
 use Rattle.history.specs.Model.{State}
-use Rattle.receiver.specs.Header.{headerIn}
+use Rattle.holding.specs.Header.{headerIn}
 use Rattle.receiver.specs.Promises.{said, Opened}
-use Rattle.receiver.specs.Layout.{Holds, receiverLayout}
+use Rattle.holding.specs.Layout.{Holds}
+use Rattle.receiver.specs.Layout.{receiverLayout}
 use Rattle.claims.specs.Run.{Step, Run, final}
 
 pub record Receiver-unopened : Type 0 where

@@ -8,15 +8,15 @@ use Rattle.table.specs.Packet.{Works}
 use Rattle.wire.specs.declared.Refusal.{Refusal}
 use Rattle.receiver.specs.declared.Answer.the-variants.{Done, Refused}
 use Rattle.receiver.specs.declared.PacketAnswer.the-variants as answers
-use Rattle.receiver.specs.declared.Header.{Header}
-use Rattle.receiver.specs.declared.packet.PacketPlace.{PacketPlace}
-use Rattle.receiver.specs.declared.packet.Gathered.{Gathered}
-use Rattle.receiver.specs.declared.packet.Gathered.the-variants.{All}
+use Rattle.holding.specs.declared.Header.{Header}
+use Rattle.admission.specs.declared.packet.PacketPlace.{PacketPlace}
+use Rattle.admission.specs.declared.packet.Gathered.{Gathered}
+use Rattle.admission.specs.declared.packet.Gathered.the-variants.{All}
 use Rattle.history.specs.History.{Call}
-use Rattle.receiver.specs.Header.{headerIn}
+use Rattle.holding.specs.Header.{headerIn}
 use Rattle.receiver.specs.Promises.{drawsFor, Received, PacketAnswered}
 use Rattle.receiver.specs.Layout.{receiverLayout}
-use Rattle.receiver.specs.Steps.{WorksOn, Accepted}
+use Rattle.admission.specs.Steps.{WorksOn, Accepted}
 
 module _ {c : Call} {m m′ v v′ : List ℕ} where
   -- A refusal has none.

@@ -18,14 +18,15 @@ use Rattle.starts.specs.Adu.{withholds, need, handing, HandedAs}
 use Rattle.starts.specs.Starts.{Starts, seen}
 use Rattle.marks.specs.Marks as marks
 use Rattle.handing.specs.Contracts.{HandedOut}
-use Rattle.receiver.specs.declared.Header.{Header}
+use Rattle.holding.specs.declared.Header.{Header}
 use Rattle.history.specs.History.{placeOf, refusal}
 use Rattle.history.specs.Model.{Joined, aduAt}
-use Rattle.receiver.specs.Header.{headerIn}
+use Rattle.holding.specs.Header.{headerIn}
 use Rattle.receiver.specs.Promises.{handedSaid, AduAnswered}
-use Rattle.receiver.specs.Layout.{Marks, receiverLayout}
+use Rattle.holding.specs.Layout.{Marks}
+use Rattle.receiver.specs.Layout.{receiverLayout}
 use Rattle.history.proofs.Cases.{IsRefusal, numeral}
-use Rattle.receiver.proofs.Headers.{of-header, of-joined}
+use Rattle.holding.proofs.Headers.{of-header, of-joined}
 
 pub adu-unopened : (m out : List ℕ) (e : ℕ) → headerIn m ≡ none → AduAnswered receiverLayout m e out out (Withheld Unopened)
 adu-unopened m out e h = record {

@@ -22,14 +22,16 @@ use Rattle.marks.specs.Contracts.{Cleared}
 use Rattle.receiver.specs.declared.Answer.the-variants.{Done, Refused}
 use Rattle.history.specs.History.{memorySize}
 use Rattle.history.specs.Model.{opened}
-use Rattle.receiver.specs.Header.{rowIn, headerIn}
-use Rattle.receiver.specs.Promises.{Contained, Opened}
-use Rattle.receiver.specs.Layout.{headerOf, Holds, Marks, receiverLayout}
-use Rattle.receiver.specs.Inner.{freshHeader}
+use Rattle.holding.specs.Header.{rowIn, headerIn}
+use Rattle.receiver.specs.Promises.{Opened}
+use Rattle.holding.specs.Contained.{Contained}
+use Rattle.holding.specs.Layout.{headerOf, Holds, Marks}
+use Rattle.receiver.specs.Layout.{receiverLayout}
+use Rattle.holding.specs.Inner.{freshHeader}
 use Rattle.history.proofs.Cases.{IsRefusal}
-use Rattle.receiver.proofs.Headers.{found}
-use Rattle.receiver.proofs.Gathering.{contained-more}
-use Rattle.receiver.proofs.Marking.{only-contained, only-holds}
+use Rattle.holding.proofs.Headers.{found}
+use Rattle.admission.proofs.Gathering.{contained-more}
+use Rattle.admission.proofs.Marking.{only-contained, only-holds}
 
 module _ (n E w : ℕ) (m : List ℕ) where
   pub opening-values : settingOf n E w ≡ none → Opened receiverLayout n E w m m (Refused Values)

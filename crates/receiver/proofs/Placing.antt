@@ -6,14 +6,15 @@ use lib.ListN.{length}
 use Rattle.memory.specs.Part.{part}
 use Rattle.wire.specs.declared.Refusal.{Refusal}
 use Rattle.receiver.specs.declared.Answer.the-variants.{Done, Refused}
-use Rattle.receiver.specs.declared.Spot.{Spot}
-use Rattle.receiver.specs.declared.Spot.the-variants.{At, Nowhere}
+use Rattle.holding.specs.declared.Spot.{Spot}
+use Rattle.holding.specs.declared.Spot.the-variants.{At, Nowhere}
 use Rattle.history.specs.Symbol.{bytesOf}
 use Rattle.history.specs.History.{Said, value, refusal, IsValue}
 use Rattle.receiver.specs.Promises.{Places, PlaceAnswered}
 use Rattle.receiver.specs.Layout.{receiverLayout}
-use Rattle.receiver.specs.Inner.{Spotted}
-use Rattle.receiver.proofs.Finding.{IsNowhere, symbol-missing}
+use Rattle.holding.specs.Inner.{Spotted}
+use Rattle.holding.proofs.Finding.{IsNowhere}
+use Rattle.receiver.proofs.Showing.{symbol-missing}
 
 -- The number that an answer says.
 abbrev number : Said → ℕ

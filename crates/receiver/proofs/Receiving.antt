@@ -23,23 +23,26 @@ use Rattle.starts.proofs.Settling.{unseen-settled}
 use Rattle.marks.proofs.Gaining.{unseen-empty}
 use Rattle.receiver.specs.declared.Answer.{Answer}
 use Rattle.receiver.specs.declared.Answer.the-variants.{Done, Refused}
-use Rattle.receiver.specs.declared.Header.{Header}
-use Rattle.receiver.specs.declared.packet.PacketPlace.{PacketPlace}
-use Rattle.receiver.specs.declared.packet.PlaceFound.the-variants.{PlaceIs, Out}
-use Rattle.receiver.specs.declared.packet.Gathered.{Gathered}
-use Rattle.receiver.specs.declared.packet.Gathered.the-variants.{All, Contradiction}
+use Rattle.holding.specs.declared.Header.{Header}
+use Rattle.admission.specs.declared.packet.PacketPlace.{PacketPlace}
+use Rattle.admission.specs.declared.packet.PlaceFound.the-variants.{PlaceIs, Out}
+use Rattle.admission.specs.declared.packet.Gathered.{Gathered}
+use Rattle.admission.specs.declared.packet.Gathered.the-variants.{All, Contradiction}
 use Rattle.history.specs.History.{Located, source, repair, first, named, placeOf, placed, Call, esiOf, Reading, fails, located, check, memorySize, workingSize, reading}
 use Rattle.history.specs.History.{value}
 use Rattle.history.specs.Model.{Joined, State, foundBy, Outcome, packetOf, added, responds, answering, stateAfter, naming, startsAfter, marking}
-use Rattle.receiver.specs.Header.{headerIn}
-use Rattle.receiver.specs.Promises.{Contained, Follows, Received}
-use Rattle.receiver.specs.Layout.{headerFrom, headerOf, Stands, Holds, MarksFrom, Marks, receiverLayout}
-use Rattle.receiver.specs.Inner.{headerFor, Based}
-use Rattle.receiver.specs.Steps.{placeAt, placeFound, Comes, WorksOn, firsts, Lies, Gathers, PlacedBy, Accepted}
+use Rattle.holding.specs.Header.{headerIn}
+use Rattle.receiver.specs.Promises.{Follows, Received}
+use Rattle.holding.specs.Contained.{Contained}
+use Rattle.holding.specs.Layout.{headerFrom, headerOf, Stands, Holds, MarksFrom, Marks}
+use Rattle.receiver.specs.Layout.{receiverLayout}
+use Rattle.admission.specs.Joining.{headerFor, Based}
+use Rattle.admission.specs.Steps.{placeAt, placeFound, Comes, WorksOn, firsts, Lies, Gathers, PlacedBy, Accepted}
 use Rattle.history.proofs.Cases.{IsRefusal, numeral}
-use Rattle.receiver.proofs.Headers.{header-fits, based-fits, setting-held, found-header, found-stands}
-use Rattle.receiver.proofs.Locating.{distance, found-at, at-placed, out-placed, out-other}
-use Rattle.receiver.proofs.Gathering.{contained-none}
+use Rattle.holding.proofs.Headers.{header-fits, setting-held}
+use Rattle.admission.proofs.Joining.{based-fits, found-header, found-stands}
+use Rattle.admission.proofs.Locating.{distance, found-at, at-placed, out-placed, out-other}
+use Rattle.admission.proofs.Gathering.{contained-none}
 
 pub received-unopened : (c : Call) (m v : List ℕ) → headerIn m ≡ none → Received receiverLayout c m m v v (Refused refusals.Unopened)
 received-unopened c m v e = record {

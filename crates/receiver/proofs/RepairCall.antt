@@ -25,22 +25,22 @@ use Rattle.decoder.specs.Receiver as decoder
 use Rattle.table.specs.Window.{Fits}
 use Rattle.table.specs.Packet.{Works}
 use Rattle.receiver.specs.declared.Answer.the-variants.{Done, Refused}
-use Rattle.receiver.specs.declared.Header.{Header}
-use Rattle.receiver.specs.declared.packet.PacketPlace.{PacketPlace}
-use Rattle.receiver.specs.declared.packet.Gathered.{Gathered}
-use Rattle.receiver.specs.declared.packet.Gathered.the-variants.{All, Contradiction}
-use Rattle.receiver.specs.declared.packet.PlaceFound.the-variants.{PlaceIs, Out}
+use Rattle.holding.specs.declared.Header.{Header}
+use Rattle.admission.specs.declared.packet.PacketPlace.{PacketPlace}
+use Rattle.admission.specs.declared.packet.Gathered.{Gathered}
+use Rattle.admission.specs.declared.packet.Gathered.the-variants.{All, Contradiction}
+use Rattle.admission.specs.declared.packet.PlaceFound.the-variants.{PlaceIs, Out}
 use Rattle.history.specs.History.{Located, repair, named, Call, repair-call, esiOf, Reading, located, check, placeOf, placed, workingSize, readRepair, reading}
 use Rattle.history.specs.Model.{packetOf}
-use Rattle.receiver.specs.Header.{headerIn}
+use Rattle.holding.specs.Header.{headerIn}
 use Rattle.receiver.specs.Promises.{drawsFor, Received}
 use Rattle.receiver.specs.Layout.{receiverLayout}
-use Rattle.receiver.specs.Inner.{headerFor}
-use Rattle.receiver.specs.Steps.{placeFound, firsts, Gathers, Accepted}
-use Rattle.receiver.specs.RepairSteps.{equationAt}
-use Rattle.receiver.proofs.Headers.{based}
-use Rattle.receiver.proofs.Locating.{distance}
-use Rattle.receiver.proofs.Repairing.{repair-equations}
+use Rattle.admission.specs.Joining.{headerFor}
+use Rattle.admission.specs.Steps.{placeFound, firsts, Gathers, Accepted}
+use Rattle.admission.specs.RepairSteps.{equationAt}
+use Rattle.admission.proofs.Joining.{based}
+use Rattle.admission.proofs.Locating.{distance}
+use Rattle.admission.proofs.Repairing.{repair-equations}
 use Rattle.receiver.proofs.Receiving.{place-is, place-width, place-size, ready, received-refused, received-stopped, received-out, reading-at, received-contradiction, received-done}
 
 -- ---- What reading the packet found

@@ -24,22 +24,22 @@ use Rattle.decoder.specs.Bytes.{Coded}
 use Rattle.decoder.specs.Receiver as decoder
 use Rattle.starts.specs.Starts.{Starts, also, owning}
 use Rattle.receiver.specs.declared.Answer.the-variants.{Done, Refused}
-use Rattle.receiver.specs.declared.Header.{Header}
-use Rattle.receiver.specs.declared.packet.PacketPlace.{PacketPlace}
-use Rattle.receiver.specs.declared.packet.PlaceFound.the-variants.{PlaceIs, Out}
-use Rattle.receiver.specs.declared.packet.Gathered.{Gathered}
-use Rattle.receiver.specs.declared.packet.Gathered.the-variants.{All, Contradiction}
+use Rattle.holding.specs.declared.Header.{Header}
+use Rattle.admission.specs.declared.packet.PacketPlace.{PacketPlace}
+use Rattle.admission.specs.declared.packet.PlaceFound.the-variants.{PlaceIs, Out}
+use Rattle.admission.specs.declared.packet.Gathered.{Gathered}
+use Rattle.admission.specs.declared.packet.Gathered.the-variants.{All, Contradiction}
 use Rattle.history.specs.History.{Located, source, Call, source-call, located, check, placeOf, placed, workingSize, readSource, reading}
 use Rattle.history.specs.Model.{packetOf, naming}
-use Rattle.receiver.specs.Header.{headerIn}
+use Rattle.holding.specs.Header.{headerIn}
 use Rattle.receiver.specs.Promises.{Received}
 use Rattle.receiver.specs.Layout.{receiverLayout}
-use Rattle.receiver.specs.Inner.{headerFor}
-use Rattle.receiver.specs.Steps.{placeFound, firsts, Gathers, Accepted}
-use Rattle.receiver.specs.SourceSteps.{equationOf}
-use Rattle.receiver.proofs.Headers.{headed}
-use Rattle.receiver.proofs.Locating.{distance}
-use Rattle.receiver.proofs.Sourcing.{source-equations}
+use Rattle.admission.specs.Joining.{headerFor}
+use Rattle.admission.specs.Steps.{placeFound, firsts, Gathers, Accepted}
+use Rattle.admission.specs.SourceSteps.{equationOf}
+use Rattle.holding.proofs.Headers.{headed}
+use Rattle.admission.proofs.Locating.{distance}
+use Rattle.admission.proofs.Sourcing.{source-equations}
 use Rattle.receiver.proofs.Receiving.{place-is, place-size, received-refused, received-out, reading-at, received-contradiction, received-done}
 
 symbols-some : (E L : ℕ) → 0 < E → 0 < symbolCount E L

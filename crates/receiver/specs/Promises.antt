@@ -7,7 +7,7 @@ use mathlib.Core.Option.{Option, none, some}
 use mathlib.Core.List.{List, []}
 use denote.Ref.{RefT, now}
 use Prim.Native.Nat.{ℕ, _+_, _*_, _≤_}
-use lib.ListN.{length, drop}
+use lib.ListN.{length}
 use lib.Dec.{ltb}
 use Rattle.memory.specs.Part.{part, LiesAt}
 use Rattle.wire.specs.declared.Setting.{Setting}
@@ -22,11 +22,12 @@ use Rattle.receiver.specs.declared.Answer.{Answer}
 use Rattle.receiver.specs.declared.Answer.the-variants.{Done, Refused}
 use Rattle.receiver.specs.declared.PacketAnswer.{PacketAnswer}
 use Rattle.receiver.specs.declared.PacketAnswer.the-variants.{Accepted, NotAccepted}
-use Rattle.receiver.specs.declared.Header.{Header}
+use Rattle.holding.specs.declared.Header.{Header}
 use Rattle.history.specs.Symbol.{bytesOf}
 use Rattle.history.specs.History.{Call, source-call, repair-call, esiOf, reading, memorySize, workingSize, Said, value, refusal}
 use Rattle.history.specs.Model.{State, opened, foundBy, Outcome, refused, done, stateAfter, receiving, marking, Finding, shows, hides, finding, aduAt}
-use Rattle.receiver.specs.Header.{headerIn}
+use Rattle.holding.specs.Header.{headerIn}
+use Rattle.holding.specs.Contained.{Contained}
 
 -- Document 01's number of an answer.
 abbrev pub said : Answer → Said
@@ -51,11 +52,6 @@ pub record Layout : Type 1 where
   pub Marks : List ℕ → (s : Setting) → State s → Starts → Type 0
   -- Where in the memory the symbol at a position starts.
   pub symbolStart : Setting → (position : ℕ) → ℕ
-
--- A memory keeps its length, and its bytes past a size.
-pub record Contained (size : ℕ) (m m′ : List ℕ) : Type 0 where
-  pub same : length m′ ≡ length m
-  pub past : drop size m′ ≡ drop size m
 
 -- Opening on `room` bytes: 1 where a value is none of its values, 2 where the memory is too short, else 0.
 abbrev pub opening : Option Setting → (room : ℕ) → Said

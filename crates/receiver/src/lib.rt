@@ -2,17 +2,17 @@
 ghost use Rattle.receiver.specs.Promises.{Opened, PacketAnswered, SymbolAnswered, PartShown, PlaceAnswered, AduAnswered};
 ghost use Rattle.history.specs.History.{source-call, repair-call};
 ghost use Rattle.receiver.specs.Layout.{receiverLayout};
-
-mod find;
-mod front;
-mod packet;
-mod repair;
-mod source;
-
+use admission::packet;
+use admission::packet::Gathered;
+use admission::packet::PlaceFound;
+use admission::repair;
+use admission::source;
 use coefficients::Filled;
-pub use front::working_size;
-use packet::Gathered;
-use packet::PlaceFound;
+use holding::Found;
+use holding::Spot;
+use holding::find;
+use holding::front;
+pub use holding::front::working_size;
 use starts::Handed;
 use table::Shape;
 use wire::Checked;
@@ -32,26 +32,6 @@ pub enum Answer {
 pub enum PacketAnswer {
     Accepted(usize, u32),
     NotAccepted(Refusal),
-}
-
-// A receiver's header: its setting, whether it has a base, and the row and the ESI of that.
-pub struct Header {
-    pub setting: Setting,
-    pub joined: bool,
-    pub row: usize,
-    pub base: Esi,
-}
-
-// The header that a memory has, if it has one.
-pub enum Found {
-    HeaderIs(Header),
-    NoHeader,
-}
-
-// Where a known symbol stands and how many bytes it has, or why none is shown.
-pub enum Spot {
-    At(usize, usize),
-    Nowhere(Refusal),
 }
 
 // Opens a receiver in the memory.

@@ -13,7 +13,8 @@ use Rattle.receiver.specs.declared.PacketAnswer.the-variants.{Accepted, NotAcce
 use Rattle.history.specs.History.{Call, source-call, repair-call}
 use Rattle.history.specs.Model.{State, Outcome, refused, done, saidOf, stateAfter, receiving}
 use Rattle.receiver.specs.Promises.{said, answerOf, Draws, Follows, PacketAnswered}
-use Rattle.receiver.specs.Layout.{Holds, receiverLayout}
+use Rattle.holding.specs.Layout.{Holds}
+use Rattle.receiver.specs.Layout.{receiverLayout}
 use Rattle.lines.specs.declared.Spoken.{Spoken}
 use Rattle.lines.specs.declared.Spoken.the-variants.{Source, Repair, Malformed}
 use Rattle.lines.specs.Forms.{longest}

@@ -18,7 +18,7 @@ use Rattle.wire.specs.declared.Refusal.{Refusal}
 use Rattle.history.specs.History.{memorySize, workingSize, value, refusal}
 use Rattle.history.specs.Model.{opened}
 use Rattle.receiver.specs.Promises.{said, opening}
-use Rattle.receiver.specs.Layout.{Holds}
+use Rattle.holding.specs.Layout.{Holds}
 use Rattle.lines.specs.declared.First.{First}
 use Rattle.lines.specs.declared.First.the-variants as first
 use Rattle.lines.specs.Forms.{Values, longest}

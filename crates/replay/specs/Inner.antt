@@ -7,7 +7,7 @@ use Prim.Native.Nat.{ℕ, _+_, _≤_, _<_}
 use lib.ListN.{length, take}
 use Rattle.wire.specs.declared.Setting.{Setting}
 use Rattle.history.specs.Model.{State, opened}
-use Rattle.receiver.specs.Layout.{Holds}
+use Rattle.holding.specs.Layout.{Holds}
 use Rattle.printing.specs.Printed.{lastLine}
 use Rattle.lines.specs.Lines.{linesFrom}
 use Rattle.lines.specs.Reading.{callIn}

@@ -8,7 +8,7 @@ use lib.Dec.{ltb}
 use lib.ListN.{length, take}
 use Rattle.wire.specs.declared.Setting.{Setting}
 use Rattle.history.specs.Model.{State, opened}
-use Rattle.receiver.specs.Layout.{Holds}
+use Rattle.holding.specs.Layout.{Holds}
 use Rattle.printing.specs.Printed.{recordLine}
 use Rattle.lines.specs.Forms.{longest}
 use Rattle.lines.specs.Reading.{callIn}

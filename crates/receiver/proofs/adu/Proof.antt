@@ -3,9 +3,9 @@ use mathlib.Core.Path.{_≡_}
 use mathlib.Core.Bool.{true}
 use mathlib.Core.Option.{some}
 use borrow.Author.Tests.{not-true, not-false}
-use Rattle.receiver.specs.declared.Header.{Header}
-use Rattle.receiver.specs.Header.{headerIn}
-use Rattle.receiver.proofs.Headers.{header-is, header-none, headed, header-fits}
+use Rattle.holding.specs.declared.Header.{Header}
+use Rattle.holding.specs.Header.{headerIn}
+use Rattle.holding.proofs.Headers.{header-is, header-none, headed, header-fits}
 use Rattle.receiver.proofs.Giving.{adu-unopened, adu-fresh, adu-behind, adu-past, adu-inside}
 use borrow.Author.Needs.{needs}
 use Rattle.receiver.proofs.adu.Statement.{statement}

@@ -5,7 +5,7 @@ use native.Mathlib.Omega.{arith}
 use Rattle.wire.specs.declared.Setting.{Setting}
 use Rattle.wire.specs.Settings.{Valid, settingOf}
 use Rattle.wire.proofs.Settings.{setting-names}
-use Rattle.receiver.proofs.Headers.{setting-good, setting-bad, setting-fits}
+use Rattle.holding.proofs.Headers.{setting-good, setting-bad, setting-fits}
 use Rattle.receiver.proofs.Opening.{opening-values, opening-short, opening-done}
 use borrow.Author.Needs.{needs}
 use Rattle.receiver.proofs.open.Statement.{statement}

@@ -15,14 +15,15 @@ use Rattle.wire.proofs.Settings.{within-bounds}
 use Rattle.coefficients.specs.Coefficients.{keys}
 use Rattle.coefficients.proofs.Lists.{length-keys, packet-draws-most}
 use Rattle.coefficients.proofs.Fills.{lists-were-done, lists-were-refused}
-use Rattle.receiver.specs.declared.Header.{Header}
-use Rattle.receiver.specs.declared.packet.PacketPlace.{PacketPlace}
-use Rattle.receiver.specs.declared.packet.PlaceFound.the-variants.{PlaceIs}
+use Rattle.holding.specs.declared.Header.{Header}
+use Rattle.admission.specs.declared.packet.PacketPlace.{PacketPlace}
+use Rattle.admission.specs.declared.packet.PlaceFound.the-variants.{PlaceIs}
 use Rattle.history.specs.History.{workingSize}
-use Rattle.receiver.specs.Header.{headerIn}
-use Rattle.receiver.specs.Inner.{headerFor, Based}
-use Rattle.receiver.specs.Steps.{placeFound}
-use Rattle.receiver.proofs.Headers.{header-is, header-none, headed, based}
+use Rattle.holding.specs.Header.{headerIn}
+use Rattle.admission.specs.Joining.{headerFor, Based}
+use Rattle.admission.specs.Steps.{placeFound}
+use Rattle.holding.proofs.Headers.{header-is, header-none, headed}
+use Rattle.admission.proofs.Joining.{based}
 use Rattle.receiver.proofs.Receiving.{received-unopened, received-short, accept-asks}
 use Rattle.receiver.proofs.Drawing.{answered-refused, answered-done}
 use Rattle.receiver.proofs.RepairCall.{sized, draws-are, call-form, call-range, call-out, call-draws, gather-asks, call-contradicts, call-done}

@@ -6,14 +6,15 @@ use native.Mathlib.Omega.{arith}
 use lib.ListN.{length}
 use Rattle.wire.specs.declared.SourceFields.{SourceFields}
 use Rattle.wire.specs.Packets.{symbolCount}
-use Rattle.receiver.specs.declared.Header.{Header}
-use Rattle.receiver.specs.declared.packet.PacketPlace.{PacketPlace}
-use Rattle.receiver.specs.declared.packet.PlaceFound.the-variants.{PlaceIs}
+use Rattle.holding.specs.declared.Header.{Header}
+use Rattle.admission.specs.declared.packet.PacketPlace.{PacketPlace}
+use Rattle.admission.specs.declared.packet.PlaceFound.the-variants.{PlaceIs}
 use Rattle.history.specs.History.{workingSize}
-use Rattle.receiver.specs.Header.{headerIn}
-use Rattle.receiver.specs.Inner.{headerFor, Based}
-use Rattle.receiver.specs.Steps.{placeFound}
-use Rattle.receiver.proofs.Headers.{header-is, header-none, Headed, headed, based}
+use Rattle.holding.specs.Header.{headerIn}
+use Rattle.admission.specs.Joining.{headerFor, Based}
+use Rattle.admission.specs.Steps.{placeFound}
+use Rattle.holding.proofs.Headers.{header-is, header-none, Headed, headed}
+use Rattle.admission.proofs.Joining.{based}
 use Rattle.receiver.proofs.Receiving.{received-unopened, received-short, place-width, place-size, ready, accept-asks}
 use Rattle.receiver.proofs.Drawing.{answered-refused, answered-done}
 use Rattle.receiver.proofs.SourceCall.{Fields, source-fields, adu-length, source-none}

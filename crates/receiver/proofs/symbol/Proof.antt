@@ -1,5 +1,5 @@
 -- `receiver::symbol` meets its contract.
-use Rattle.receiver.proofs.Finding.{symbol-found, symbol-missing}
+use Rattle.receiver.proofs.Showing.{symbol-found, symbol-missing}
 use borrow.Author.Needs.{needs}
 use Rattle.receiver.proofs.symbol.Statement.{statement}
 use Rattle.receiver.proofs.symbol.Tie as tie

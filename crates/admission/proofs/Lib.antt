@@ -1,0 +1,7 @@
+pub mod Joining
+pub mod Locating
+pub mod Finishing
+pub mod Gathering
+pub mod Marking
+pub mod Sourcing
+pub mod Repairing

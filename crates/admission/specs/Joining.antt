@@ -1,0 +1,27 @@
+-- Contracts of inner functions: a reader need not believe these.
+-- The header that a packet is worked on with, and the memory that has it.
+use mathlib.Core.Path.{_≡_}
+use mathlib.Core.Bool.{true, cond}
+use mathlib.Core.Option.{some}
+use mathlib.Core.List.{List}
+use Prim.Native.Nat.{ℕ, _%_, _^_, _≤_, _<_}
+use lib.ListN.{length}
+use Rattle.wire.specs.Settings.{settingIn, Valid}
+use Rattle.history.specs.History.{memorySize}
+use Rattle.holding.specs.declared.Header.{Header}
+
+-- The header for a packet whose first ESI is e: where there is no base yet, e is taken for it.
+abbrev pub headerFor : Header → (e : ℕ) → Header
+headerFor h e = record {
+  setting = h .setting;
+  joined = true;
+  row = cond (h .joined) (h .row) (e % h .setting .width);
+  base = cond (h .joined) (h .base) (record { 0 = e % 2 ^ 32 });
+}
+
+-- The memory has the setting of a header with a base, and room for its rows.
+pub record Based (m : List ℕ) (h : Header) : Type 0 where
+  pub setting : settingIn 2 m ≡ some (h .setting)
+  pub valid : Valid (h .setting)
+  pub room : memorySize (h .setting) ≤ length m
+  pub row-lt : h .row < h .setting .width

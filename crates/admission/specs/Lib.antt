@@ -1,0 +1,4 @@
+pub mod Joining
+pub mod Steps
+pub mod RepairSteps
+pub mod SourceSteps

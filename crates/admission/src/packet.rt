@@ -1,0 +1,169 @@
+// The steps that both packet calls share: where the packet lies, what one more equation makes of it, and the state after it.
+ghost use mathlib.Core.Path.{_≡_};
+ghost use Prim.Native.Nat.{_≤_, _<_};
+ghost use lib.ListN.{length};
+ghost use Rattle.wire.specs.Settings.{Valid};
+ghost use Rattle.table.specs.Window.{Fits};
+ghost use Rattle.table.specs.Packet.{Works};
+ghost use Rattle.admission.specs.Joining.{headerFor, Based};
+ghost use Rattle.admission.specs.Steps.{placeFound, gatheredBy, EquationAdmitted, PlacedBy, Finished, Accepted};
+use gather::Verdict;
+use holding::Header;
+use table::Shape;
+use wire::Esi;
+use wire::Refusal;
+
+// Where a packet lies: the window that it brings about, by how much the base rises for it, how many positions stay, and the row of its first
+// position and the distance of that from the new base.
+pub struct PacketPlace {
+    pub shape: Shape,
+    pub rise: usize,
+    pub stay: usize,
+    pub first: usize,
+    pub offset: usize,
+}
+
+// Where a packet lies, or why it is refused.
+pub enum PlaceFound {
+    PlaceIs(PacketPlace),
+    Out(Refusal),
+}
+
+// A packet's equations agree with the state, and so many rows of working memory are kept of them; or they contradict it.
+pub enum Gathered {
+    All(usize),
+    Contradiction,
+}
+
+// The header for a packet whose first ESI is `first`: where there is no base yet, that is taken for it.
+pub fn join(header: Header, first: Esi) -> Header
+    requires { ⌜ Valid (header .setting) ⌝ }
+    ensures { λ r. ⌜ r ≡ headerFor header (first .0) ⌝ }
+{
+    if header.joined {
+        return header;
+    }
+    let setting = header.setting;
+    let row = first.0 as usize % setting.width;
+    Header {
+        setting,
+        joined: true,
+        row,
+        base: first,
+    }
+}
+
+// Where `n` symbols from the ESI `first` on lie.
+pub fn locate(header: Header, first: Esi, n: usize) -> PlaceFound
+    requires { ⌜ Valid (header .setting) × (header .row < header .setting .width) × (n ≤ header .setting .width) ⌝ }
+    ensures { λ r. ⌜ r ≡ placeFound header (first .0) n ⌝ }
+{
+    let d = first.distance(header.base) as usize;
+    if d >= 2147483648 {
+        return PlaceFound::Out(Refusal::Behind);
+    }
+    if d + n > 65536 {
+        return PlaceFound::Out(Refusal::Ahead);
+    }
+    let width = header.setting.width;
+    let rise = memory::excess(d + n, width);
+    let shape = Shape {
+        width,
+        size: header.setting.size,
+        base: (header.row + rise) % width,
+    };
+    PlaceFound::PlaceIs(PacketPlace {
+        shape,
+        rise,
+        stay: memory::excess(width, rise),
+        first: (header.row + d) % width,
+        offset: d - rise,
+    })
+}
+
+// What the equations come to, of which `kept` rows were kept, with one more that was found to be so.
+pub fn gathered_by(kept: usize, verdict: Verdict) -> Gathered
+    requires { ⌜ kept ≤ 255 ⌝ }
+    ensures { λ r. ⌜ r ≡ gatheredBy kept verdict ⌝ }
+{
+    match verdict {
+        Verdict::Kept => Gathered::All(kept + 1),
+        Verdict::Implied => Gathered::All(kept),
+        Verdict::Contradiction => Gathered::Contradiction,
+    }
+}
+
+// An equation with the coefficients in the columns from `first` on, and the symbol that the row `kept` of working memory has, after others of
+// which `kept` rows were kept.
+pub fn admit_equation(
+    mem: &[u8],
+    work: &mut [u8],
+    coefficients: &[u8],
+    place: PacketPlace,
+    kept: usize,
+    first: usize,
+) -> Gathered
+    requires { ⌜ Fits (place .shape .width) (place .shape .size) (now mem) × Works (place .shape .width) (place .shape .size) kept (now work)
+        × (place .shape .base < place .shape .width) × (first < place .shape .width) × (length (now coefficients) ≤ place .shape .width) ⌝ }
+    ensures { λ r. ⌜ EquationAdmitted place kept first (now (coefficients .entry)) r (now (mem .entry)) (now (work .entry)) (now (work .exit)) ⌝ }
+{
+    let shape = place.shape;
+    let n = coefficients.len();
+    gather::lay(work, coefficients, shape, kept, first);
+    let verdict = gather::admit(mem, work, shape, place.stay, kept, first, n);
+    gathered_by(kept, verdict)
+}
+
+// The packet's rows, `kept` in working memory, join the state's, and the base rises. Gives how many positions have become known.
+fn finish(mem: &mut [u8], work: &[u8], header: Header, place: PacketPlace, kept: usize) -> usize
+    requires { ⌜ Based (now mem) header × Works (header .setting .width) (header .setting .size) kept (now work)
+        × (place .shape .base < 65535) × (place .rise ≤ 65536) ⌝ }
+    ensures { λ n. ⌜ Finished header place kept n (now (work .entry)) (now (mem .entry)) (now (mem .exit)) ⌝ }
+{
+    let shape = Shape {
+        width: header.setting.width,
+        size: header.setting.size,
+        base: header.row,
+    };
+    let count = placing::commit(mem, work, shape, place.rise, kept);
+    let base = header.base;
+    let next = base.plus(place.rise as u32);
+    memory::store_u16(mem, 8, (place.shape.base + 1) as u16);
+    memory::store_u32(mem, 12, next.0);
+    count
+}
+
+// The packet is accepted, with `own` symbols of its own: its rows join the state's, the base rises, and the marks follow. Gives how many positions
+// have become known.
+pub fn accept(
+    mem: &mut [u8],
+    work: &[u8],
+    header: Header,
+    place: PacketPlace,
+    kept: usize,
+    own: usize,
+) -> usize
+    requires { ⌜ Based (now mem) header × Works (header .setting .width) (header .setting .size) kept (now work)
+        × (place .shape .base < 65535) × (place .rise ≤ 65536) × PlacedBy header place own ⌝ }
+    ensures { λ n. ⌜ Accepted header place kept own n (now (work .entry)) (now (mem .entry)) (now (mem .exit)) ⌝ }
+{
+    let before = Shape {
+        width: header.setting.width,
+        size: header.setting.size,
+        base: header.row,
+    };
+    let had = marks::known_among(mem, before, place.rise + place.offset, own);
+    let known = finish(mem, work, header, place, kept);
+    let has = marks::known_among(mem, place.shape, place.offset, own);
+    let others = known != memory::excess(has, had);
+    marks::update(
+        mem,
+        place.shape,
+        header.row,
+        place.rise,
+        place.offset,
+        own,
+        others,
+    );
+    known
+}

@@ -1,0 +1,70 @@
+// A repair packet's equations: one for each repair symbol, which says that it is its combination of the positions' symbols.
+ghost use mathlib.Core.Path.{_≡_};
+ghost use Prim.Native.Nat.{_+_, _*_, _≤_, _<_};
+ghost use lib.ListN.{length};
+ghost use Rattle.table.specs.Window.{Fits};
+ghost use Rattle.table.specs.Packet.{Works};
+ghost use Rattle.admission.specs.Steps.{Admits, Gathers};
+ghost use Rattle.admission.specs.RepairSteps.{repairEquation, equationAt};
+use super::packet;
+use super::packet::Gathered;
+use super::packet::PacketPlace;
+use holding::find;
+
+// One more equation, in the row after those that are kept: a repair symbol, and its coefficients of the positions from the packet's first on.
+fn admit_symbol(
+    mem: &[u8],
+    work: &mut [u8],
+    list: &[u8],
+    symbol: &[u8],
+    place: PacketPlace,
+    kept: usize,
+) -> Gathered
+    requires { ⌜ Fits (place .shape .width) (place .shape .size) (now mem) × Works (place .shape .width) (place .shape .size) kept (now work)
+        × (place .shape .base < place .shape .width) × (place .first < place .shape .width)
+        × (length (now list) ≤ place .shape .width) × (length (now symbol) ≡ place .shape .size) ⌝ }
+    ensures { λ r. ⌜ Admits place (length (now (list .entry)))
+        (repairEquation (place .shape .width) (place .shape .size) (length (now (list .entry))) (now (list .entry)) (now (symbol .entry)))
+        kept r (now (mem .entry)) (now (work .entry)) (now (work .exit)) ⌝ }
+{
+    let size = place.shape.size;
+    let at = find::symbol_start(place.shape.width, size, kept);
+    memory::copy_part(work, at, symbol, 0, size);
+    packet::admit_equation(mem, work, list, place, kept, place.first)
+}
+
+// The equations of a repair packet's `count` symbols: the `n` coefficients of each stand one after the other in `lists`.
+pub fn gather_repair(
+    mem: &[u8],
+    work: &mut [u8],
+    lists: &[u8],
+    packet: &[u8],
+    place: PacketPlace,
+    n: usize,
+    count: usize,
+) -> Gathered
+    requires { ⌜ Fits (place .shape .width) (place .shape .size) (now mem) × Works (place .shape .width) (place .shape .size) 0 (now work)
+        × (place .shape .base < place .shape .width) × (place .first < place .shape .width) × (n ≤ place .shape .width)
+        × (count * n ≤ length (now lists)) × (8 + count * place .shape .size ≤ length (now packet)) × (count ≤ 16) ⌝ }
+    ensures { λ r. ⌜ Gathers place n (equationAt (place .shape .width) (place .shape .size) n (now (lists .entry)) (now (packet .entry)))
+        count r (now (mem .entry)) (now (work .entry)) (now (work .exit)) ⌝ }
+{
+    let size = place.shape.size;
+    let mut kept: usize = 0;
+    for i in 0..count {
+        let from = i * n;
+        let at = 8 + i * size;
+        let Gathered::All(now) = admit_symbol(
+            mem,
+            work,
+            &lists[from..from + n],
+            &packet[at..at + size],
+            place,
+            kept,
+        ) else {
+            return Gathered::Contradiction;
+        };
+        kept = now;
+    }
+    Gathered::All(kept)
+}

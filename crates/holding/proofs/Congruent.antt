@@ -1,0 +1,311 @@
+-- A memory knows its base by two remainders. States that differ by no more than that are held by the same memories, and calls treat them alike.
+use mathlib.Core.Path.{_≡_, refl, sym, ap, ap₂, _∙_, subst}
+use mathlib.Core.Bool.{Bool, true, false, cond, true≢false}
+use mathlib.Core.Option.{Option, none, some, Option·some-injective}
+use mathlib.Core.List.{List, map}
+use Prim.Native.Nat.{ℕ, zero, suc, _+_, _-_, _%_, _^_, _≤_, _<_}
+use native.Mathlib.Nat.{mod-add-mod}
+use native.Mathlib.Omega.{arith}
+use lib.Dec.{ltb, leb}
+use lib.ListN.{length, getD}
+use Rattle.wire.specs.declared.Setting.{Setting}
+use Rattle.wire.specs.Numbers.{distanceOf}
+use Rattle.wire.specs.Packets.{sourceSymbols, sourceAdu, sourceEsi, protectedCount}
+use Rattle.wire.specs.Packets.{firstEsi, repairSymbols}
+use Rattle.decoder.specs.Bytes.{Byte, byte, Coded}
+use Rattle.decoder.specs.Model as model
+use Rattle.decoder.specs.Model.{Row, Rref, known}
+use Rattle.decoder.specs.Receiver as decoder
+use Rattle.decoder.specs.Packets as packets
+use Rattle.decoder.specs.Table.{read, slot, view, Echelon}
+use Rattle.table.specs.Window as window
+use Rattle.holding.specs.declared.Header.{Header}
+use Rattle.history.specs.History.{source, repair, Place, behind, ahead, placeOf, Call, source-call, repair-call, Reading, fails}
+use Rattle.history.specs.History.{located, check, placed, readSource, readRepair, reading}
+use Rattle.starts.specs.Starts.{Starts, also, moved, seen}
+use Rattle.starts.proofs.Agreeing.{Agree, also-agree, moved-agree, pass-agree}
+use Rattle.history.specs.Model.{Joined, State, foundBy, Outcome, refused, done, added, responds, answering, stateAfter, startsAfter, marking}
+use Rattle.holding.specs.Layout.{headerFrom, Holds}
+
+-- ---- Memory
+
+-- Positions that go on from congruent ones are congruent.
+on : (w b c i : ℕ) → b % w ≡ c % w → (b + i) % w ≡ (c + i) % w
+on w b c i h = sym (mod-add-mod b w i) ∙ ap (λ x. (x + i) % w) h ∙ mod-add-mod c w i
+
+next : (w b c : ℕ) → b % w ≡ c % w → suc b % w ≡ suc c % w
+next w b c h =
+    let e : suc b ≡ b + 1 = omega arith in
+    let g : c + 1 ≡ suc c = omega arith in
+    ap (λ x. x % w) e ∙ on w b c 1 h ∙ ap (λ x. x % w) g
+
+module _ (w E : ℕ) (m : List ℕ) where
+  read-same : (l : List ℕ) (n q p : ℕ) → q % w ≡ p % w → read (window.line w E l) n q ≡ read (window.line w E l) n p
+  unfolding read
+  read-same l zero q p h = refl
+  read-same l (suc n) q p h =
+      ap₂ (λ a x. (a, x)) (ap (λ k. byte (getD l k 0)) h) (read-same l n (suc q) (suc p) (next w q p h))
+
+  view-same : (n q p : ℕ) → q % w ≡ p % w → view (window.table w E m) n q ≡ view (window.table w E m) n p
+  unfolding view
+  view-same zero q p h = refl
+  view-same (suc n) q p h =
+      ap₂ (λ (t : Bool) (r : Row (Coded E) n × model.State (Coded E) n). slot t (r .0) (r .1)) (ap (λ k. window.inUse w E (window.row w E k m)) h)
+      (ap₂ (λ x y. (x, y))
+      (ap (λ k. read (window.line w E (window.row w E k m)) n (suc q)) h ∙ read-same (window.row w E (p % w) m) n (suc q) (suc p) (next w q p h))
+      (view-same n (suc q) (suc p) (next w q p h)))
+
+  echelon-same : (b c : ℕ) → b % w ≡ c % w → Echelon (window.table w E m) b w → Echelon (window.table w E m) c w
+  echelon-same b c h e = record {
+    one-at = λ q x y z.
+        let k = at q x y in
+        ap₂ cell (sym k) (sym k) ∙ e .one-at (b + (q - c)) (omega arith) (omega arith) (ap (λ r. window.inUse w E (window.row w E r m)) k ∙ z);
+    zero-before = λ q x y z j u v.
+        let k = at q x y in
+        ap₂ cell (sym k) (sym (at j u (omega arith)))
+        ∙ e .zero-before (b + (q - c)) (omega arith) (omega arith) (ap (λ r. window.inUse w E (window.row w E r m)) k ∙ z) (b + (j - c)) (omega arith) (omega arith);
+  }
+    where
+      cell : ℕ → ℕ → Byte
+      cell r k = byte (getD (window.row w E r m) k 0)
+
+      at : (q : ℕ) → c ≤ q → q < c + w → (b + (q - c)) % w ≡ q % w
+      at q x y = let g : c + (q - c) ≡ q = omega arith in on w b c (q - c) h ∙ ap (λ z. z % w) g
+
+  window-same : (b c : ℕ) (S : model.State (Coded E) w) → b % w ≡ c % w → window.Window w E m b S → window.Window w E m c S
+  window-same b c S h k = record {
+    echelon = echelon-same b c h (k .echelon);
+    reads = view-same w c b (sym h) ∙ k .reads;
+    flags = k .flags;
+  }
+
+-- ---- States
+
+-- The same window at congruent bases; or no base.
+pub record SameFrom (s : Setting) (t u : Joined s) : Type 0 where
+  pub row : t .base % s .width ≡ u .base % s .width
+  pub esi : t .base % 2 ^ 32 ≡ u .base % 2 ^ 32
+  pub window : t .window ≡ u .window
+
+abbrev pub Same : (s : Setting) → State s → State s → Type 0
+Same s none none = Unit {0}
+Same s none (some u) = ⊥
+Same s (some t) none = ⊥
+Same s (some t) (some u) = SameFrom s t u
+
+module _ (s : Setting) where
+  open Setting s using (size as E, width as w)
+
+  header-same : (t u : Joined s) → SameFrom s t u → headerFrom s t ≡ headerFrom s u
+  header-same t u k = ap₂ (λ r e. record { setting = s; joined = true; row = r; base = record { 0 = e } }) (k .row) (k .esi)
+
+  pub holds-same : (m : List ℕ) (t u : Joined s) → SameFrom s t u → Holds m s (some t) → Holds m s (some u)
+  holds-same m t u k h = record {
+    header = h .header ∙ ap some (header-same t u k);
+    rows = record {
+      reduced = subst Rref (k .window) (h .rows .reduced);
+      rows = window-same w E m (t .base) (u .base) (u .window) (k .row) (subst (window.Window w E m (t .base)) (k .window) (h .rows .rows));
+    };
+  }
+
+  -- What one memory holds is the same.
+  pub held-same : (m : List ℕ) (t u : State s) → Holds m s t → Holds m s u → Same s t u
+  held-same m none none h k = tt
+  held-same m none (some u) h k = true≢false (sym (ap (λ (x : Header). x .joined) (Option·some-injective _ _ (sym (h .header) ∙ k .header))))
+  held-same m (some t) none h k = true≢false (ap (λ (x : Header). x .joined) (Option·some-injective _ _ (sym (h .header) ∙ k .header)))
+  held-same m (some t) (some u) h k =
+      let e : headerFrom s t ≡ headerFrom s u = Option·some-injective _ _ (sym (h .header) ∙ k .header) in
+      let r = ap (λ (x : Header). x .row) e in
+      record {
+        row = r;
+        esi = ap (λ (x : Header). x .base .0) e;
+        window = sym (h .rows .rows .reads) ∙ view-same w E m w (t .base) (u .base) r ∙ k .rows .rows .reads;
+      }
+
+  -- A packet finds states that are the same the same.
+  pub found-same : (t u : State s) (p : ℕ) → Same s t u → SameFrom s (foundBy s t p) (foundBy s u p)
+  found-same none none p k = record { row = refl; esi = refl; window = refl }
+  found-same none (some u) p k = absurd k
+  found-same (some t) none p k = absurd k
+  found-same (some t) (some u) p k = k
+
+-- ---- Calls
+
+-- One packet, read at two bases.
+data Shifted (b c : ℕ) : Reading → Reading → Type 0 where
+  both-fail : (n : ℕ) → Shifted b c (fails n) (fails n)
+  both-source : (d : ℕ) (vs : List (List ℕ)) → Shifted b c (located (source (b + d) vs)) (located (source (c + d) vs))
+  both-repair : (d n : ℕ) (cs vs : List (List ℕ)) → Shifted b c (located (repair (b + d) n cs vs)) (located (repair (c + d) n cs vs))
+
+module _ (b c : ℕ) where
+  check-shifted : (t : Bool) (n : ℕ) (r q : Reading) → Shifted b c r q → Shifted b c (check t n r) (check t n q)
+  unfolding check
+  check-shifted true n r q k = k
+  check-shifted false n r q k = both-fail n
+
+  placed-shifted : (n : ℕ) (p : Place) (f g : ℕ → Reading) → ((d : ℕ) → Shifted b c (f d) (g d)) → Shifted b c (placed n p f) (placed n p g)
+  unfolding placed
+  placed-shifted n behind f g k = both-fail 8
+  placed-shifted n (ahead d) f g k = check-shifted (leb (d + n) 65536) 9 (f d) (g d) (k d)
+
+  place-same : (e : ℕ) → b % 2 ^ 32 ≡ c % 2 ^ 32 → placeOf b e ≡ placeOf c e
+  unfolding placeOf
+  place-same e h = ap (λ x. let d = distanceOf e x in cond (ltb d (2 ^ 31)) (ahead d) behind) h
+
+  reading-shifted : (s : Setting) (room : ℕ) (call : Call) → b % 2 ^ 32 ≡ c % 2 ^ 32 → Shifted b c (reading s b room call) (reading s c room call)
+  unfolding reading readSource readRepair
+  reading-shifted s room (source-call flow p) h =
+      check-shifted _ 2 _ _
+      (check-shifted _ 5 _ _
+      (check-shifted _ 4 _ _
+      (rw (place-same (sourceEsi p) h)
+      (placed-shifted _ (placeOf c (sourceEsi p)) _ _ (λ d. both-source d (sourceSymbols flow (sourceAdu p) (s .size)))))))
+  reading-shifted s room (repair-call p) h =
+      check-shifted _ 2 _ _
+      (check-shifted _ 5 _ _
+      (check-shifted _ 6 _ _
+      (rw (place-same (firstEsi p) h)
+      (placed-shifted _ (placeOf c (firstEsi p)) _ _ (λ d. check-shifted _ 10 _ _ (both-repair d (protectedCount p) _ (repairSymbols (s .size) p)))))))
+
+-- Outcomes that differ by no more than the base.
+pub data Alike (s : Setting) : Outcome s → Outcome s → Type 0 where
+  both-refused : (n : ℕ) → Alike s (refused n) (refused n)
+  both-done : (n : ℕ) (t u : Joined s) → SameFrom s t u → Alike s (done n t) (done n u)
+
+module _ (s : Setting) where
+  open Setting s using (size as E, width as w)
+
+  -- A packet d ahead of the base b, of n positions.
+  abbrev packet : (b d n : ℕ) → List (Row (Coded E) n) → decoder.Packet (Coded E)
+  packet b d n rows = record { first = b + d; count = n; rows = rows }
+
+  abbrev rise : (d n : ℕ) → ℕ
+  rise d n = (d + n) - w
+
+  abbrev inserted : (d n : ℕ) → List (Row (Coded E) n) → model.State (Coded E) w → Option (model.State (Coded E) w)
+  inserted d n rows S = decoder.insert-all (map (decoder.embed (Coded E) w (d - rise d n) n) rows) (decoder.advance-by (rise d n) S)
+
+  -- What receiving it comes to, by what its place makes of the window.
+  receive-at : (b d n : ℕ) (rows : List (Row (Coded E) n)) (S : model.State (Coded E) w)
+      → decoder.receive (record { base = b; window = S }) (packet b d n rows)
+      ≡ decoder.and-then (inserted d n rows S) (λ T. some (record { base = b + rise d n; window = T }))
+  unfolding decoder.receive decoder.rise
+  receive-at b d n rows S =
+      let k : (b + d + n) - (b + w) ≡ rise d n = omega arith in
+      let j : (b + d) - (b + rise d n) ≡ d - rise d n = omega arith in
+      ap
+      (λ x.
+      decoder.and-then (decoder.insert-all (decoder.over (Coded E) w (b + x) (packet b d n rows)) (decoder.advance-by x S))
+      (λ T. some (record { base = b + x; window = T }))) k
+      ∙ ap
+      (λ x.
+      decoder.and-then (decoder.insert-all (map (decoder.embed (Coded E) w x n) rows) (decoder.advance-by (rise d n) S))
+      (λ T. some (record { base = b + rise d n; window = T }))) j
+
+  newly-at : (b k : ℕ) (S T : model.State (Coded E) w)
+      → decoder.newly (record { base = b; window = S }) (record { base = b + k; window = T }) ≡ decoder.count-new w (known T) (λ i. known S (k + i))
+  unfolding decoder.newly
+  newly-at b k S T = let e : b + k - b ≡ k = omega arith in ap (λ x. decoder.count-new w (known T) (λ i. known S (x + i))) e
+
+  added-alike : (b c k : ℕ) (S : model.State (Coded E) w) (o : Option (model.State (Coded E) w)) → b % w ≡ c % w → b % 2 ^ 32 ≡ c % 2 ^ 32
+      → Alike s (added s (record { base = b; window = S }) (decoder.and-then o (λ T. some (record { base = b + k; window = T }))))
+      (added s (record { base = c; window = S }) (decoder.and-then o (λ T. some (record { base = c + k; window = T }))))
+  added-alike b c k S none h g = both-refused 11
+  added-alike b c k S (some T) h g =
+      rw (newly-at b k S T, newly-at c k S T)
+      (both-done _ _ _ (record { row = on w b c k h; esi = on (2 ^ 32) b c k g; window = refl }))
+
+  packet-alike : (b c d n : ℕ) (rows : List (Row (Coded E) n)) (S : model.State (Coded E) w) → b % w ≡ c % w → b % 2 ^ 32 ≡ c % 2 ^ 32
+      → Alike s (added s (record { base = b; window = S }) (decoder.receive (record { base = b; window = S }) (packet b d n rows)))
+      (added s (record { base = c; window = S }) (decoder.receive (record { base = c; window = S }) (packet c d n rows)))
+  packet-alike b c d n rows S h g =
+      rw (receive-at b d n rows S, receive-at c d n rows S) (added-alike b c (rise d n) S (inserted d n rows S) h g)
+
+  responds-alike : (b c : ℕ) (S : model.State (Coded E) w) (r q : Reading) → b % w ≡ c % w → b % 2 ^ 32 ≡ c % 2 ^ 32 → Shifted b c r q
+      → Alike s (responds s (record { base = b; window = S }) r) (responds s (record { base = c; window = S }) q)
+  unfolding packets.source packets.repair
+  responds-alike b c S r q h g (both-fail n) = both-refused n
+  responds-alike b c S r q h g (both-source d vs) = packet-alike b c d (length vs) _ S h g
+  responds-alike b c S r q h g (both-repair d n cs vs) = packet-alike b c d n _ S h g
+
+  -- A packet call comes to the same.
+  pub answering-alike : (t u : Joined s) (room : ℕ) (c : Call) → SameFrom s t u → Alike s (answering s t room c) (answering s u room c)
+  unfolding answering
+  answering-alike t u room c k =
+      subst (λ S. Alike s (responds s t (reading s (t .base) room c)) (responds s (record { base = u .base; window = S }) (reading s (u .base) room c)))
+      (k .window)
+      (responds-alike (t .base) (u .base) (t .window) _ _ (k .row) (k .esi) (reading-shifted (t .base) (u .base) s room c (k .esi)))
+
+-- ---- Marks
+
+module _ (s : Setting) where
+  open Setting s using (size as E, width as w)
+
+  -- After a packet that is read at two bases, marks that agree do.
+  naming-agree : (b c d n k : ℕ) (M N : Starts) → Agree w M N → Agree w (also (b + d - (b + k)) (also (b + d + n - (b + k)) M))
+      (also (c + d - (c + k)) (also (c + d + n - (c + k)) N))
+  naming-agree b c d n k M N a i l =
+      let e : b + d - (b + k) ≡ c + d - (c + k) = omega arith in
+      let f : b + d + n - (b + k) ≡ c + d + n - (c + k) = omega arith in
+      ap₂ (λ x y. also x (also y M) i) e f
+      ∙ also-agree w (also (c + d + n - (c + k)) M) (also (c + d + n - (c + k)) N) (also-agree w M N a (c + d + n - (c + k))) (c + d - (c + k)) i l
+
+  rising-agree : (b c k : ℕ) (M N : Starts) → Agree w M N → Agree w (moved w (b + k - b) M) (moved w (c + k - c) N)
+  rising-agree b c k M N a i l =
+      let e : b + k - b ≡ c + k - c = omega arith in
+      ap (λ x. moved w x M i) e ∙ moved-agree w M N a (c + k - c) i l
+
+  module _ (b c : ℕ) (S : model.State (Coded E) w) (M N : Starts) (a : Agree w M N) where
+    abbrev one : Joined s
+    one = record { base = b; window = S }
+
+    abbrev other : Joined s
+    other = record { base = c; window = S }
+
+    source-agree : (d k : ℕ) (vs : List (List ℕ)) (o : Option (model.State (Coded E) w))
+        → Agree w (marking s one M (located (source (b + d) vs)) (added s one (decoder.and-then o (λ T. some (record { base = b + k; window = T })))))
+        (marking s other N (located (source (c + d) vs)) (added s other (decoder.and-then o (λ T. some (record { base = c + k; window = T })))))
+    unfolding startsAfter
+    source-agree d k vs none i l = a i l
+    source-agree d k vs (some T) i l =
+        pass-agree w E (seen E w T) _ _ (naming-agree b c d (length vs) k _ _ (rising-agree b c k M N a)) w (omega arith) i l
+
+    repair-agree : (d n k : ℕ) (cs vs : List (List ℕ)) (o : Option (model.State (Coded E) w))
+        → Agree w (marking s one M (located (repair (b + d) n cs vs)) (added s one (decoder.and-then o (λ T. some (record { base = b + k; window = T })))))
+        (marking s other N (located (repair (c + d) n cs vs)) (added s other (decoder.and-then o (λ T. some (record { base = c + k; window = T })))))
+    unfolding startsAfter
+    repair-agree d n k cs vs none i l = a i l
+    repair-agree d n k cs vs (some T) i l = pass-agree w E (seen E w T) _ _ (rising-agree b c k M N a) w (omega arith) i l
+
+    source-packet : (d n : ℕ) (vs : List (List ℕ)) (rows : List (Row (Coded E) n))
+        → Agree w (marking s one M (located (source (b + d) vs)) (added s one (decoder.receive one (packet s b d n rows))))
+        (marking s other N (located (source (c + d) vs)) (added s other (decoder.receive other (packet s c d n rows))))
+    source-packet d n vs rows i l =
+        rw (receive-at s b d n rows S, receive-at s c d n rows S) (source-agree d (rise s d n) vs (inserted s d n rows S) i l)
+
+    repair-packet : (d n : ℕ) (cs vs : List (List ℕ)) (rows : List (Row (Coded E) n))
+        → Agree w (marking s one M (located (repair (b + d) n cs vs)) (added s one (decoder.receive one (packet s b d n rows))))
+        (marking s other N (located (repair (c + d) n cs vs)) (added s other (decoder.receive other (packet s c d n rows))))
+    repair-packet d n cs vs rows i l =
+        rw (receive-at s b d n rows S, receive-at s c d n rows S) (repair-agree d n (rise s d n) cs vs (inserted s d n rows S) i l)
+
+    marking-shifted : (r q : Reading) → Shifted b c r q → Agree w (marking s one M r (responds s one r)) (marking s other N q (responds s other q))
+    unfolding packets.source packets.repair
+    marking-shifted r q (both-fail n) i l = a i l
+    marking-shifted r q (both-source d vs) i l = source-packet d (length vs) vs _ i l
+    marking-shifted r q (both-repair d n cs vs) i l = repair-packet d n cs vs _ i l
+
+  -- The marks after a packet call.
+  pub marking-alike : (t u : Joined s) (room : ℕ) (c : Call) (M N : Starts) → SameFrom s t u → Agree w M N
+      → Agree w (marking s t M (reading s (t .base) room c) (answering s t room c)) (marking s u N (reading s (u .base) room c) (answering s u room c))
+  unfolding answering
+  marking-alike t u room c M N k a =
+      let r = reading s (t .base) room c in
+      let q = reading s (u .base) room c in
+      subst (λ S. let x : Joined s = record { base = u .base; window = S } in Agree w (marking s t M r (responds s t r)) (marking s x N q (responds s x q)))
+      (k .window)
+      (marking-shifted (t .base) (u .base) (t .window) M N a r q (reading-shifted (t .base) (u .base) s room c (k .esi)))
+
+  pub same-after : (o p : Outcome s) → Alike s o p → (t u : State s) → Same s t u → Same s (stateAfter t o) (stateAfter u p)
+  same-after o p (both-refused n) t u k = k
+  same-after o p (both-done n x y e) t u k = e

@@ -1,0 +1,4 @@
+pub mod Headers
+pub mod Finding
+pub mod Building
+pub mod Congruent

@@ -1,0 +1,53 @@
+-- How the receiver's memory holds a state: a header of 64 bytes, then the window's rows (crate `table`).
+-- The claims hold of every layout: a reader of them need not believe this one.
+use mathlib.Core.Path.{_≡_}
+use mathlib.Core.Bool.{true, false}
+use mathlib.Core.Option.{none, some}
+use mathlib.Core.List.{List}
+use Prim.Native.Nat.{ℕ, _+_, _%_, _^_}
+use Rattle.wire.specs.declared.Setting.{Setting}
+use Rattle.decoder.specs.Bytes.{Coded}
+use Rattle.decoder.specs.Model.{Rref}
+use Rattle.decoder.specs.Receiver as decoder
+use Rattle.table.specs.Window as window
+use Rattle.starts.specs.Starts.{Starts, seen}
+use Rattle.marks.specs.Marks as marks
+use Rattle.starts.specs.Settled.{Settled}
+use Rattle.holding.specs.declared.Header.{Header}
+use Rattle.history.specs.Model.{Joined, State}
+use Rattle.holding.specs.Header.{headerIn}
+
+-- The header of a receiver that has a base: row and ESI of a position are its remainders by the width and by 2^32; and of any.
+abbrev pub headerFrom : (s : Setting) → Joined s → Header
+headerFrom s t = record { setting = s; joined = true; row = t .base % s .width; base = record { 0 = t .base % 2 ^ 32 } }
+
+abbrev pub headerOf : (s : Setting) → State s → Header
+headerOf s none = record { setting = s; joined = false; row = 0; base = record { 0 = 0 } }
+headerOf s (some t) = headerFrom s t
+
+-- The memory m has the rows of a receiver that has a base; before any base it has none, wherever the base will be.
+pub record Stands (m : List ℕ) (s : Setting) (t : Joined s) : Type 0 where
+  pub reduced : Rref (t .window)
+  pub rows : window.Window (s .width) (s .size) m (t .base) (t .window)
+
+abbrev pub Rows : (m : List ℕ) (s : Setting) → State s → Type 0
+Rows m s none = (b : ℕ) → window.Window (s .width) (s .size) m b (decoder.empty (Coded (s .size)) (s .width))
+Rows m s (some t) = Stands m s t
+
+-- The memory m holds the state t of a receiver opened with s.
+pub record Holds (m : List ℕ) (s : Setting) (t : State s) : Type 0 where
+  pub header : headerIn m ≡ some (headerOf s t)
+  pub rows : Rows m s t
+
+-- It marks these positions as starts, and so that a pass through the window would add none; before any base, wherever the base will be.
+pub record MarksFrom (m : List ℕ) (s : Setting) (t : Joined s) (M : Starts) : Type 0 where
+  pub bytes : marks.Marks (s .width) (s .size) (t .base % s .width) m M
+  pub settled : Settled (s .size) (s .width) (seen (s .size) (s .width) (t .window)) (marks.notedIn m) M
+
+abbrev pub Marks : (m : List ℕ) (s : Setting) → State s → Starts → Type 0
+Marks m s none M = (b : ℕ) → marks.Marks (s .width) (s .size) b m M
+Marks m s (some t) M = MarksFrom m s t M
+
+-- Where the symbol at a position starts: after the coefficients of its row.
+abbrev pub symbolStart : Setting → ℕ → ℕ
+symbolStart s p = window.place (s .width) (s .size) (p % s .width) + s .width

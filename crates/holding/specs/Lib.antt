@@ -1,0 +1,4 @@
+pub mod Header
+pub mod Contained
+pub mod Layout
+pub mod Inner

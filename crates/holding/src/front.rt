@@ -1,0 +1,63 @@
+// The header at the front of a receiver's memory.
+ghost use mathlib.Core.Path.{_≡_};
+ghost use Prim.Native.Nat.{_≤_};
+ghost use lib.ListN.{length};
+ghost use Rattle.wire.specs.Settings.{Valid};
+ghost use Rattle.history.specs.History.{memorySize, workingSize};
+ghost use Rattle.holding.specs.Header.{headerIn};
+ghost use Rattle.holding.specs.Inner.{foundOf, freshHeader};
+use super::Found;
+use super::Header;
+use wire::Checked;
+use wire::Esi;
+use wire::Setting;
+
+// How many bytes a receiver needs.
+pub fn memory_size(setting: Setting) -> usize
+    requires { ⌜ Valid setting ⌝ }
+    ensures { λ r. ⌜ r ≡ memorySize setting ⌝ }
+{
+    64 + setting.width * (setting.width + setting.size + 4)
+}
+
+// How many bytes of working memory a packet call borrows.
+pub fn working_size(setting: Setting) -> usize
+    requires { ⌜ Valid setting ⌝ }
+    ensures { λ r. ⌜ r ≡ workingSize setting ⌝ }
+{
+    64 + (setting.width + 1) * (setting.width + setting.size + 4)
+}
+
+// Reads the header, if the memory has a receiver's and is long enough for its setting.
+pub fn read_header(mem: &[u8]) -> Found
+    ensures { λ r. ⌜ r ≡ foundOf (headerIn (now (mem .entry))) ⌝ }
+{
+    let Checked::Good(setting) = wire::setting_in(mem, 2) else {
+        return Found::NoHeader;
+    };
+    if mem.len() < memory_size(setting) {
+        return Found::NoHeader;
+    }
+    // 0 before any base, else one more than its row
+    let stored = memory::load_u16(mem, 8) as usize;
+    if setting.width < stored {
+        return Found::NoHeader;
+    }
+    let row = memory::excess(stored, 1);
+    let base = Esi(memory::load_u32(mem, 12));
+    Found::HeaderIs(Header {
+        setting,
+        joined: 0 < stored,
+        row,
+        base,
+    })
+}
+
+// Writes the header of a receiver that has no base.
+pub fn write_header(mem: &mut [u8], setting: Setting)
+    requires { ⌜ (64 ≤ length (now mem)) × Valid setting ⌝ }
+    ensures { λ _. ⌜ now (mem .exit) ≡ freshHeader setting (now (mem .entry)) ⌝ }
+{
+    wire::write_setting(mem, 2, setting);
+    memory::fill_part(mem, 8, 56, 0);
+}
