@@ -7,10 +7,10 @@ use Prim.Native.Nat.{ℕ, _+_, _-_, _≤_, _<_}
 use native.Mathlib.Omega.{arith}
 use lib.ListN.{length, take, drop, take-append-drop, length-drop}
 use lib.Seq.{drop-drop, drop-length}
-use Rattle.replay.specs.declared.Progress.{Progress}
-use Rattle.replay.specs.declared.Pass.{Pass}
-use Rattle.replay.specs.Promises.{isOver, Fed}
-use Rattle.replay.specs.Pieces.{Piece, taken, InTurn, reached, lineLeft, memoryLeft}
+use Rattle.records.specs.declared.Progress.{Progress}
+use Rattle.records.specs.declared.Pass.{Pass}
+use Rattle.records.specs.Promises.{isOver, Fed}
+use Rattle.records.specs.Pieces.{Piece, taken, InTurn, reached, lineLeft, memoryLeft}
 use Rattle.replay.proofs.Feeding.{left}
 use Rattle.capture.specs.Going.{Handed, Went}
 

@@ -5,9 +5,9 @@ use mathlib.Core.Logic.{_⊎_}
 use mathlib.Core.Bool.{true, false, not}
 use mathlib.Core.List.{List, [], _++_}
 use Prim.Native.Nat.{ℕ}
-use Rattle.replay.specs.declared.Progress.{Progress}
-use Rattle.replay.specs.Promises.{isOver}
-use Rattle.replay.specs.Pieces.{Piece, taken, InTurn, reached, lineLeft, memoryLeft}
+use Rattle.records.specs.declared.Progress.{Progress}
+use Rattle.records.specs.Promises.{isOver}
+use Rattle.records.specs.Pieces.{Piece, taken, InTurn, reached, lineLeft, memoryLeft}
 use Rattle.capture.specs.declared.Heard.{Heard}
 
 -- calls of `feed` have brought a capture from p, line and m to p′, line′ and m′ by the front of the input; what is left of it was not handed over

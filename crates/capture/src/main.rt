@@ -6,7 +6,7 @@ ghost use Rattle.capture.specs.Going.{Went};
 use libc::STDERR_FILENO;
 use libc::STDIN_FILENO;
 use libc::STDOUT_FILENO;
-use replay::Progress;
+use records::Progress;
 
 // How far the capture has come, whether more of the input is to be read, and whether something could not be printed.
 struct Heard {

@@ -12,16 +12,17 @@ use Rattle.printing.specs.Printed.{recordLine}
 use Rattle.printing.specs.Inner.{Put}
 use Rattle.printing.proofs.Laws.{record-length}
 use Rattle.lines.specs.Reading.{callIn}
-use Rattle.replay.specs.declared.Record.{Record}
-use Rattle.replay.specs.declared.Stage.{Stage}
-use Rattle.replay.specs.declared.Stage.the-variants.{Opening, Working, Closed}
-use Rattle.replay.specs.declared.Progress.{Progress}
+use Rattle.records.specs.declared.Record.{Record}
+use Rattle.records.specs.declared.Stage.{Stage}
+use Rattle.records.specs.declared.Stage.the-variants.{Opening, Working, Closed}
+use Rattle.records.specs.declared.Progress.{Progress}
 use Rattle.replay.specs.declared.Ended.{Ended}
-use Rattle.replay.specs.Records.{mostLines}
-use Rattle.replay.specs.Replay.{stateAt, settingNamed}
-use Rattle.replay.specs.Standing.{Standing, opening, closed, working, afterLine, printedLine, Counts, Stands, Kept}
-use Rattle.replay.specs.Inner.{OpensOrNot, OpenedBy, Answered, Counted, movedTo, Passed, FirstEnded, AtPackets, PacketEnded, LineEnded}
-use Rattle.replay.proofs.Steps.{total-more, all-counted, line-read, line-past, line-opens}
+use Rattle.records.specs.Records.{mostLines}
+use Rattle.records.specs.Replay.{stateAt, settingNamed}
+use Rattle.records.specs.Standing.{Standing, opening, closed, working, afterLine, printedLine, Counts, Stands, Kept}
+use Rattle.answering.specs.Inner.{OpensOrNot, OpenedBy, Answered}
+use Rattle.replay.specs.Inner.{Counted, movedTo, Passed, FirstEnded, AtPackets, PacketEnded, LineEnded}
+use Rattle.records.proofs.Steps.{total-more, all-counted, line-read, line-past, line-opens}
 
 -- ---- Sums
 

@@ -14,14 +14,15 @@ use Rattle.wire.proofs.Settings.{both}
 use Rattle.lines.specs.Lines.{linesFrom}
 use Rattle.lines.specs.Inner.{Ends}
 use Rattle.lines.proofs.Breaks.{ended, lines-go-on, front-unbroken}
-use Rattle.replay.specs.declared.Progress.{Progress}
-use Rattle.replay.specs.declared.Pass.{Pass}
+use Rattle.records.specs.declared.Progress.{Progress}
+use Rattle.records.specs.declared.Pass.{Pass}
 use Rattle.replay.specs.declared.Ended.{Ended}
-use Rattle.replay.specs.Standing.{Standing, opening, closed, working, printedLine, after, printedBy, Stands, Kept}
-use Rattle.replay.specs.Promises.{isOver, Held, GoesFrom, Fed}
-use Rattle.replay.specs.Inner.{KeptMore, movedTo, LineEnded, LineFed}
-use Rattle.replay.proofs.Steps.{after-append, printed-append}
-use Rattle.replay.proofs.Keeping.{kept-none}
+use Rattle.records.specs.Standing.{Standing, opening, closed, working, printedLine, after, printedBy, Stands, Kept}
+use Rattle.records.specs.Promises.{isOver, Held, GoesFrom, Fed}
+use Rattle.answering.specs.Inner.{KeptMore}
+use Rattle.replay.specs.Inner.{movedTo, LineEnded, LineFed}
+use Rattle.records.proofs.Steps.{after-append, printed-append}
+use Rattle.answering.proofs.Keeping.{kept-none}
 use Rattle.replay.proofs.Ending.{moved-counts}
 
 -- ---- Up to the end of a line

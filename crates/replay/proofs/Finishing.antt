@@ -6,11 +6,11 @@ use native.Mathlib.Omega.{arith}
 use Rattle.printing.specs.Printed.{lastLine}
 use Rattle.printing.specs.Inner.{Put}
 use Rattle.lines.specs.Lines.{linesFrom}
-use Rattle.replay.specs.declared.Progress.{Progress}
+use Rattle.records.specs.declared.Progress.{Progress}
 use Rattle.replay.specs.declared.Ended.{Ended}
-use Rattle.replay.specs.Records.{summary}
-use Rattle.replay.specs.Standing.{Standing, opening, closed, working, printedLine, lastOf, Stands, Kept}
-use Rattle.replay.specs.Promises.{Finished}
+use Rattle.records.specs.Records.{summary}
+use Rattle.records.specs.Standing.{Standing, opening, closed, working, printedLine, lastOf, Stands, Kept}
+use Rattle.records.specs.Promises.{Finished}
 use Rattle.replay.specs.Inner.{LineEnded, InputEnded}
 
 -- the last line has the sums

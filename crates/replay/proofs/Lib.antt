@@ -1,10 +1,3 @@
-pub mod Steps
-pub mod Judging
-pub mod Claims
-pub mod Keeping
-pub mod Answering
-pub mod Openings
 pub mod Ending
 pub mod Feeding
 pub mod Finishing
-pub mod Pieces

@@ -1,8 +1,1 @@
-pub mod Records
-pub mod Replay
-pub mod Claims
-pub mod Standing
-pub mod Promises
-pub mod Pieces
 pub mod Inner
-pub mod Facts

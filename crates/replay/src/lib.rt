@@ -5,157 +5,24 @@ ghost use mathlib.Core.Bool.{cond, _&&_, not};
 ghost use Prim.Native.Nat.{_+_, _≤_};
 ghost use lib.Dec.{eqb, ltb, leb};
 ghost use lib.ListN.{length};
-ghost use Rattle.receiver.specs.Promises.{said, answerOf};
-ghost use Rattle.replay.specs.Replay.{recordOf};
-ghost use Rattle.replay.specs.Promises.{isOver, Begun, Fed, Finished};
-ghost use Rattle.replay.specs.Inner.{Lent, KeptMore, OpenedBy, Answered, Counted, movedTo};
+ghost use Rattle.records.specs.Promises.{isOver, Begun, Fed, Finished};
+ghost use Rattle.replay.specs.Inner.{Lent, Counted, movedTo};
 ghost use Rattle.replay.specs.Inner.{FirstEnded, PacketEnded, LineEnded, LineFed, InputEnded};
-use lines::First;
-use lines::Spoken;
-use receiver::Answer;
-use receiver::PacketAnswer;
-use wire::Checked;
-
-// The most characters that a line has, and what stands for more.
-const LONGEST: usize = 8192;
-
-const TOO_LONG: usize = 8193;
+use records::Pass;
+use records::Progress;
+use records::Record;
+use records::Stage;
 
 // The most packet lines that are read.
 const MOST: u64 = 1000000;
 
-// The most bytes that a receiver's memory or the working memory may have.
-const ROOM: usize = 65536;
-
-// The answer to a line that is not of the form.
-const MALFORMED: u64 = 15;
-
 // Output is taken up to here: a record's line, three numbers of at most 20 digits and their names, fits after it.
 const NEARLY_FULL: usize = 65458;
-
-// What is printed of a packet line: 0 or the number of the refusal, 15 where the line is not of the form; and how many positions became known.
-pub struct Record {
-    pub answer: u64,
-    pub known: u64,
-}
-
-// Where a capture stands: its first line is to come; its packet lines are worked through; or its first line was bad.
-pub enum Stage {
-    Opening,
-    Working,
-    Closed,
-}
-
-// How far a capture has been worked through: its stage, how many bytes of a line that has not ended are kept (8,193 where there are more than a line
-// has), and the sums of the records so far.
-pub struct Progress {
-    pub stage: Stage,
-    pub have: usize,
-    pub lines: u64,
-    pub accepted: u64,
-    pub refused: u64,
-    pub known: u64,
-}
-
-// What was made of a piece of the input: how far the capture has come, how many bytes were taken, and how many were written.
-pub struct Pass {
-    pub progress: Progress,
-    pub taken: usize,
-    pub written: usize,
-}
 
 // What was made of a line's end: how far the capture has come, and where what is written ends.
 struct Ended {
     progress: Progress,
     at: usize,
-}
-
-// The record of what a packet call answered.
-fn recorded(answer: PacketAnswer) -> Record
-    ensures { λ r. ⌜ r ≡ recordOf (said (answerOf answer)) ⌝ }
-{
-    match answer {
-        PacketAnswer::Accepted(n, _) => Record {
-            answer: 0,
-            known: n as u64,
-        },
-        PacketAnswer::NotAccepted(refusal) => Record {
-            answer: wire::refusal_number(refusal) as u64,
-            known: 0,
-        },
-    }
-}
-
-// Keeps more bytes of a line that has not ended.
-fn keep(line: &mut [u8], have: usize, bytes: &[u8]) -> usize
-    requires { ⌜ 8192 ≤ length (now line) ⌝ }
-    ensures { λ r. ⌜ KeptMore have r (now (line .entry)) (now (line .exit)) (now (bytes .entry)) ⌝ }
-{
-    if LONGEST < have {
-        return TOO_LONG;
-    }
-    if LONGEST - have < bytes.len() {
-        return TOO_LONG;
-    }
-    memory::copy_part(line, have, bytes, 0, bytes.len());
-    have + bytes.len()
-}
-
-// Opens the receiver that the first line names, if it names one.
-fn open_by(line: &[u8], have: usize, mem: &mut [u8]) -> bool
-    requires { ⌜ (8192 ≤ length (now line)) × (length (now mem) ≡ 65536) ⌝ }
-    ensures { λ r. ⌜ OpenedBy have (now (line .entry)) (now (mem .exit)) r ⌝ }
-{
-    if LONGEST < have {
-        return false;
-    }
-    let First::Values(scheme, size, width) = lines::read_first(memory::part(line, 0, have)) else {
-        return false;
-    };
-    let Checked::Good(setting) = wire::setting_of(scheme, size, width) else {
-        return false;
-    };
-    // the receiver's own memory is the smaller, and opening tests it
-    if ROOM < receiver::working_size(setting) {
-        return false;
-    }
-    let Answer::Done(_) = receiver::open(mem, scheme, size, width) else {
-        return false;
-    };
-    true
-}
-
-// Answers a packet line.
-fn answer_line(
-    line: &[u8],
-    have: usize,
-    mem: &mut [u8],
-    work: &mut [u8],
-    packet: &mut [u8],
-) -> Record
-    requires { ⌜ (8192 ≤ length (now line)) × (length (now work) ≡ 65536) × (4096 ≤ length (now packet)) ⌝ }
-    ensures { λ r. ⌜ Answered have (now (line .entry)) (now (mem .entry)) (now (mem .exit)) r ⌝ }
-{
-    if LONGEST < have {
-        return Record {
-            answer: MALFORMED,
-            known: 0,
-        };
-    }
-    match lines::read_line(memory::part(line, 0, have), packet) {
-        Spoken::Source(flow, n) => {
-            recorded(receiver::receive_source(mem, work, flow, memory::part(packet, 0, n)))
-        }
-        Spoken::Repair(n) => recorded(receiver::receive_repair(
-            mem,
-            work,
-            memory::part(packet, 0, n),
-        )),
-        Spoken::Malformed => Record {
-            answer: MALFORMED,
-            known: 0,
-        },
-    }
 }
 
 // 1 where the answer is 0, else 0.
@@ -199,7 +66,7 @@ fn end_first(p: Progress, line: &[u8], mem: &mut [u8]) -> Progress
     requires { ⌜ (8192 ≤ length (now line)) × (length (now mem) ≡ 65536) ⌝ }
     ensures { λ r. ⌜ FirstEnded p (now (line .entry)) (now (mem .entry)) (now (mem .exit)) r ⌝ }
 {
-    if open_by(line, p.have, mem) {
+    if answering::open_by(line, p.have, mem) {
         return moved(p, Stage::Working, 0);
     }
     moved(p, Stage::Closed, 0)
@@ -225,7 +92,7 @@ fn end_packet(
             at,
         };
     }
-    let record = answer_line(line, p.have, mem, work, packet);
+    let record = answering::answer_line(line, p.have, mem, work, packet);
     let next = printing::put_record(out, at, n + 1, record.answer, record.known);
     Ended {
         progress: count(p, record),
@@ -276,7 +143,7 @@ fn feed_line(
         (now (input .entry)) (now (out .entry)) (now (out .exit)) at r ⌝ }
 {
     let n = lines::line_end(input);
-    let have = keep(line, p.have, memory::part(input, 0, n));
+    let have = answering::keep(line, p.have, memory::part(input, 0, n));
     let stage = p.stage;
     let kept = moved(p, stage, have);
     if n == input.len() {

@@ -1,8 +1,8 @@
 -- `replay::begin` meets its contract.
 use mathlib.Core.Path.{refl}
 use native.Mathlib.Omega.{arith}
-use Rattle.replay.specs.Records.{total}
-use Rattle.replay.proofs.Keeping.{kept-none}
+use Rattle.records.specs.Records.{total}
+use Rattle.answering.proofs.Keeping.{kept-none}
 use Rattle.replay.proofs.begin.Statement.{statement}
 use Rattle.replay.proofs.begin.Tie as tie
 

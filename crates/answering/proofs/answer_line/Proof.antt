@@ -1,4 +1,4 @@
--- `replay::answer_line` meets its contract.
+-- `answering::answer_line` meets its contract.
 use mathlib.Core.Path.{_≡_, ap, sym, _∙_}
 use mathlib.Core.List.{List}
 use mathlib.Core.Option.{some}
@@ -6,12 +6,12 @@ use Prim.Native.Nat.{ℕ}
 use native.Mathlib.Omega.{arith}
 use Rattle.history.specs.History.{source-call, repair-call}
 use Rattle.lines.specs.Reading.{callIn}
-use Rattle.replay.specs.Standing.{Kept}
-use Rattle.replay.proofs.Keeping.{kept-line, kept-long}
-use Rattle.replay.proofs.Answering.{long-none, answered-other, answered-call, spoken-source, spoken-repair, spoken-malformed}
+use Rattle.records.specs.Standing.{Kept}
+use Rattle.answering.proofs.Keeping.{kept-line, kept-long}
+use Rattle.answering.proofs.Answering.{long-none, answered-other, answered-call, spoken-source, spoken-repair, spoken-malformed}
 use borrow.Author.Needs.{needs}
-use Rattle.replay.proofs.answer_line.Statement.{statement}
-use Rattle.replay.proofs.answer_line.Tie as tie
+use Rattle.answering.proofs.answer_line.Statement.{statement}
+use Rattle.answering.proofs.answer_line.Tie as tie
 
 -- the line that was read
 read : (p : tie.After-read-line) (l : List ℕ) → Kept (p .before .before .before .before .before .before .before .before .args .have) (p .before .before .before .before .before .before .before .before .args .line .now) l

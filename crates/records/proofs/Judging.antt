@@ -19,10 +19,10 @@ use Rattle.history.proofs.Readings.{reading-passes}
 use Rattle.lines.specs.Forms.{Says}
 use Rattle.lines.specs.Reading.{callIn}
 use Rattle.lines.proofs.Promises.{read-exactly}
-use Rattle.replay.specs.declared.Record.{Record}
-use Rattle.replay.specs.Records.{room}
-use Rattle.replay.specs.Replay.{recordOf, recordAt, stateAt, recordsFrom}
-use Rattle.replay.specs.Claims.{saidBy, loggedBy, Recorded, Records}
+use Rattle.records.specs.declared.Record.{Record}
+use Rattle.records.specs.Records.{room}
+use Rattle.records.specs.Replay.{recordOf, recordAt, stateAt, recordsFrom}
+use Rattle.records.specs.Claims.{saidBy, loggedBy, Recorded, Records}
 
 -- ---- No refusal has the number 0
 

@@ -8,7 +8,7 @@ use Rattle.memory.specs.Part.{part, splice}
 use Rattle.memory.proofs.Parts.{whole}
 use Rattle.printing.proofs.Laws.{put-splice}
 use Rattle.lines.specs.Forms.{longest}
-use Rattle.replay.specs.Standing.{Kept}
+use Rattle.records.specs.Standing.{Kept}
 
 -- too many bytes stay too many
 pub kept-over : {have : ℕ} {line : List ℕ} (line′ q bytes : List ℕ) → Kept have line q → longest < have + length bytes

@@ -12,11 +12,11 @@ use Rattle.holding.specs.Layout.{Holds}
 use Rattle.printing.specs.Printed.{recordLine}
 use Rattle.lines.specs.Forms.{longest}
 use Rattle.lines.specs.Reading.{callIn}
-use Rattle.replay.specs.declared.Record.{Record}
-use Rattle.replay.specs.declared.Stage.the-variants.{Opening, Working, Closed}
-use Rattle.replay.specs.declared.Progress.{Progress}
-use Rattle.replay.specs.Records.{mostLines, acceptedIn, refusedIn, knownIn, summary}
-use Rattle.replay.specs.Replay.{recordAt, stateAt, settingNamed}
+use Rattle.records.specs.declared.Record.{Record}
+use Rattle.records.specs.declared.Stage.the-variants.{Opening, Working, Closed}
+use Rattle.records.specs.declared.Progress.{Progress}
+use Rattle.records.specs.Records.{mostLines, acceptedIn, refusedIn, knownIn, summary}
+use Rattle.records.specs.Replay.{recordAt, stateAt, settingNamed}
 
 -- the first line is to come; it was bad; or the receiver's state, and the records so far
 pub data Standing : Type 0 where

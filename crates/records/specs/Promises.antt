@@ -7,12 +7,12 @@ use Prim.Native.Nat.{ℕ, _≤_, _<_}
 use lib.Dec.{leb}
 use lib.ListN.{length, take}
 use Rattle.lines.specs.Lines.{linesFrom}
-use Rattle.replay.specs.declared.Stage.{Stage}
-use Rattle.replay.specs.declared.Stage.the-variants.{Opening, Working, Closed}
-use Rattle.replay.specs.declared.Progress.{Progress}
-use Rattle.replay.specs.declared.Pass.{Pass}
-use Rattle.replay.specs.Records.{mostLines}
-use Rattle.replay.specs.Standing.{Standing, opening, after, printedBy, lastOf, Stands, Kept}
+use Rattle.records.specs.declared.Stage.{Stage}
+use Rattle.records.specs.declared.Stage.the-variants.{Opening, Working, Closed}
+use Rattle.records.specs.declared.Progress.{Progress}
+use Rattle.records.specs.declared.Pass.{Pass}
+use Rattle.records.specs.Records.{mostLines}
+use Rattle.records.specs.Standing.{Standing, opening, after, printedBy, lastOf, Stands, Kept}
 
 -- nothing more of the input is wanted: the first line was bad, or the most packet lines have been read
 abbrev pub isDone : Stage → (lines : ℕ) → Bool

@@ -20,11 +20,11 @@ use Rattle.lines.specs.declared.Spoken.the-variants.{Source, Repair, Malformed}
 use Rattle.lines.specs.Forms.{longest}
 use Rattle.lines.specs.Inner.{CallRead}
 use Rattle.lines.specs.Reading.{callIn}
-use Rattle.replay.specs.declared.Record.{Record}
-use Rattle.replay.specs.Records.{room}
-use Rattle.replay.specs.Replay.{recordOf, malformed, recordAt, stateAt}
-use Rattle.replay.specs.Standing.{Kept}
-use Rattle.replay.specs.Inner.{Answered}
+use Rattle.records.specs.declared.Record.{Record}
+use Rattle.records.specs.Records.{room}
+use Rattle.records.specs.Replay.{recordOf, malformed, recordAt, stateAt}
+use Rattle.records.specs.Standing.{Kept}
+use Rattle.answering.specs.Inner.{Answered}
 
 -- ---- Packet lines
 

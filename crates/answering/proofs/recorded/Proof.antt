@@ -1,7 +1,7 @@
--- `replay::recorded` meets its contract.
+-- `answering::recorded` meets its contract.
 use borrow.Author.Needs.{needs}
-use Rattle.replay.proofs.recorded.Statement.{statement}
-use Rattle.replay.proofs.recorded.Tie as tie
+use Rattle.answering.proofs.recorded.Statement.{statement}
+use Rattle.answering.proofs.recorded.Tie as tie
 
 returns : tie.Need-returns
 returns c = rw (c .before .answer .given .1)

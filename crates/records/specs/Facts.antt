@@ -22,8 +22,8 @@ use Rattle.text.specs.Text.{ascii, digit, decimalWithin, decimal}
 use Rattle.printing.specs.Printed.{recordLine, lastLine}
 use Rattle.lines.specs.Lines.{linesFrom}
 use Rattle.lines.specs.Reading.{after, numberFrom, numberIn, valueOf, bytesIn, valuesIn, repairIn, sourceIn, callIn}
-use Rattle.replay.specs.Records.{total, recordLines, summary}
-use Rattle.replay.specs.Replay.{recordsFrom, settingNamed, printedWith, printedLines, printed}
+use Rattle.records.specs.Records.{total, recordLines, summary}
+use Rattle.records.specs.Replay.{recordsFrom, settingNamed, printedWith, printedLines, printed}
 
 -- what is printed of a text
 abbrev of : String → List ℕ

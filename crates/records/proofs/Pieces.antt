@@ -16,16 +16,16 @@ use Rattle.lines.specs.Lines.{linesFrom, linesOf}
 use Rattle.lines.specs.Reading.{callIn}
 use Rattle.lines.specs.Promises.{Unbroken, AllUnbroken, joined}
 use Rattle.lines.proofs.Breaks.{ended, lines-go-on}
-use Rattle.replay.specs.declared.Record.{Record}
-use Rattle.replay.specs.declared.Progress.{Progress}
-use Rattle.replay.specs.Records.{mostLines}
-use Rattle.replay.specs.Replay.{recordAt, stateAt, settingNamed, printedLines}
-use Rattle.replay.specs.Standing.{Standing, opening, closed, working, openedWith, afterLine, printedLine, after, printedBy, lastOf, Stands}
-use Rattle.replay.specs.Claims.{Opens}
-use Rattle.replay.specs.Promises.{isOver, Held, GoesFrom}
-use Rattle.replay.specs.Pieces.{Piece, taken, written, InTurn, reached, lineLeft, memoryLeft, Worked-through, Stops}
-use Rattle.replay.proofs.Steps.{line-read, line-past, after-append, printed-append, printed-by}
-use Rattle.replay.proofs.Claims.{prints}
+use Rattle.records.specs.declared.Record.{Record}
+use Rattle.records.specs.declared.Progress.{Progress}
+use Rattle.records.specs.Records.{mostLines}
+use Rattle.records.specs.Replay.{recordAt, stateAt, settingNamed, printedLines}
+use Rattle.records.specs.Standing.{Standing, opening, closed, working, openedWith, afterLine, printedLine, after, printedBy, lastOf, Stands}
+use Rattle.records.specs.Claims.{Opens}
+use Rattle.records.specs.Promises.{isOver, Held, GoesFrom}
+use Rattle.records.specs.Pieces.{Piece, taken, written, InTurn, reached, lineLeft, memoryLeft, Worked-through, Stops}
+use Rattle.records.proofs.Steps.{line-read, line-past, after-append, printed-append, printed-by}
+use Rattle.records.proofs.Claims.{prints}
 
 -- pieces go on as one
 through : (xs : List Piece) (p : Progress) (line m : List ℕ) (w : Standing) (q : List ℕ) → Held p line m w q → InTurn p line m xs

@@ -14,9 +14,9 @@ use Rattle.printing.specs.Printed.{lastLine}
 use Rattle.lines.specs.Lines.{linesOf}
 use Rattle.lines.specs.Forms.{Values, firstLine, Says}
 use Rattle.lines.specs.Reading.{callIn}
-use Rattle.replay.specs.declared.Record.{Record}
-use Rattle.replay.specs.Records.{room, mostLines, acceptedIn, refusedIn, knownIn, recordLines}
-use Rattle.replay.specs.Replay.{settingNamed, printed}
+use Rattle.records.specs.declared.Record.{Record}
+use Rattle.records.specs.Records.{room, mostLines, acceptedIn, refusedIn, knownIn, recordLines}
+use Rattle.records.specs.Replay.{settingNamed, printed}
 
 -- the values that name a setting
 abbrev pub valuesOf : Setting → Values

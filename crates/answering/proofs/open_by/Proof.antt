@@ -1,4 +1,4 @@
--- `replay::open_by` meets its contract.
+-- `answering::open_by` meets its contract.
 use mathlib.Core.Path.{_≡_, ap, _∙_}
 use mathlib.Core.Bool.{cond}
 use mathlib.Core.List.{List}
@@ -15,15 +15,15 @@ use Rattle.history.specs.History.{workingSize}
 use Rattle.receiver.specs.Promises.{said, opening}
 use Rattle.lines.specs.Forms.{longest}
 use Rattle.lines.specs.Reading.{on, valuesIn}
-use Rattle.replay.specs.Records.{room}
-use Rattle.replay.specs.Replay.{fitting, settingNamed}
-use Rattle.replay.specs.Standing.{Kept}
-use Rattle.replay.proofs.Keeping.{kept-line, kept-long, kept-short}
-use Rattle.replay.proofs.Openings.{opens-none, long-opens-none, no-values, with-values, no-setting, good-setting, large-working, large-memory, both-fit}
-use Rattle.replay.proofs.Openings.{not-fitting, open-refused, open-done, opens}
+use Rattle.records.specs.Records.{room}
+use Rattle.records.specs.Replay.{fitting, settingNamed}
+use Rattle.records.specs.Standing.{Kept}
+use Rattle.answering.proofs.Keeping.{kept-line, kept-long, kept-short}
+use Rattle.answering.proofs.Openings.{opens-none, long-opens-none, no-values, with-values, no-setting, good-setting, large-working, large-memory, both-fit}
+use Rattle.answering.proofs.Openings.{not-fitting, open-refused, open-done, opens}
 use borrow.Author.Needs.{needs}
-use Rattle.replay.proofs.open_by.Statement.{statement}
-use Rattle.replay.proofs.open_by.Tie as tie
+use Rattle.answering.proofs.open_by.Statement.{statement}
+use Rattle.answering.proofs.open_by.Tie as tie
 
 -- the values that were read of the line
 read : (p : tie.After-read-first) (l : List ℕ) → Kept (p .before .before .before .before .before .args .have) (p .before .before .before .before .before .args .line .now) l

@@ -25,10 +25,10 @@ use Rattle.lines.specs.Forms.{Values, longest}
 use Rattle.lines.specs.Reading.{on, valuesIn}
 use Rattle.lines.specs.Inner.{valuesOf}
 use Rattle.lines.proofs.Options.{cond-same}
-use Rattle.replay.specs.Records.{room}
-use Rattle.replay.specs.Replay.{fitting, settingNamed}
-use Rattle.replay.specs.Standing.{Kept}
-use Rattle.replay.specs.Inner.{OpensOrNot, OpenedBy}
+use Rattle.records.specs.Records.{room}
+use Rattle.records.specs.Replay.{fitting, settingNamed}
+use Rattle.records.specs.Standing.{Kept}
+use Rattle.answering.specs.Inner.{OpensOrNot, OpenedBy}
 
 -- no line that can be kept so opens a receiver
 pub opens-none : {have : ℕ} {line : List ℕ} (m′ : List ℕ) → ((l : List ℕ) → Kept have line l → settingNamed l ≡ none) → OpenedBy have line m′ false

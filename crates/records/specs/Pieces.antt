@@ -7,12 +7,12 @@ use Prim.Native.Nat.{ℕ, _≤_}
 use lib.ListN.{length, take}
 use Rattle.wire.specs.declared.Setting.{Setting}
 use Rattle.lines.specs.Promises.{AllUnbroken, Unbroken, joined}
-use Rattle.replay.specs.declared.Progress.{Progress}
-use Rattle.replay.specs.declared.Pass.{Pass}
-use Rattle.replay.specs.Records.{mostLines}
-use Rattle.replay.specs.Replay.{printed}
-use Rattle.replay.specs.Claims.{Opens}
-use Rattle.replay.specs.Promises.{isOver, Begun, Fed, Finished}
+use Rattle.records.specs.declared.Progress.{Progress}
+use Rattle.records.specs.declared.Pass.{Pass}
+use Rattle.records.specs.Records.{mostLines}
+use Rattle.records.specs.Replay.{printed}
+use Rattle.records.specs.Claims.{Opens}
+use Rattle.records.specs.Promises.{isOver, Begun, Fed, Finished}
 
 -- a call of `feed`: the piece that it was given, its answer, and its output, the kept line and the receiver's memory as it left them
 pub record Piece : Type 0 where

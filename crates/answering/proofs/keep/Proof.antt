@@ -1,9 +1,9 @@
--- `replay::keep` meets its contract.
+-- `answering::keep` meets its contract.
 use native.Mathlib.Omega.{arith}
-use Rattle.replay.proofs.Keeping.{kept-over, kept-more}
+use Rattle.answering.proofs.Keeping.{kept-over, kept-more}
 use borrow.Author.Needs.{needs}
-use Rattle.replay.proofs.keep.Statement.{statement}
-use Rattle.replay.proofs.keep.Tie as tie
+use Rattle.answering.proofs.keep.Statement.{statement}
+use Rattle.answering.proofs.keep.Tie as tie
 
 returns : tie.Need-returns
 returns c = λ q k. kept-over _ q _ k (omega arith)

@@ -12,10 +12,10 @@ use Rattle.wire.specs.declared.Setting.{Setting}
 use Rattle.history.specs.Model.{State}
 use Rattle.printing.specs.Printed.{recordLine}
 use Rattle.lines.specs.Reading.{callIn}
-use Rattle.replay.specs.declared.Record.{Record}
-use Rattle.replay.specs.Records.{mostLines, total, acceptedIn, refusedIn, recordLines, summary}
-use Rattle.replay.specs.Replay.{recordAt, stateAt, recordsFrom, settingNamed, printedWith, printedLines}
-use Rattle.replay.specs.Standing.{Standing, opening, closed, working, openedWith, afterLine, printedLine, after, printedBy, lastOf}
+use Rattle.records.specs.declared.Record.{Record}
+use Rattle.records.specs.Records.{mostLines, total, acceptedIn, refusedIn, recordLines, summary}
+use Rattle.records.specs.Replay.{recordAt, stateAt, recordsFrom, settingNamed, printedWith, printedLines}
+use Rattle.records.specs.Standing.{Standing, opening, closed, working, openedWith, afterLine, printedLine, after, printedBy, lastOf}
 
 -- ---- Sums
 

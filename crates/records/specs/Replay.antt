@@ -13,8 +13,8 @@ use Rattle.history.specs.Model.{State, opened, saidOf, stateAfter, receiving}
 use Rattle.lines.specs.Lines.{linesOf}
 use Rattle.lines.specs.Forms.{Values, longest}
 use Rattle.lines.specs.Reading.{on, valuesIn, callIn}
-use Rattle.replay.specs.declared.Record.{Record}
-use Rattle.replay.specs.Records.{room, mostLines, recordLines, summary}
+use Rattle.records.specs.declared.Record.{Record}
+use Rattle.records.specs.Records.{room, mostLines, recordLines, summary}
 
 -- ---- Packet lines
 

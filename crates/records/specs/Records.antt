@@ -5,7 +5,7 @@ use Prim.Native.Nat.{ℕ, _+_}
 use lib.Dec.{eqb}
 use lib.ListN.{length}
 use Rattle.printing.specs.Printed.{recordLine, lastLine}
-use Rattle.replay.specs.declared.Record.{Record}
+use Rattle.records.specs.declared.Record.{Record}
 
 -- the most bytes that a receiver's memory and the working memory may have; as much of each is lent
 abbrev pub room : ℕ

@@ -23,11 +23,11 @@ use Rattle.lines.specs.Forms.{Values, firstLine, longest}
 use Rattle.lines.specs.Reading.{on, valuesIn}
 use Rattle.lines.proofs.Options.{cond-some, on-some}
 use Rattle.lines.proofs.Promises.{read-exactly}
-use Rattle.replay.specs.Records.{room, mostLines, total, summary}
-use Rattle.replay.specs.Replay.{recordsFrom, fitting, settingWith, settingNamed, printedWith, printedLines, printed}
-use Rattle.replay.specs.Claims.{valuesOf, Opens, Printing, Prints}
-use Rattle.replay.proofs.Steps.{all-counted}
-use Rattle.replay.proofs.Judging.{records, records-once}
+use Rattle.records.specs.Records.{room, mostLines, total, summary}
+use Rattle.records.specs.Replay.{recordsFrom, fitting, settingWith, settingNamed, printedWith, printedLines, printed}
+use Rattle.records.specs.Claims.{valuesOf, Opens, Printing, Prints}
+use Rattle.records.proofs.Steps.{all-counted}
+use Rattle.records.proofs.Judging.{records, records-once}
 
 -- ---- First lines
 

@@ -1,0 +1,3 @@
+pub mod Keeping
+pub mod Answering
+pub mod Openings

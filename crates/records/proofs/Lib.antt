@@ -1,0 +1,4 @@
+pub mod Steps
+pub mod Judging
+pub mod Claims
+pub mod Pieces

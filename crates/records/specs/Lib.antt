@@ -1,0 +1,7 @@
+pub mod Records
+pub mod Replay
+pub mod Claims
+pub mod Standing
+pub mod Promises
+pub mod Pieces
+pub mod Facts
