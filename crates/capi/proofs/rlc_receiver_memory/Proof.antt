@@ -3,7 +3,7 @@ use native.Mathlib.Omega.{arith}
 use Rattle.wire.specs.declared.Setting.{Setting}
 use Rattle.wire.specs.Settings.{Valid}
 use Rattle.history.specs.History.{memorySize}
-use Rattle.capi.proofs.Coding.{asked-none, asked-some, asked-valid}
+use Rattle.coding.proofs.Coding.{asked-none, asked-some, asked-valid}
 use borrow.Author.Needs.{needs}
 use Rattle.capi.proofs.rlc_receiver_memory.Statement.{statement}
 use Rattle.capi.proofs.rlc_receiver_memory.Tie as tie

@@ -3,7 +3,7 @@ use native.Mathlib.Omega.{arith}
 use Rattle.wire.specs.declared.Setting.{Setting}
 use Rattle.wire.specs.Settings.{Valid}
 use Rattle.history.specs.History.{workingSize}
-use Rattle.capi.proofs.Coding.{asked-none, asked-some, asked-valid}
+use Rattle.coding.proofs.Coding.{asked-none, asked-some, asked-valid}
 use borrow.Author.Needs.{needs}
 use Rattle.capi.proofs.rlc_working_memory.Statement.{statement}
 use Rattle.capi.proofs.rlc_working_memory.Tie as tie

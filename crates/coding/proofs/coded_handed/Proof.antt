@@ -1,9 +1,9 @@
--- `capi::coded_handed` meets its contract.
+-- `coding::coded_handed` meets its contract.
 use Rattle.receiver.specs.Promises.{handedSaid}
-use Rattle.capi.proofs.Coding.{coded-case}
+use Rattle.coding.proofs.Coding.{coded-case}
 use borrow.Author.Needs.{needs}
-use Rattle.capi.proofs.coded_handed.Statement.{statement}
-use Rattle.capi.proofs.coded_handed.Tie as tie
+use Rattle.coding.proofs.coded_handed.Statement.{statement}
+use Rattle.coding.proofs.coded_handed.Tie as tie
 
 returns : tie.Need-returns
 returns c = coded-case handedSaid (c .coded-adu .ok) (c .before .before .handed .given .1) (c .coded-adu .ensures)

@@ -1,8 +1,8 @@
--- `capi::coded_adu` meets its contract.
-use Rattle.capi.proofs.Coding.{adu-large}
+-- `coding::coded_adu` meets its contract.
+use Rattle.coding.proofs.Coding.{adu-large}
 use borrow.Author.Needs.{needs}
-use Rattle.capi.proofs.coded_adu.Statement.{statement}
-use Rattle.capi.proofs.coded_adu.Tie as tie
+use Rattle.coding.proofs.coded_adu.Statement.{statement}
+use Rattle.coding.proofs.coded_adu.Tie as tie
 
 returns-2 : tie.Need-returns-2
 returns-2 c = adu-large _ _ (c .if1 .left)

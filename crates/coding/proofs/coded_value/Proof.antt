@@ -1,8 +1,8 @@
--- `capi::coded_value` meets its contract.
-use Rattle.capi.proofs.Coding.{value-small, value-large}
+-- `coding::coded_value` meets its contract.
+use Rattle.coding.proofs.Coding.{value-small, value-large}
 use borrow.Author.Needs.{needs}
-use Rattle.capi.proofs.coded_value.Statement.{statement}
-use Rattle.capi.proofs.coded_value.Tie as tie
+use Rattle.coding.proofs.coded_value.Statement.{statement}
+use Rattle.coding.proofs.coded_value.Tie as tie
 
 returns : tie.Need-returns
 returns c = value-small _ (c .if1 .taken)

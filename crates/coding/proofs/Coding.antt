@@ -25,7 +25,7 @@ use Rattle.latency.specs.Window.{dividend, divisor}
 use Rattle.latency.specs.Promises.{Division, WindowAnswered}
 use Rattle.history.specs.History.{Said, value, refusal}
 use Rattle.holding.proofs.Headers.{setting-good, setting-bad}
-use Rattle.capi.specs.Coding.{largest, coded, windowSaid, remainderAfter, asked, Readable}
+use Rattle.coding.specs.Coding.{largest, coded, windowSaid, remainderAfter, asked, Readable}
 
 -- A value below the largest number is itself; from there on it stands as that one.
 pub value-small : (n : ℕ) → n < largest → toZ w64 n ≡ coded (value n)

@@ -1,8 +1,8 @@
--- `capi::coded_refusal` meets its contract.
-use Rattle.capi.proofs.Coding.{refusal-case}
+-- `coding::coded_refusal` meets its contract.
+use Rattle.coding.proofs.Coding.{refusal-case}
 use borrow.Author.Needs.{needs}
-use Rattle.capi.proofs.coded_refusal.Statement.{statement}
-use Rattle.capi.proofs.coded_refusal.Tie as tie
+use Rattle.coding.proofs.coded_refusal.Statement.{statement}
+use Rattle.coding.proofs.coded_refusal.Tie as tie
 
 pub coded-refusal-spec : {M : Type 1} → statement M
 coded-refusal-spec =

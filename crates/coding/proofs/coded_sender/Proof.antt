@@ -1,9 +1,9 @@
--- `capi::coded_sender` meets its contract.
-use Rattle.capi.specs.Coding.{senderSaid}
-use Rattle.capi.proofs.Coding.{coded-case}
+-- `coding::coded_sender` meets its contract.
+use Rattle.coding.specs.Coding.{senderSaid}
+use Rattle.coding.proofs.Coding.{coded-case}
 use borrow.Author.Needs.{needs}
-use Rattle.capi.proofs.coded_sender.Statement.{statement}
-use Rattle.capi.proofs.coded_sender.Tie as tie
+use Rattle.coding.proofs.coded_sender.Statement.{statement}
+use Rattle.coding.proofs.coded_sender.Tie as tie
 
 returns : tie.Need-returns
 returns c = coded-case senderSaid (c .coded-value .ok) (c .before .before .answer .given .1) (c .coded-value .ensures)

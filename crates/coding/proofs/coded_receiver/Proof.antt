@@ -1,9 +1,9 @@
--- `capi::coded_receiver` meets its contract.
+-- `coding::coded_receiver` meets its contract.
 use Rattle.receiver.specs.Promises.{said}
-use Rattle.capi.proofs.Coding.{coded-case}
+use Rattle.coding.proofs.Coding.{coded-case}
 use borrow.Author.Needs.{needs}
-use Rattle.capi.proofs.coded_receiver.Statement.{statement}
-use Rattle.capi.proofs.coded_receiver.Tie as tie
+use Rattle.coding.proofs.coded_receiver.Statement.{statement}
+use Rattle.coding.proofs.coded_receiver.Tie as tie
 
 returns : tie.Need-returns
 returns c = coded-case said (c .coded-value .ok) (c .before .before .answer .given .1) (c .coded-value .ensures)

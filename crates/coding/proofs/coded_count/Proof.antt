@@ -1,9 +1,9 @@
--- `capi::coded_count` meets its contract: the count alone, or the draws alone, are past the largest number; or they make a value together.
+-- `coding::coded_count` meets its contract: the count alone, or the draws alone, are past the largest number; or they make a value together.
 use native.Mathlib.Omega.{arith}
-use Rattle.capi.proofs.Coding.{value-large}
+use Rattle.coding.proofs.Coding.{value-large}
 use borrow.Author.Needs.{needs}
-use Rattle.capi.proofs.coded_count.Statement.{statement}
-use Rattle.capi.proofs.coded_count.Tie as tie
+use Rattle.coding.proofs.coded_count.Statement.{statement}
+use Rattle.coding.proofs.coded_count.Tie as tie
 
 returns : tie.Need-returns
 returns c = value-large _ (omega (arith, c .if1 .taken))

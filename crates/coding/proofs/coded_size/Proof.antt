@@ -1,9 +1,9 @@
--- `capi::coded_size` meets its contract.
+-- `coding::coded_size` meets its contract.
 use native.Mathlib.Omega.{arith}
-use Rattle.capi.proofs.Coding.{area}
+use Rattle.coding.proofs.Coding.{area}
 use borrow.Author.Needs.{needs}
-use Rattle.capi.proofs.coded_size.Statement.{statement}
-use Rattle.capi.proofs.coded_size.Tie as tie
+use Rattle.coding.proofs.coded_size.Statement.{statement}
+use Rattle.coding.proofs.coded_size.Tie as tie
 
 mul-coded-value : tie.Need-mul-coded-value
 mul-coded-value c = let (h, a, b) = c .pre in omega (arith, area _ _ a b)

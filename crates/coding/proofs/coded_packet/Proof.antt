@@ -1,9 +1,9 @@
--- `capi::coded_packet` meets its contract.
-use Rattle.capi.specs.Coding.{packetSaid}
-use Rattle.capi.proofs.Coding.{coded-case}
+-- `coding::coded_packet` meets its contract.
+use Rattle.coding.specs.Coding.{packetSaid}
+use Rattle.coding.proofs.Coding.{coded-case}
 use borrow.Author.Needs.{needs}
-use Rattle.capi.proofs.coded_packet.Statement.{statement}
-use Rattle.capi.proofs.coded_packet.Tie as tie
+use Rattle.coding.proofs.coded_packet.Statement.{statement}
+use Rattle.coding.proofs.coded_packet.Tie as tie
 
 returns : tie.Need-returns
 returns c = coded-case packetSaid (c .coded-count .ok) (c .before .before .answer .given .1) (c .coded-count .ensures)

@@ -1,9 +1,9 @@
--- `capi::coded_repair` meets its contract.
-use Rattle.capi.specs.Coding.{repairSaid}
-use Rattle.capi.proofs.Coding.{coded-case}
+-- `coding::coded_repair` meets its contract.
+use Rattle.coding.specs.Coding.{repairSaid}
+use Rattle.coding.proofs.Coding.{coded-case}
 use borrow.Author.Needs.{needs}
-use Rattle.capi.proofs.coded_repair.Statement.{statement}
-use Rattle.capi.proofs.coded_repair.Tie as tie
+use Rattle.coding.proofs.coded_repair.Statement.{statement}
+use Rattle.coding.proofs.coded_repair.Tie as tie
 
 returns : tie.Need-returns
 returns c = coded-case repairSaid (c .coded-count .ok) (c .before .before .answer .given .1) (c .coded-count .ensures)

@@ -1,0 +1,139 @@
+// How what a call answers is coded as one signed number.
+ghost use mathlib.Core.Path.{_≡_};
+ghost use Prim.Native.Nat.{_+_, _*_, _≤_};
+ghost use Rattle.wire.specs.Numbers.{numberOf};
+ghost use Rattle.history.specs.History.{value, refusal};
+ghost use Rattle.receiver.specs.Promises.{said, handedSaid};
+ghost use Rattle.coding.specs.Coding.{coded, senderSaid, withDraws, packetSaid, repairSaid, windowSaid, remainderAfter};
+use latency::WindowAnswer;
+use starts::Handed;
+use wire::Refusal;
+
+// A value as it is coded.
+pub fn coded_value(n: usize) -> i64
+    ensures { λ r. ⌜ r ≡ coded (value n) ⌝ }
+{
+    if n < 9223372036854775807 {
+        return n as i64;
+    }
+    9223372036854775807
+}
+
+// A refusal as it is coded.
+pub fn coded_refusal(why: Refusal) -> i64
+    ensures { λ r. ⌜ r ≡ coded (refusal (numberOf why)) ⌝ }
+{
+    match why {
+        Refusal::Values => -1,
+        Refusal::Short => -2,
+        Refusal::Unopened => -3,
+        Refusal::Long => -4,
+        Refusal::Form => -5,
+        Refusal::Range => -6,
+        Refusal::Empty => -7,
+        Refusal::Behind => -8,
+        Refusal::Ahead => -9,
+        Refusal::Draws => -10,
+        Refusal::Contradiction => -11,
+        Refusal::Unknown => -12,
+        Refusal::NoStart => -13,
+        Refusal::Padding => -14,
+    }
+}
+
+// An answer of the sender.
+pub fn coded_sender(answer: sender::Answer) -> i64
+    ensures { λ r. ⌜ r ≡ coded (senderSaid answer) ⌝ }
+{
+    match answer {
+        sender::Answer::Done(n) => coded_value(n),
+        sender::Answer::Refused(why) => coded_refusal(why),
+    }
+}
+
+// An answer of the receiver.
+pub fn coded_receiver(answer: receiver::Answer) -> i64
+    ensures { λ r. ⌜ r ≡ coded (said answer) ⌝ }
+{
+    match answer {
+        receiver::Answer::Done(n) => coded_value(n),
+        receiver::Answer::Refused(why) => coded_refusal(why),
+    }
+}
+
+// A count and the draws beside it as they are coded.
+pub fn coded_count(n: usize, draws: u32) -> i64
+    ensures { λ r. ⌜ r ≡ coded (withDraws n draws) ⌝ }
+{
+    if n >= 9223372036854775807 {
+        return 9223372036854775807;
+    }
+    if draws >= 2147483648 {
+        return 9223372036854775807;
+    }
+    coded_value(n + 4294967296 * draws as usize)
+}
+
+// An answer to making repair.
+pub fn coded_repair(answer: sender::RepairAnswer) -> i64
+    ensures { λ r. ⌜ r ≡ coded (repairSaid answer) ⌝ }
+{
+    match answer {
+        sender::RepairAnswer::Made(n, draws) => coded_count(n, draws),
+        sender::RepairAnswer::NotMade(why) => coded_refusal(why),
+    }
+}
+
+// An answer of a packet call.
+pub fn coded_packet(answer: receiver::PacketAnswer) -> i64
+    ensures { λ r. ⌜ r ≡ coded (packetSaid answer) ⌝ }
+{
+    match answer {
+        receiver::PacketAnswer::Accepted(n, draws) => coded_count(n, draws),
+        receiver::PacketAnswer::NotAccepted(why) => coded_refusal(why),
+    }
+}
+
+// A flow and a length as they are coded.
+pub fn coded_adu(flow: u8, len: usize) -> i64
+    ensures { λ r. ⌜ r ≡ coded (value (flow * 65536 + len)) ⌝ }
+{
+    if len < 9223372036854775807 {
+        return coded_value(flow as usize * 65536 + len);
+    }
+    9223372036854775807
+}
+
+// An answer of the ADU call.
+pub fn coded_handed(handed: Handed) -> i64
+    ensures { λ r. ⌜ r ≡ coded (handedSaid handed) ⌝ }
+{
+    match handed {
+        Handed::Adu(flow, len) => coded_adu(flow, len),
+        Handed::Withheld(why) => coded_refusal(why),
+    }
+}
+
+// An answer of the call for the window, whose remainder is written, if there is one.
+pub fn coded_window(answer: WindowAnswer, remainder: &mut u64) -> i64
+    ensures { λ r. ⌜ (r ≡ coded (windowSaid answer)) × (now (remainder .exit) ≡ remainderAfter answer (now (remainder .entry))) ⌝ }
+{
+    match answer {
+        WindowAnswer::Divided {
+            quotient,
+            remainder: rest,
+        } => {
+            *remainder = rest;
+            coded_value(quotient as usize)
+        }
+        WindowAnswer::NotDivided(why) => coded_refusal(why),
+    }
+}
+
+// The size of a memory: a header, and so many stretches of so many bytes.
+pub fn coded_size(header: usize, count: usize, bytes: usize) -> i64
+    requires { ⌜ (header ≤ 64) × (count ≤ 256) × (bytes ≤ 1759) ⌝ }
+    ensures { λ r. ⌜ r ≡ coded (value (header + count * bytes)) ⌝ }
+{
+    coded_value(header + count * bytes)
+}
