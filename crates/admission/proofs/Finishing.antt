@@ -26,7 +26,7 @@ use Rattle.table.proofs.Rows.{fits-kept}
 use Rattle.table.proofs.Holding.{window-header}
 use Rattle.marks.specs.Marks.{flagAt}
 use Rattle.holding.specs.declared.Header.{Header}
-use Rattle.admission.specs.declared.packet.PacketPlace.{PacketPlace}
+use Rattle.admission.specs.declared.packet.Location.{Location}
 use Rattle.history.specs.History.{memorySize}
 use Rattle.history.specs.Model.{Joined}
 use Rattle.holding.specs.Header.{rowIn, headerIn}
@@ -90,9 +90,9 @@ module _ (row esi : ℕ) (m : List ℕ) (long : 64 ≤ length m) where
       (record { some-width = f .some-width; wide = f .wide; some-symbol = f .some-symbol; long = f .long; room = omega (arith, f .room, length-first) })
       (omega (arith, length-bytes 4 esi)) (window-header w E 8 b (bytes 2 row) m S f (omega (arith, length-bytes 2 row)) v)
 
-module _ (h : Header) (place : PacketPlace) (kept count esi : ℕ) (work m m₁ m′ : List ℕ) (has : Based m h)
-    (f : Committed (h .setting .width) (h .setting .size) (h .row) (place .rise) kept count work m m₁)
-    (small : place .shape .base < 65535) (next : esi ≡ esiAfter (h .base .0) (place .rise)) (stored : m′ ≡ rebased (place .shape .base + 1) esi m₁) where
+module _ (h : Header) (location : Location) (kept count esi : ℕ) (work m m₁ m′ : List ℕ) (has : Based m h)
+    (f : Committed (h .setting .width) (h .setting .size) (h .oldest) (location .rise) kept count work m m₁)
+    (small : location .shape .oldest < 65535) (next : esi ≡ esiAfter (h .esi .0) (location .rise)) (stored : m′ ≡ rebased (location .shape .oldest + 1) esi m₁) where
   room : window.Fits (h .setting .width) (h .setting .size) m₁
   room = fits-kept (based-fits m h has) (f .unchanged)
 
@@ -101,52 +101,52 @@ module _ (h : Header) (place : PacketPlace) (kept count esi : ℕ) (work m m₁ 
 
   -- The memory holds the state with the base that was stored.
   held : (s : Setting) (t : Joined s) (T : model.State (Coded (s .size)) (s .width)) → h ≡ headerFrom s t → model.Rref T
-      → place .shape .base ≡ (t .base + place .rise) % s .width → window.Window (s .width) (s .size) m₁ (t .base + place .rise) T
-      → Holds m′ s (some (record { base = t .base + place .rise; window = T }))
+      → location .shape .oldest ≡ (t .base + location .rise) % s .width → window.Window (s .width) (s .size) m₁ (t .base + location .rise) T
+      → Holds m′ s (some (record { base = t .base + location .rise; window = T }))
   held s t T is reduced row v =
-      let b = place .shape .base in
+      let b = location .shape .oldest in
       let n : ℕ = b + 1 in
       let same : h .setting ≡ s = ap (λ x. x .setting) is in
-      let base : h .base .0 ≡ t .base % 2 ^ 32 = ap (λ x. x .base .0) is in
-      let e : esi ≡ (t .base + place .rise) % 2 ^ 32 = omega (arith, next, base) in
+      let base : h .esi .0 ≡ t .base % 2 ^ 32 = ap (λ x. x .esi .0) is in
+      let e : esi ≡ (t .base + location .rise) % 2 ^ 32 = omega (arith, next, base) in
       let l : 64 ≤ length m₁ = long in
       let fits : window.Fits (s .width) (s .size) m₁ = subst (λ x. window.Fits (x .width) (x .size) m₁) same room in
       let front : take 8 (rebased n esi m₁) ≡ take 8 m =
       rebased-front n esi m₁ l ∙ sym (take-take 8 64 m₁ (omega arith)) ∙ ap (take 8) (f .unchanged .header) ∙ take-take 8 64 m (omega arith) in
       let set : settingIn 2 (rebased n esi m₁) ≡ some s =
       setting-kept 2 (rebased n esi m₁) m front ∙ has .setting ∙ ap some same in
-      let at : rowIn (rebased n esi m₁) ≡ (t .base + place .rise) % s .width + 1 = rebased-row n esi m₁ l (omega arith) ∙ ap (λ x. x + 1) row in
-      let at-esi : number (part 12 4 (rebased n esi m₁)) ≡ (t .base + place .rise) % 2 ^ 32 = rebased-esi n esi m₁ l (omega (arith, e)) ∙ e in
-      let head : headerIn (rebased n esi m₁) ≡ some (headerFrom s (record { base = t .base + place .rise; window = T })) =
-      found-joined (rebased n esi m₁) s set _ _ (omega (arith, fits .room, rebased-length n esi m₁ l)) (mod-lt (t .base + place .rise) (fits .some-width)) at at-esi in
-      subst (λ x. Holds x s (some (record { base = t .base + place .rise; window = T }))) (sym stored)
+      let at : rowIn (rebased n esi m₁) ≡ (t .base + location .rise) % s .width + 1 = rebased-row n esi m₁ l (omega arith) ∙ ap (λ x. x + 1) row in
+      let at-esi : number (part 12 4 (rebased n esi m₁)) ≡ (t .base + location .rise) % 2 ^ 32 = rebased-esi n esi m₁ l (omega (arith, e)) ∙ e in
+      let head : headerIn (rebased n esi m₁) ≡ some (headerFrom s (record { base = t .base + location .rise; window = T })) =
+      found-joined (rebased n esi m₁) s set _ _ (omega (arith, fits .room, rebased-length n esi m₁ l)) (mod-lt (t .base + location .rise) (fits .some-width)) at at-esi in
+      subst (λ x. Holds x s (some (record { base = t .base + location .rise; window = T }))) (sym stored)
       (record {
         header = head;
-        rows = record { reduced = reduced; rows = rebased-window n esi m₁ l (s .width) (s .size) (t .base + place .rise) T fits v };
+        rows = record { reduced = reduced; rows = rebased-window n esi m₁ l (s .width) (s .size) (t .base + location .rise) T fits v };
       })
 
-  pub finished : Finished h place kept count work m m′
+  pub finished : Finished h location kept count work m m′
   finished = record {
     contained = record {
-      same = ap length stored ∙ rebased-length (place .shape .base + 1) esi m₁ long ∙ f .unchanged .size;
+      same = ap length stored ∙ rebased-length (location .shape .oldest + 1) esi m₁ long ∙ f .unchanged .size;
       past =
-          ap (drop (memorySize (h .setting))) stored ∙ rebased-past (place .shape .base + 1) esi m₁ long (memorySize (h .setting)) (omega arith)
+          ap (drop (memorySize (h .setting))) stored ∙ rebased-past (location .shape .oldest + 1) esi m₁ long (memorySize (h .setting)) (omega arith)
           ∙ f .unchanged .past;
     };
     marks = record {
       header = λ k l g.
-          ap (λ x. getD x k 0) stored ∙ rebased-spare (place .shape .base + 1) esi m₁ long k l g
+          ap (λ x. getD x k 0) stored ∙ rebased-spare (location .shape .oldest + 1) esi m₁ long k l g
           ∙ sym (getD-take 64 m₁ k 0 (omega arith)) ∙ ap (λ x. getD x k 0) (f .unchanged .header) ∙ getD-take 64 m k 0 (omega arith);
       rows = λ r l.
           let w = h .setting .width in
           let E = h .setting .size in
-          ap (λ x. getD x (flagAt w E r) 0) stored ∙ rebased-rows (place .shape .base + 1) esi m₁ long (flagAt w E r) (omega arith)
+          ap (λ x. getD x (flagAt w E r) 0) stored ∙ rebased-rows (location .shape .oldest + 1) esi m₁ long (flagAt w E r) (omega arith)
           ∙ f .unchanged .flags r (w + E + 1) l (omega arith) (omega arith);
     };
     most = f .most;
     outcome = λ s t es is k row g.
         let pos : 0 < s .size = subst (λ (x : Header). 0 < x .setting .size) is (omega (arith, has .valid .size-least)) in
-        let c = subst (λ (x : Header). Committed (x .setting .width) (x .setting .size) (x .row) (place .rise) kept count work m m₁) is f in
+        let c = subst (λ (x : Header). Committed (x .setting .width) (x .setting .size) (x .oldest) (location .rise) kept count work m m₁) is f in
         let (T, i, v, n) = c .outcome (t .base) (t .window) es refl (k .rows) (k .reduced) g in
-        (T, i, held s t T is (taken-reduced (s .width) (s .size) (place .rise) (t .window) T es pos (k .reduced) i) row v, n);
+        (T, i, held s t T is (taken-reduced (s .width) (s .size) (location .rise) (t .window) T es pos (k .reduced) i) row v, n);
   }

@@ -15,14 +15,14 @@ use Rattle.decoder.specs.Stretch.{symbol-at}
 use Rattle.decoder.proofs.Jump.{insert-all-append}
 use Rattle.gather.specs.declared.Verdict.{Verdict}
 use Rattle.gather.specs.declared.Verdict.the-variants as verdict
-use Rattle.table.specs.Window.{stride, place, row, equation}
+use Rattle.table.specs.Window.{stride, rowOffset, row, equation}
 use Rattle.table.specs.Packet as packet
 use Rattle.gather.specs.Gather.{Only, LaidIn, Admitted, Agrees, count-kept}
 use Rattle.gather.proofs.Framing.{only-trans, only-wider, only-splice, works-only, row-room}
 use Rattle.gather.proofs.Admitting.{gathered-only, gathered-none}
 use Rattle.gather.proofs.Laying.{laid-symbol}
 use Rattle.gather.proofs.Spelling.{symbol-moved}
-use Rattle.admission.specs.declared.packet.PacketPlace.{PacketPlace}
+use Rattle.admission.specs.declared.packet.Location.{Location}
 use Rattle.admission.specs.declared.packet.Gathered.{Gathered}
 use Rattle.admission.specs.declared.packet.Gathered.the-variants.{All, Contradiction}
 use Rattle.history.specs.Symbol.{symbolOf}
@@ -38,36 +38,36 @@ pub contained-more : {n : ℕ} {m m′ m″ : List ℕ} → Contained n m m′ �
 contained-more f g = record { same = g .same ∙ f .same; past = g .past ∙ f .past }
 
 -- A change within a row of working memory.
-pub contained-row : (w E k z : ℕ) (m m′ : List ℕ) → k ≤ w → z ≤ place w E k + stride w E → Only (place w E k) z m m′
-    → Contained (place w E (w + 1)) m m′
+pub contained-row : (w E k z : ℕ) (m m′ : List ℕ) → k ≤ w → z ≤ rowOffset w E k + stride w E → Only (rowOffset w E k) z m m′
+    → Contained (rowOffset w E (w + 1)) m m′
 contained-row w E k z m m′ h l f =
-    let o = only-wider z (place w E (w + 1)) (omega (arith, row-fits (w + 1) (stride w E) k (omega arith))) f in
+    let o = only-wider z (rowOffset w E (w + 1)) (omega (arith, row-fits (w + 1) (stride w E) k (omega arith))) f in
     record { same = o .size; past = o .past }
 
 -- ---- A symbol stored in a row of working memory
 
 -- Bytes that were stored as a row's symbol are its symbol.
-stored-symbol : (w E k : ℕ) (x work : List ℕ) → length x ≡ E → place w E k + w ≤ length work
-    → symbol-at E w (row w E k (splice (place w E k + w) x work)) ≡ symbolOf E x
+stored-symbol : (w E k : ℕ) (x work : List ℕ) → length x ≡ E → rowOffset w E k + w ≤ length work
+    → symbol-at E w (row w E k (splice (rowOffset w E k + w) x work)) ≡ symbolOf E x
 stored-symbol w E k x work size h =
-    symbol-moved E w 0 (row w E k (splice (place w E k + w) x work)) x
+    symbol-moved E w 0 (row w E k (splice (rowOffset w E k + w) x work)) x
     (λ i l.
-    let e : place w E k + (w + i) ≡ place w E k + w + i = omega arith in
-    getD-part (place w E k) (stride w E) (w + i) _ (omega arith) ∙ ap (λ a. getD (splice (place w E k + w) x work) a 0) e
-    ∙ getD-within (place w E k + w) i x work (omega arith) h ∙ ap (λ a. getD x a 0) (sym (zero-plus i)))
+    let e : rowOffset w E k + (w + i) ≡ rowOffset w E k + w + i = omega arith in
+    getD-part (rowOffset w E k) (stride w E) (w + i) _ (omega arith) ∙ ap (λ a. getD (splice (rowOffset w E k + w) x work) a 0) e
+    ∙ getD-within (rowOffset w E k + w) i x work (omega arith) h ∙ ap (λ a. getD x a 0) (sym (zero-plus i)))
   where
     zero-plus : (i : ℕ) → 0 + i ≡ i
     zero-plus i = omega arith
 
 module _ (w E kept : ℕ) (x work work₁ : List ℕ) (g : packet.Works w E kept work) (size : length x ≡ E)
-    (stored : work₁ ≡ splice (place w E kept + w) x work) where
-  inside : place w E kept + stride w E ≤ length work
+    (stored : work₁ ≡ splice (rowOffset w E kept + w) x work) where
+  inside : rowOffset w E kept + stride w E ≤ length work
   inside = row-room w E kept work g
 
-  pub stored-only : Only (place w E kept) (place w E kept + stride w E) work work₁
+  pub stored-only : Only (rowOffset w E kept) (rowOffset w E kept + stride w E) work work₁
   stored-only =
-      subst (λ m₁. Only (place w E kept) (place w E kept + stride w E) work m₁) (sym stored)
-      (only-splice (place w E kept) (place w E kept + stride w E) (place w E kept + w) x work (omega arith) (omega (arith, size)) inside)
+      subst (λ m₁. Only (rowOffset w E kept) (rowOffset w E kept + stride w E) work m₁) (sym stored)
+      (only-splice (rowOffset w E kept) (rowOffset w E kept + stride w E) (rowOffset w E kept + w) x work (omega arith) (omega (arith, size)) inside)
 
   pub works-stored : packet.Works w E kept work₁
   works-stored = works-only (omega arith) stored-only g
@@ -77,7 +77,7 @@ module _ (w E kept : ℕ) (x work work₁ : List ℕ) (g : packet.Works w E kept
 
 -- ---- One equation
 
-module _ (at : PacketPlace) (kept first : ℕ) (cs : List ℕ) (v : Verdict) (m work work₁ work′ : List ℕ) where
+module _ (at : Location) (kept first : ℕ) (cs : List ℕ) (v : Verdict) (m work work₁ work′ : List ℕ) where
   abbrev w : ℕ
   w = at .shape .width
 
@@ -96,17 +96,17 @@ module _ (at : PacketPlace) (kept first : ℕ) (cs : List ℕ) (v : Verdict) (m 
   comes-by verdict.Contradiction b S es f = f
 
   pub equation-admitted : packet.Works w E kept work → LaidIn w E kept first cs work work₁
-      → Admitted w E (at .shape .base) (at .stay) kept first (length cs) v m work₁ work′
+      → Admitted w E (at .shape .oldest) (at .stay) kept first (length cs) v m work₁ work′
       → EquationAdmitted at kept first cs (gatheredBy kept v) m work work′
   equation-admitted g l a = record {
     contained =
-        contained-row w E kept (place w E kept + (w + E + 1)) work work′ (g .within) (omega arith)
-        (only-trans (only-wider (place w E kept + w) (place w E kept + (w + E + 1)) (omega arith) (l .only)) (a .only));
+        contained-row w E kept (rowOffset w E kept + (w + E + 1)) work work′ (g .within) (omega arith)
+        (only-trans (only-wider (rowOffset w E kept + w) (rowOffset w E kept + (w + E + 1)) (omega arith) (l .only)) (a .only));
     works = works-by v (a .works);
     outcome = λ b d S es e lies held reduced spells gathered.
         let pos : 0 < E = omega (arith, g .some-symbol) in
         let q : ℕ = b + at .rise in
-        let before = gathered-only w E q kept (place w E kept + w) (decoder.advance-by (at .rise) S) work work₁ es pos (l .only) (omega arith) gathered in
+        let before = gathered-only w E q kept (rowOffset w E kept + w) (decoder.advance-by (at .rise) S) work work₁ es pos (l .only) (omega arith) gathered in
         let same = symbol-moved E w w (row w E kept work₁) (row w E kept work) (laid-symbol w E kept first cs work work₁ l) in
         let is : equation w E q (row w E kept work₁) ≡ e = spells (row w E kept work₁) (l .laid) same in
         comes-by v q (decoder.advance-by (at .rise) S) (es ++ (e ∷ []))
@@ -116,10 +116,10 @@ module _ (at : PacketPlace) (kept first : ℕ) (cs : List ℕ) (v : Verdict) (m 
 
 -- An equation e of a packet of n positions from the d-th of the window on, whose symbol x was stored in the row before, and whose coefficients
 -- `cs` are of the positions from the `to d`-th on.
-pub stored-admitted : (at : PacketPlace) (kept first n : ℕ) (cs x m work work₁ work′ : List ℕ) (r : Gathered)
+pub stored-admitted : (at : Location) (kept first n : ℕ) (cs x m work work₁ work′ : List ℕ) (r : Gathered)
     (e : ℕ → model.Row (Coded (at .shape .size)) (at .shape .width)) (to : ℕ → ℕ)
     → packet.Works (at .shape .width) (at .shape .size) kept work → length x ≡ at .shape .size
-    → work₁ ≡ splice (place (at .shape .width) (at .shape .size) kept + at .shape .width) x work → EquationAdmitted at kept first cs r m work₁ work′
+    → work₁ ≡ splice (rowOffset (at .shape .width) (at .shape .size) kept + at .shape .width) x work → EquationAdmitted at kept first cs r m work₁ work′
     → ((b d : ℕ) → Lies at (at .first) n b d
     → Lies at first (length cs) b (to d) × Spells (at .shape .width) (at .shape .size) (b + at .rise) first cs (symbolOf (at .shape .size) x) (e d))
     → Admits at n e kept r m work work′
@@ -128,12 +128,12 @@ stored-admitted at kept first n cs x m work work₁ work′ r e to g size stored
     let E : ℕ = at .shape .size in
     let only = stored-only w E kept x work work₁ g size stored in
     record {
-      contained = contained-more (contained-row w E kept (place w E kept + stride w E) work work₁ (g .within) (omega arith) only) (a .contained);
+      contained = contained-more (contained-row w E kept (rowOffset w E kept + stride w E) work work₁ (g .within) (omega arith) only) (a .contained);
       works = a .works;
       outcome = λ b d S es lies held reduced gathered.
           let (l, s) = spelt b d lies in
           a .outcome b (to d) S es (e d) l held reduced (λ t laid v. s t laid (v ∙ stored-is w E kept x work work₁ g size stored))
-          (gathered-only w E (b + at .rise) kept (place w E kept + stride w E) (decoder.advance-by (at .rise) S) work work₁ es
+          (gathered-only w E (b + at .rise) kept (rowOffset w E kept + stride w E) (decoder.advance-by (at .rise) S) work work₁ es
           (omega (arith, g .some-symbol)) only (omega arith) gathered);
     }
 
@@ -162,7 +162,7 @@ contradiction-stays w E S g i (suc n) h e = go (ℕ-discrete i (suc n)) (λ l. c
     go (yes q) ih = subst (λ k. decoder.insert-all (firsts g k) S ≡ none) q e
     go (no q) ih = insert-all-append (firsts g n) (g n ∷ []) S ∙ ap (λ o. decoder.and-then o (λ T. decoder.insert-all (g n ∷ []) T)) (ih (omega arith))
 
-module _ (at : PacketPlace) (n : ℕ) (g : ℕ → ℕ → model.Row (Coded (at .shape .size)) (at .shape .width)) (m work : List ℕ) where
+module _ (at : Location) (n : ℕ) (g : ℕ → ℕ → model.Row (Coded (at .shape .size)) (at .shape .width)) (m work : List ℕ) where
   pub gathers-none : packet.Works (at .shape .width) (at .shape .size) 0 work → Gathers at n g 0 (All 0) m work work
   unfolding firsts
   gathers-none f = record {

@@ -25,12 +25,12 @@ for-joined h e j =
     (λ (t u : Bool). record {
       setting = h .setting;
       joined = t;
-      row = cond u (h .row) (e % h .setting .width);
-      base = cond u (h .base) (record { 0 = e % 2 ^ 32 });
+      oldest = cond u (h .oldest) (e % h .setting .width);
+      esi = cond u (h .esi) (record { 0 = e % 2 ^ 32 });
     }) j (sym j)
 
 pub for-fresh : (h : Header) (e : ℕ) → h .joined ≡ false → e < 2 ^ 32
-    → record { setting = h .setting; joined = true; row = e % h .setting .width; base = record { 0 = e } } ≡ headerFor h e
+    → record { setting = h .setting; joined = true; oldest = e % h .setting .width; esi = record { 0 = e } } ≡ headerFor h e
 for-fresh h e j small = rw (j, mod-eq-of-lt small)
 
 -- The memory has the setting and the room of the header for a packet.
@@ -39,7 +39,7 @@ based m h e k =
     let g = headed m h k in
     record { setting = g .setting; valid = g .valid; room = g .room; row-lt = row (h .joined) (g .row-lt) (g .valid) }
   where
-    row : (t : Bool) → h .row < h .setting .width → Valid (h .setting) → cond t (h .row) (e % h .setting .width) < h .setting .width
+    row : (t : Bool) → h .oldest < h .setting .width → Valid (h .setting) → cond t (h .oldest) (e % h .setting .width) < h .setting .width
     row true l v = l
     row false l v = mod-lt e (omega (arith, v .width-least))
 

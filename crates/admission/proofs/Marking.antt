@@ -26,14 +26,14 @@ use Rattle.marks.specs.MarkSteps.{Updated, Tallied}
 use Rattle.marks.proofs.Only.{starts-of, starts-window, header-no-mark, past-no-mark, mark-row, mark-past}
 use Rattle.marks.proofs.Gaining.{old-ones}
 use Rattle.holding.specs.declared.Header.{Header}
-use Rattle.admission.specs.declared.packet.PacketPlace.{PacketPlace}
+use Rattle.admission.specs.declared.packet.Location.{Location}
 use Rattle.history.specs.History.{memorySize}
 use Rattle.history.specs.Model.{Joined, State}
 use Rattle.holding.specs.Header.{headerWith, headerIn}
 use Rattle.holding.specs.Contained.{Contained}
 use Rattle.holding.specs.Layout.{headerFrom, headerOf, Stands, Rows, Holds, MarksFrom}
 use Rattle.admission.specs.Joining.{Based}
-use Rattle.admission.specs.Steps.{SameMarks, PlacedBy, Finished, Accepted}
+use Rattle.admission.specs.Steps.{SameMarks, LocatedBy, Finished, Accepted}
 use Rattle.holding.proofs.Headers.{header-fits, setting-of}
 use Rattle.admission.proofs.Joining.{based-fits}
 use Rattle.admission.proofs.Gathering.{contained-more}
@@ -112,9 +112,9 @@ same-marks w E base m m′ M pos f h i l = go (decLt i w) ∙ h i l
 -- ---- a packet is accepted
 
 -- What following it with the marks asks.
-pub update-asks : (h : Header) (at : PacketPlace) (own : ℕ) (m m₁ : List ℕ) → Based m h → PlacedBy h at own
+pub update-asks : (h : Header) (at : Location) (own : ℕ) (m m₁ : List ℕ) → Based m h → LocatedBy h at own
     → Contained (memorySize (h .setting)) m m₁
-    → window.Fits (at .shape .width) (at .shape .size) m₁ × (h .row < at .shape .width) × (at .shape .base ≡ (h .row + at .rise) % at .shape .width)
+    → window.Fits (at .shape .width) (at .shape .size) m₁ × (h .oldest < at .shape .width) × (at .shape .oldest ≡ (h .oldest + at .rise) % at .shape .width)
     × (at .offset + own ≤ at .shape .width)
 update-asks h at own m m₁ has placed k =
     let g = based-fits m h has in
@@ -127,42 +127,42 @@ update-asks h at own m m₁ has placed k =
     } in
     let fits = subst (λ w. window.Fits w (at .shape .size) m₁) (sym (placed .width))
     (subst (λ E. window.Fits (h .setting .width) E m₁) (sym (placed .size)) f) in
-    (fits, subst (λ w. h .row < w) (sym (placed .width)) (has .row-lt), placed .base, placed .room)
+    (fits, subst (λ w. h .oldest < w) (sym (placed .width)) (has .row-lt), placed .base, placed .room)
 
 -- What it asks to count the packet's own positions before and after.
-pub count-asks : (h : Header) (at : PacketPlace) (own : ℕ) (m : List ℕ) → Based m h → PlacedBy h at own → at .rise ≤ 65536
-    → window.Fits (h .setting .width) (h .setting .size) m × (h .row < h .setting .width) × (at .rise + at .offset + own ≤ 100000)
+pub count-asks : (h : Header) (at : Location) (own : ℕ) (m : List ℕ) → Based m h → LocatedBy h at own → at .rise ≤ 65536
+    → window.Fits (h .setting .width) (h .setting .size) m × (h .oldest < h .setting .width) × (at .rise + at .offset + own ≤ 100000)
 count-asks h at own m has placed l =
     let g = based-fits m h has in
     (g, has .row-lt, omega (arith, l, placed .room, placed .width, g .wide))
 
-pub count-again : (h : Header) (at : PacketPlace) (own : ℕ) (m m₁ : List ℕ) → Based m h → PlacedBy h at own
+pub count-again : (h : Header) (at : Location) (own : ℕ) (m m₁ : List ℕ) → Based m h → LocatedBy h at own
     → Contained (memorySize (h .setting)) m m₁
-    → window.Fits (at .shape .width) (at .shape .size) m₁ × (at .shape .base < at .shape .width) × (at .offset + own ≤ 100000)
+    → window.Fits (at .shape .width) (at .shape .size) m₁ × (at .shape .oldest < at .shape .width) × (at .offset + own ≤ 100000)
 count-again h at own m m₁ has placed k =
     let (f, l, b, r) = update-asks h at own m m₁ has placed k in
-    (f, subst (λ x. x < at .shape .width) (sym b) (mod-lt (h .row + at .rise) (f .some-width)), omega (arith, r, f .wide))
+    (f, subst (λ x. x < at .shape .width) (sym b) (mod-lt (h .oldest + at .rise) (f .some-width)), omega (arith, r, f .wide))
 
 -- Whether positions other than its own have become known is told by `others`.
-module _ (h : Header) (at : PacketPlace) (kept own count had has : ℕ) (others : Bool) (work m m₁ m₂ : List ℕ) (head : Based m h)
-    (placed : PlacedBy h at own) (f : Finished h at kept count work m m₁)
-    (before : Tallied (h .setting .width) (h .setting .size) (h .row) (at .rise + at .offset) own had m)
-    (after : Tallied (at .shape .width) (at .shape .size) (at .shape .base) (at .offset) own has m₁)
+module _ (h : Header) (at : Location) (kept own count had has : ℕ) (others : Bool) (work m m₁ m₂ : List ℕ) (head : Based m h)
+    (placed : LocatedBy h at own) (f : Finished h at kept count work m m₁)
+    (before : Tallied (h .setting .width) (h .setting .size) (h .oldest) (at .rise + at .offset) own had m)
+    (after : Tallied (at .shape .width) (at .shape .size) (at .shape .oldest) (at .offset) own has m₁)
     (tells : others ≡ false → count ≡ has - had)
-    (u : Updated (at .shape .width) (at .shape .size) (h .row) (at .rise) (at .offset) own others m₁ m₂) where
+    (u : Updated (at .shape .width) (at .shape .size) (h .oldest) (at .rise) (at .offset) own others m₁ m₂) where
   -- All by the header's setting.
-  u′ : Updated (h .setting .width) (h .setting .size) (h .row) (at .rise) (at .offset) own others m₁ m₂
+  u′ : Updated (h .setting .width) (h .setting .size) (h .oldest) (at .rise) (at .offset) own others m₁ m₂
   u′ =
-      subst (λ x. Updated (h .setting .width) x (h .row) (at .rise) (at .offset) own others m₁ m₂) (placed .size)
-      (subst (λ x. Updated x (at .shape .size) (h .row) (at .rise) (at .offset) own others m₁ m₂) (placed .width) u)
+      subst (λ x. Updated (h .setting .width) x (h .oldest) (at .rise) (at .offset) own others m₁ m₂) (placed .size)
+      (subst (λ x. Updated x (at .shape .size) (h .oldest) (at .rise) (at .offset) own others m₁ m₂) (placed .width) u)
 
-  after′ : Tallied (h .setting .width) (h .setting .size) (at .shape .base) (at .offset) own has m₁
+  after′ : Tallied (h .setting .width) (h .setting .size) (at .shape .oldest) (at .offset) own has m₁
   after′ =
-      subst (λ x. Tallied (h .setting .width) x (at .shape .base) (at .offset) own has m₁) (placed .size)
-      (subst (λ x. Tallied x (at .shape .size) (at .shape .base) (at .offset) own has m₁) (placed .width) after)
+      subst (λ x. Tallied (h .setting .width) x (at .shape .oldest) (at .offset) own has m₁) (placed .size)
+      (subst (λ x. Tallied x (at .shape .size) (at .shape .oldest) (at .offset) own has m₁) (placed .width) after)
 
   module _ (s : Setting) (t : Joined s) (es : List (model.Row (Coded (s .size)) (s .width))) (is : h ≡ headerFrom s t) (k : Stands m s t)
-      (row : at .shape .base ≡ (t .base + at .rise) % s .width) (T : model.State (Coded (s .size)) (s .width))
+      (row : at .shape .oldest ≡ (t .base + at .rise) % s .width) (T : model.State (Coded (s .size)) (s .width))
       (inserted : decoder.insert-all es (decoder.advance-by (at .rise) (t .window)) ≡ some T)
       (held : Holds m₁ s (some (record { base = t .base + at .rise; window = T })))
       (counted : count ≡ decoder.newly t (record { base = t .base + at .rise; window = T })) where
@@ -171,8 +171,8 @@ module _ (h : Header) (at : PacketPlace) (kept own count had has : ℕ) (others 
 
     olds : others ≡ false → Old (s .width) (at .rise) (at .offset) own (seen (s .size) (s .width) (t .window)) (seen (s .size) (s .width) T)
     olds no-others =
-        let x = subst (λ (y : Header). Tallied (y .setting .width) (y .setting .size) (y .row) (at .rise + at .offset) own had m) is before in
-        let y = subst (λ (z : Header). Tallied (z .setting .width) (z .setting .size) (at .shape .base) (at .offset) own has m₁) is after′ in
+        let x = subst (λ (y : Header). Tallied (y .setting .width) (y .setting .size) (y .oldest) (at .rise + at .offset) own had m) is before in
+        let y = subst (λ (z : Header). Tallied (z .setting .width) (z .setting .size) (at .shape .oldest) (at .offset) own has m₁) is after′ in
         let a = x .told (t .base) (t .window) refl (k .rows) in
         let b = y .told (t .base + at .rise) T (sym row) (held .rows .rows) in
         let w : h .setting .width ≡ s .width = ap (λ (z : Header). z .setting .width) is in
@@ -184,7 +184,7 @@ module _ (h : Header) (at : PacketPlace) (kept own count had has : ℕ) (others 
     marks-after M km =
         let N = pass (s .size) (seen (s .size) (s .width) T) (s .width) (owning (at .offset) own (moved (s .width) (at .rise) M)) in
         let same = subst (λ (x : Header). SameMarks (x .setting .width) (x .setting .size) m m₁) is (f .marks) in
-        let v = subst (λ (x : Header). Updated (x .setting .width) (x .setting .size) (x .row) (at .rise) (at .offset) own others m₁ m₂) is u′ in
+        let v = subst (λ (x : Header). Updated (x .setting .width) (x .setting .size) (x .oldest) (at .rise) (at .offset) own others m₁ m₂) is u′ in
         let around = mod-add-mod (t .base) (s .width) (at .rise) in
         let note : marks.notedIn m ≡ marks.notedIn m₁ = sym (same .header 11 (omega arith) (omega arith)) in
         let (g, settled) =

@@ -12,10 +12,10 @@ use Rattle.decoder.specs.Bytes.{byte, Coded}
 use Rattle.decoder.specs.Model.{Row}
 use Rattle.decoder.specs.Receiver.{embed, over}
 use Rattle.decoder.specs.Packets as packets
-use Rattle.table.specs.Window.{place}
+use Rattle.table.specs.Window.{rowOffset}
 use Rattle.table.specs.Packet.{Works}
 use Rattle.gather.proofs.Spelling.{spells}
-use Rattle.admission.specs.declared.packet.PacketPlace.{PacketPlace}
+use Rattle.admission.specs.declared.packet.Location.{Location}
 use Rattle.admission.specs.declared.packet.Gathered.{Gathered}
 use Rattle.history.specs.Symbol.{Symbol}
 use Rattle.history.specs.History.{repair}
@@ -26,14 +26,14 @@ use Rattle.admission.proofs.Gathering.{stored-admitted, firsts-same, fi
 
 -- ---- One symbol
 
-module _ (at : PacketPlace) (kept : ℕ) (list symbol m work work₁ work′ : List ℕ) (r : Gathered) where
+module _ (at : Location) (kept : ℕ) (list symbol m work work₁ work′ : List ℕ) (r : Gathered) where
   abbrev w : ℕ
   w = at .shape .width
 
   abbrev E : ℕ
   E = at .shape .size
 
-  pub symbol-admitted : Works w E kept work → length symbol ≡ E → work₁ ≡ splice (place w E kept + w) symbol work
+  pub symbol-admitted : Works w E kept work → length symbol ≡ E → work₁ ≡ splice (rowOffset w E kept + w) symbol work
       → EquationAdmitted at kept (at .first) list r m work₁ work′
       → Admits at (length list) (repairEquation w E (length list) list symbol) kept r m work work′
   symbol-admitted g size stored a =
@@ -46,7 +46,7 @@ module _ (at : PacketPlace) (kept : ℕ) (list symbol m work work₁ work′ : L
       ))
 
 -- Of the list and the symbol that the code lends.
-pub symbol-of : (at : PacketPlace) (kept n i : ℕ) (list lists bytes m work work′ : List ℕ) (r : Gathered) → list ≡ part (i * n) n lists → length list ≡ n
+pub symbol-of : (at : Location) (kept n i : ℕ) (list lists bytes m work work′ : List ℕ) (r : Gathered) → list ≡ part (i * n) n lists → length list ≡ n
     → Admits at (length list) (repairEquation (at .shape .width) (at .shape .size) (length list) list (part (8 + i * at .shape .size) (at .shape .size) bytes)) kept r m work work′
     → Admits at n (λ d. equationAt (at .shape .width) (at .shape .size) n lists bytes d i) kept r m work work′
 symbol-of at kept n i list lists bytes m work work′ r e l a = rw (l, e) at a

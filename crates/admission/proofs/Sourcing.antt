@@ -13,10 +13,10 @@ use Rattle.decoder.specs.Model as model
 use Rattle.decoder.specs.Receiver as decoder
 use Rattle.decoder.specs.Packets as packets
 use Rattle.decoder.specs.Stretch.{symbol-at}
-use Rattle.table.specs.Window.{place, row}
+use Rattle.table.specs.Window.{rowOffset, row}
 use Rattle.table.specs.Packet as packet
 use Rattle.gather.proofs.Spelling.{spells-one}
-use Rattle.admission.specs.declared.packet.PacketPlace.{PacketPlace}
+use Rattle.admission.specs.declared.packet.Location.{Location}
 use Rattle.admission.specs.declared.packet.Gathered.{Gathered}
 use Rattle.history.specs.Symbol.{Symbol, symbolOf}
 use Rattle.history.specs.History.{source}
@@ -31,7 +31,7 @@ use Rattle.admission.proofs.Gathering.{stored-admitted, firsts-same, fi
 pub length-symbol : (flow : ℕ) (adu : List ℕ) (E i : ℕ) → 0 < E → i < symbolCount E (length adu) → length (symbolAt flow adu E i) ≡ E
 length-symbol flow adu E i pos h = ap length (sym (adui.symbol-at flow adu E i h)) ∙ adui.symbol-length flow adu E pos i h
 
-module _ (at : PacketPlace) (kept flow i r : ℕ) (adu m work work₁ work′ : List ℕ) (answer : Gathered) where
+module _ (at : Location) (kept flow i r : ℕ) (adu m work work₁ work′ : List ℕ) (answer : Gathered) where
   abbrev w : ℕ
   w = at .shape .width
 
@@ -48,7 +48,7 @@ module _ (at : PacketPlace) (kept flow i r : ℕ) (adu m work work₁ work′ : 
       ap (λ k. k % w) e ∙ sym (mod-add-mod (b + at .rise + d) w i) ∙ ap (λ k. (k + i) % w) (l .column) ∙ sym (f .is)
 
   pub symbol-admitted : packet.Works w E kept work → i < n → RowOf (at .first) i w r
-      → work₁ ≡ splice (place w E kept + w) (symbolAt flow adu E i) work
+      → work₁ ≡ splice (rowOffset w E kept + w) (symbolAt flow adu E i) work
       → EquationAdmitted at kept r (1 ∷ []) answer m work₁ work′
       → Admits at n (λ d. equationOf w E flow adu d i) kept answer m work work′
   symbol-admitted g h f stored a =

@@ -15,8 +15,8 @@ abbrev pub headerFor : Header → (e : ℕ) → Header
 headerFor h e = record {
   setting = h .setting;
   joined = true;
-  row = cond (h .joined) (h .row) (e % h .setting .width);
-  base = cond (h .joined) (h .base) (record { 0 = e % 2 ^ 32 });
+  oldest = cond (h .joined) (h .oldest) (e % h .setting .width);
+  esi = cond (h .joined) (h .esi) (record { 0 = e % 2 ^ 32 });
 }
 
 -- The memory has the setting of a header with a base, and room for its rows.
@@ -24,4 +24,4 @@ pub record Based (m : List ℕ) (h : Header) : Type 0 where
   pub setting : settingIn 2 m ≡ some (h .setting)
   pub valid : Valid (h .setting)
   pub room : memorySize (h .setting) ≤ length m
-  pub row-lt : h .row < h .setting .width
+  pub row-lt : h .oldest < h .setting .width

@@ -16,15 +16,15 @@ use Rattle.decoder.specs.Receiver as decoder
 use Rattle.decoder.specs.Stretch.{symbol-at}
 use Rattle.gather.specs.declared.Verdict.{Verdict}
 use Rattle.gather.specs.declared.Verdict.the-variants as verdict
-use Rattle.table.specs.Window.{place, row, equation, Window}
+use Rattle.table.specs.Window.{rowOffset, row, equation, Window}
 use Rattle.gather.specs.Gather.{Laid}
 use Rattle.table.specs.Packet as packet
 use Rattle.starts.specs.Starts.{Starts, owning, moved, pass, seen}
 use Rattle.marks.specs.Marks.{flagAt}
 use Rattle.holding.specs.declared.Header.{Header}
-use Rattle.admission.specs.declared.packet.PacketPlace.{PacketPlace}
-use Rattle.admission.specs.declared.packet.PlaceFound.{PlaceFound}
-use Rattle.admission.specs.declared.packet.PlaceFound.the-variants.{PlaceIs, Out}
+use Rattle.admission.specs.declared.packet.Location.{Location}
+use Rattle.admission.specs.declared.packet.LocationFound.{LocationFound}
+use Rattle.admission.specs.declared.packet.LocationFound.the-variants.{LocationIs, Out}
 use Rattle.admission.specs.declared.packet.Gathered.{Gathered}
 use Rattle.admission.specs.declared.packet.Gathered.the-variants.{All, Contradiction}
 use Rattle.history.specs.Symbol.{Symbol}
@@ -36,23 +36,23 @@ use Rattle.holding.specs.Layout.{headerFrom, Stands, Holds, MarksFrom}
 -- ---- The packet's place
 
 -- Where n symbols lie, the first of them d positions past the base.
-abbrev pub placeAt : Header → (d n : ℕ) → PacketPlace
-placeAt h d n =
+abbrev pub locationAt : Header → (d n : ℕ) → Location
+locationAt h d n =
     let width = h .setting .width in
     let rise = d + n - width in
     record {
-      shape = record { width = width; size = h .setting .size; base = (h .row + rise) % width };
+      shape = record { width = width; size = h .setting .size; oldest = (h .oldest + rise) % width };
       rise = rise;
       stay = width - rise;
-      first = (h .row + d) % width;
+      first = (h .oldest + d) % width;
       offset = d - rise;
     }
 
 -- Where n symbols lie, the first of them with the ESI e: refusals 8 and 9.
-unfoldable pub placeFound : Header → (e n : ℕ) → PlaceFound
-placeFound h e n =
-    let d = distanceOf e (h .base .0) in
-    cond (ltb d (2 ^ 31)) (cond (leb (d + n) 65536) (PlaceIs (placeAt h d n)) (Out Ahead)) (Out Behind)
+unfoldable pub locationFound : Header → (e n : ℕ) → LocationFound
+locationFound h e n =
+    let d = distanceOf e (h .esi .0) in
+    cond (ltb d (2 ^ 31)) (cond (leb (d + n) 65536) (LocationIs (locationAt h d n)) (Out Ahead)) (Out Behind)
 
 -- ---- The packet's equations
 
@@ -82,14 +82,14 @@ firsts g zero = []
 firsts g (suc n) = firsts g n ++ (g n ∷ [])
 
 -- In the window from b on, the packet's place has n columns from `first` on for the positions from the d-th of the new window on.
-pub record Lies (at : PacketPlace) (first n b d : ℕ) : Type 0 where
-  pub base : (b + at .rise) % at .shape .width ≡ at .shape .base
+pub record Lies (at : Location) (first n b d : ℕ) : Type 0 where
+  pub base : (b + at .rise) % at .shape .width ≡ at .shape .oldest
   pub stay : at .stay ≡ at .shape .width - at .rise
   pub column : (b + at .rise + d) % at .shape .width ≡ first
   pub some : 0 < n
   pub room : d + n ≤ at .shape .width
 
-module _ (at : PacketPlace) where
+module _ (at : Location) where
   abbrev w : ℕ
   w = at .shape .width
 
@@ -99,7 +99,7 @@ module _ (at : PacketPlace) where
   -- An equation with the coefficients `cs` from the column `first` on, and the symbol of the row `kept`, has been admitted or refused, after
   -- others of which `kept` rows are kept.
   pub record EquationAdmitted (kept first : ℕ) (cs : List ℕ) (r : Gathered) (m work work′ : List ℕ) : Type 0 where
-    pub contained : Contained (place w E (w + 1)) work work′
+    pub contained : Contained (rowOffset w E (w + 1)) work work′
     pub works : WorksOn w E work′ r
     pub outcome : (b d : ℕ) (S : model.State (Coded E) w) (es : List (model.Row (Coded E) w)) (e : model.Row (Coded E) w) → Lies at first (length cs) b d
         → Window w E m b S → model.Rref S → Spells w E (b + at .rise) first cs (symbol-at E w (row w E kept work)) e
@@ -108,7 +108,7 @@ module _ (at : PacketPlace) where
 
   -- The next equation of a packet of n positions, which is e d where these are from the d-th of the window on, has been admitted or refused.
   pub record Admits (n : ℕ) (e : ℕ → model.Row (Coded E) w) (kept : ℕ) (r : Gathered) (m work work′ : List ℕ) : Type 0 where
-    pub contained : Contained (place w E (w + 1)) work work′
+    pub contained : Contained (rowOffset w E (w + 1)) work work′
     pub works : WorksOn w E work′ r
     pub outcome : (b d : ℕ) (S : model.State (Coded E) w) (es : List (model.Row (Coded E) w)) → Lies at (at .first) n b d
         → Window w E m b S → model.Rref S → packet.Gathered w E (b + at .rise) (decoder.advance-by (at .rise) S) work kept es
@@ -116,7 +116,7 @@ module _ (at : PacketPlace) where
 
   -- The first i of its equations g d have been admitted, or one of them refused.
   pub record Gathers (n : ℕ) (g : ℕ → ℕ → model.Row (Coded E) w) (i : ℕ) (r : Gathered) (m work work′ : List ℕ) : Type 0 where
-    pub contained : Contained (place w E (w + 1)) work work′
+    pub contained : Contained (rowOffset w E (w + 1)) work work′
     pub works : WorksOn w E work′ r
     pub outcome : (b d : ℕ) (S : model.State (Coded E) w) → Lies at (at .first) n b d → Window w E m b S → model.Rref S
         → Comes w E (b + at .rise) (decoder.advance-by (at .rise) S) work′ (firsts (g d) i) r
@@ -129,31 +129,31 @@ pub record SameMarks (w E : ℕ) (m m′ : List ℕ) : Type 0 where
   pub rows : (r : ℕ) → r < w → getD m′ (flagAt w E r) 0 ≡ getD m (flagAt w E r) 0
 
 -- The place is one by the header, with room for `own` symbols from its offset on.
-pub record PlacedBy (h : Header) (at : PacketPlace) (own : ℕ) : Type 0 where
+pub record LocatedBy (h : Header) (at : Location) (own : ℕ) : Type 0 where
   pub width : at .shape .width ≡ h .setting .width
   pub size : at .shape .size ≡ h .setting .size
-  pub base : at .shape .base ≡ (h .row + at .rise) % at .shape .width
+  pub base : at .shape .oldest ≡ (h .oldest + at .rise) % at .shape .width
   pub room : at .offset + own ≤ at .shape .width
 
 -- The packet's rows in working memory have joined the state's, and the base has risen: the memory holds what the model says of the equations
 -- `es` of which these rows are, and `count` positions have become known, on any memory no more than 256 for a row.
-pub record Finished (h : Header) (at : PacketPlace) (kept count : ℕ) (work m m′ : List ℕ) : Type 0 where
+pub record Finished (h : Header) (at : Location) (kept count : ℕ) (work m m′ : List ℕ) : Type 0 where
   pub contained : Contained (memorySize (h .setting)) m m′
   pub marks : SameMarks (h .setting .width) (h .setting .size) m m′
   pub most : count ≤ kept * 256
   pub outcome : (s : Setting) (t : Joined s) (es : List (model.Row (Coded (s .size)) (s .width))) → h ≡ headerFrom s t → Stands m s t
-      → at .shape .base ≡ (t .base + at .rise) % s .width
+      → at .shape .oldest ≡ (t .base + at .rise) % s .width
       → packet.Gathered (s .width) (s .size) (t .base + at .rise) (decoder.advance-by (at .rise) (t .window)) work kept es
       → (T : model.State (Coded (s .size)) (s .width)) × (decoder.insert-all es (decoder.advance-by (at .rise) (t .window)) ≡ some T)
       × Holds m′ s (some (record { base = t .base + at .rise; window = T }))
       × (count ≡ decoder.newly t (record { base = t .base + at .rise; window = T }))
 
 -- And the marks are those that the packet with `own` symbols of its own makes.
-pub record Accepted (h : Header) (at : PacketPlace) (kept own count : ℕ) (work m m′ : List ℕ) : Type 0 where
+pub record Accepted (h : Header) (at : Location) (kept own count : ℕ) (work m m′ : List ℕ) : Type 0 where
   pub contained : Contained (memorySize (h .setting)) m m′
   pub most : count ≤ kept * 256
   pub outcome : (s : Setting) (t : Joined s) (es : List (model.Row (Coded (s .size)) (s .width))) → h ≡ headerFrom s t → Stands m s t
-      → at .shape .base ≡ (t .base + at .rise) % s .width
+      → at .shape .oldest ≡ (t .base + at .rise) % s .width
       → packet.Gathered (s .width) (s .size) (t .base + at .rise) (decoder.advance-by (at .rise) (t .window)) work kept es
       → (T : model.State (Coded (s .size)) (s .width)) × (decoder.insert-all es (decoder.advance-by (at .rise) (t .window)) ≡ some T)
       × Holds m′ s (some (record { base = t .base + at .rise; window = T }))

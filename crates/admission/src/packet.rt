@@ -6,7 +6,7 @@ ghost use Rattle.wire.specs.Settings.{Valid};
 ghost use Rattle.table.specs.Window.{Fits};
 ghost use Rattle.table.specs.Packet.{Works};
 ghost use Rattle.admission.specs.Joining.{headerFor, Based};
-ghost use Rattle.admission.specs.Steps.{placeFound, gatheredBy, EquationAdmitted, PlacedBy, Finished, Accepted};
+ghost use Rattle.admission.specs.Steps.{locationFound, gatheredBy, EquationAdmitted, LocatedBy, Finished, Accepted};
 use gather::Verdict;
 use holding::Header;
 use table::Shape;
@@ -15,7 +15,7 @@ use wire::Refusal;
 
 // Where a packet lies: the window that it brings about, by how much the base rises for it, how many positions stay, and the row of its first
 // position and the distance of that from the new base.
-pub struct PacketPlace {
+pub struct Location {
     pub shape: Shape,
     pub rise: usize,
     pub stay: usize,
@@ -24,8 +24,8 @@ pub struct PacketPlace {
 }
 
 // Where a packet lies, or why it is refused.
-pub enum PlaceFound {
-    PlaceIs(PacketPlace),
+pub enum LocationFound {
+    LocationIs(Location),
     Out(Refusal),
 }
 
@@ -44,39 +44,39 @@ pub fn join(header: Header, first: Esi) -> Header
         return header;
     }
     let setting = header.setting;
-    let row = first.0 as usize % setting.width;
+    let oldest = first.0 as usize % setting.width;
     Header {
         setting,
         joined: true,
-        row,
-        base: first,
+        oldest,
+        esi: first,
     }
 }
 
 // Where `n` symbols from the ESI `first` on lie.
-pub fn locate(header: Header, first: Esi, n: usize) -> PlaceFound
-    requires { ⌜ Valid (header .setting) × (header .row < header .setting .width) × (n ≤ header .setting .width) ⌝ }
-    ensures { λ r. ⌜ r ≡ placeFound header (first .0) n ⌝ }
+pub fn locate(header: Header, first: Esi, n: usize) -> LocationFound
+    requires { ⌜ Valid (header .setting) × (header .oldest < header .setting .width) × (n ≤ header .setting .width) ⌝ }
+    ensures { λ r. ⌜ r ≡ locationFound header (first .0) n ⌝ }
 {
-    let d = first.distance(header.base) as usize;
+    let d = first.distance(header.esi) as usize;
     if d >= 2147483648 {
-        return PlaceFound::Out(Refusal::Behind);
+        return LocationFound::Out(Refusal::Behind);
     }
     if d + n > 65536 {
-        return PlaceFound::Out(Refusal::Ahead);
+        return LocationFound::Out(Refusal::Ahead);
     }
     let width = header.setting.width;
     let rise = memory::excess(d + n, width);
     let shape = Shape {
         width,
         size: header.setting.size,
-        base: (header.row + rise) % width,
+        oldest: (header.oldest + rise) % width,
     };
-    PlaceFound::PlaceIs(PacketPlace {
+    LocationFound::LocationIs(Location {
         shape,
         rise,
         stay: memory::excess(width, rise),
-        first: (header.row + d) % width,
+        first: (header.oldest + d) % width,
         offset: d - rise,
     })
 }
@@ -99,36 +99,36 @@ pub fn admit_equation(
     mem: &[u8],
     work: &mut [u8],
     coefficients: &[u8],
-    place: PacketPlace,
+    location: Location,
     kept: usize,
     first: usize,
 ) -> Gathered
-    requires { ⌜ Fits (place .shape .width) (place .shape .size) (now mem) × Works (place .shape .width) (place .shape .size) kept (now work)
-        × (place .shape .base < place .shape .width) × (first < place .shape .width) × (length (now coefficients) ≤ place .shape .width) ⌝ }
-    ensures { λ r. ⌜ EquationAdmitted place kept first (now (coefficients .entry)) r (now (mem .entry)) (now (work .entry)) (now (work .exit)) ⌝ }
+    requires { ⌜ Fits (location .shape .width) (location .shape .size) (now mem) × Works (location .shape .width) (location .shape .size) kept (now work)
+        × (location .shape .oldest < location .shape .width) × (first < location .shape .width) × (length (now coefficients) ≤ location .shape .width) ⌝ }
+    ensures { λ r. ⌜ EquationAdmitted location kept first (now (coefficients .entry)) r (now (mem .entry)) (now (work .entry)) (now (work .exit)) ⌝ }
 {
-    let shape = place.shape;
+    let shape = location.shape;
     let n = coefficients.len();
     gather::lay(work, coefficients, shape, kept, first);
-    let verdict = gather::admit(mem, work, shape, place.stay, kept, first, n);
+    let verdict = gather::admit(mem, work, shape, location.stay, kept, first, n);
     gathered_by(kept, verdict)
 }
 
 // The packet's rows, `kept` in working memory, join the state's, and the base rises. Gives how many positions have become known.
-fn finish(mem: &mut [u8], work: &[u8], header: Header, place: PacketPlace, kept: usize) -> usize
+fn finish(mem: &mut [u8], work: &[u8], header: Header, location: Location, kept: usize) -> usize
     requires { ⌜ Based (now mem) header × Works (header .setting .width) (header .setting .size) kept (now work)
-        × (place .shape .base < 65535) × (place .rise ≤ 65536) ⌝ }
-    ensures { λ n. ⌜ Finished header place kept n (now (work .entry)) (now (mem .entry)) (now (mem .exit)) ⌝ }
+        × (location .shape .oldest < 65535) × (location .rise ≤ 65536) ⌝ }
+    ensures { λ n. ⌜ Finished header location kept n (now (work .entry)) (now (mem .entry)) (now (mem .exit)) ⌝ }
 {
     let shape = Shape {
         width: header.setting.width,
         size: header.setting.size,
-        base: header.row,
+        oldest: header.oldest,
     };
-    let count = placing::commit(mem, work, shape, place.rise, kept);
-    let base = header.base;
-    let next = base.plus(place.rise as u32);
-    memory::store_u16(mem, 8, (place.shape.base + 1) as u16);
+    let count = placing::commit(mem, work, shape, location.rise, kept);
+    let esi = header.esi;
+    let next = esi.plus(location.rise as u32);
+    memory::store_u16(mem, 8, (location.shape.oldest + 1) as u16);
     memory::store_u32(mem, 12, next.0);
     count
 }
@@ -139,29 +139,29 @@ pub fn accept(
     mem: &mut [u8],
     work: &[u8],
     header: Header,
-    place: PacketPlace,
+    location: Location,
     kept: usize,
     own: usize,
 ) -> usize
     requires { ⌜ Based (now mem) header × Works (header .setting .width) (header .setting .size) kept (now work)
-        × (place .shape .base < 65535) × (place .rise ≤ 65536) × PlacedBy header place own ⌝ }
-    ensures { λ n. ⌜ Accepted header place kept own n (now (work .entry)) (now (mem .entry)) (now (mem .exit)) ⌝ }
+        × (location .shape .oldest < 65535) × (location .rise ≤ 65536) × LocatedBy header location own ⌝ }
+    ensures { λ n. ⌜ Accepted header location kept own n (now (work .entry)) (now (mem .entry)) (now (mem .exit)) ⌝ }
 {
     let before = Shape {
         width: header.setting.width,
         size: header.setting.size,
-        base: header.row,
+        oldest: header.oldest,
     };
-    let had = marks::known_among(mem, before, place.rise + place.offset, own);
-    let known = finish(mem, work, header, place, kept);
-    let has = marks::known_among(mem, place.shape, place.offset, own);
+    let had = marks::known_among(mem, before, location.rise + location.offset, own);
+    let known = finish(mem, work, header, location, kept);
+    let has = marks::known_among(mem, location.shape, location.offset, own);
     let others = known != memory::excess(has, had);
     marks::update(
         mem,
-        place.shape,
-        header.row,
-        place.rise,
-        place.offset,
+        location.shape,
+        header.oldest,
+        location.rise,
+        location.offset,
         own,
         others,
     );

@@ -8,7 +8,7 @@ ghost use Rattle.admission.specs.Steps.{Admits, Gathers};
 ghost use Rattle.admission.specs.RepairSteps.{repairEquation, equationAt};
 use super::packet;
 use super::packet::Gathered;
-use super::packet::PacketPlace;
+use super::packet::Location;
 use holding::find;
 
 // One more equation, in the row after those that are kept: a repair symbol, and its coefficients of the positions from the packet's first on.
@@ -17,20 +17,20 @@ fn admit_symbol(
     work: &mut [u8],
     list: &[u8],
     symbol: &[u8],
-    place: PacketPlace,
+    location: Location,
     kept: usize,
 ) -> Gathered
-    requires { ⌜ Fits (place .shape .width) (place .shape .size) (now mem) × Works (place .shape .width) (place .shape .size) kept (now work)
-        × (place .shape .base < place .shape .width) × (place .first < place .shape .width)
-        × (length (now list) ≤ place .shape .width) × (length (now symbol) ≡ place .shape .size) ⌝ }
-    ensures { λ r. ⌜ Admits place (length (now (list .entry)))
-        (repairEquation (place .shape .width) (place .shape .size) (length (now (list .entry))) (now (list .entry)) (now (symbol .entry)))
+    requires { ⌜ Fits (location .shape .width) (location .shape .size) (now mem) × Works (location .shape .width) (location .shape .size) kept (now work)
+        × (location .shape .oldest < location .shape .width) × (location .first < location .shape .width)
+        × (length (now list) ≤ location .shape .width) × (length (now symbol) ≡ location .shape .size) ⌝ }
+    ensures { λ r. ⌜ Admits location (length (now (list .entry)))
+        (repairEquation (location .shape .width) (location .shape .size) (length (now (list .entry))) (now (list .entry)) (now (symbol .entry)))
         kept r (now (mem .entry)) (now (work .entry)) (now (work .exit)) ⌝ }
 {
-    let size = place.shape.size;
-    let at = find::symbol_start(place.shape.width, size, kept);
+    let size = location.shape.size;
+    let at = find::symbol_start(location.shape.width, size, kept);
     memory::copy_part(work, at, symbol, 0, size);
-    packet::admit_equation(mem, work, list, place, kept, place.first)
+    packet::admit_equation(mem, work, list, location, kept, location.first)
 }
 
 // The equations of a repair packet's `count` symbols: the `n` coefficients of each stand one after the other in `lists`.
@@ -39,17 +39,17 @@ pub fn gather_repair(
     work: &mut [u8],
     lists: &[u8],
     packet: &[u8],
-    place: PacketPlace,
+    location: Location,
     n: usize,
     count: usize,
 ) -> Gathered
-    requires { ⌜ Fits (place .shape .width) (place .shape .size) (now mem) × Works (place .shape .width) (place .shape .size) 0 (now work)
-        × (place .shape .base < place .shape .width) × (place .first < place .shape .width) × (n ≤ place .shape .width)
-        × (count * n ≤ length (now lists)) × (8 + count * place .shape .size ≤ length (now packet)) × (count ≤ 16) ⌝ }
-    ensures { λ r. ⌜ Gathers place n (equationAt (place .shape .width) (place .shape .size) n (now (lists .entry)) (now (packet .entry)))
+    requires { ⌜ Fits (location .shape .width) (location .shape .size) (now mem) × Works (location .shape .width) (location .shape .size) 0 (now work)
+        × (location .shape .oldest < location .shape .width) × (location .first < location .shape .width) × (n ≤ location .shape .width)
+        × (count * n ≤ length (now lists)) × (8 + count * location .shape .size ≤ length (now packet)) × (count ≤ 16) ⌝ }
+    ensures { λ r. ⌜ Gathers location n (equationAt (location .shape .width) (location .shape .size) n (now (lists .entry)) (now (packet .entry)))
         count r (now (mem .entry)) (now (work .entry)) (now (work .exit)) ⌝ }
 {
-    let size = place.shape.size;
+    let size = location.shape.size;
     let mut kept: usize = 0;
     for i in 0..count {
         let from = i * n;
@@ -59,7 +59,7 @@ pub fn gather_repair(
             work,
             &lists[from..from + n],
             &packet[at..at + size],
-            place,
+            location,
             kept,
         ) else {
             return Gathered::Contradiction;

@@ -202,12 +202,12 @@ fn mark_new(mem: &mut [u8], size: usize, width: usize, oldest: usize)
     let before = Shape {
         width,
         size,
-        base: oldest,
+        oldest,
     };
     let shape = Shape {
         width,
         size,
-        base: (oldest + 1) % width,
+        oldest: (oldest + 1) % width,
     };
     let had = marks::known_among(mem, before, width, 1);
     let has = marks::known_among(mem, shape, width - 1, 1);

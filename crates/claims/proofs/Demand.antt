@@ -23,7 +23,7 @@ use Rattle.receiver.specs.Promises.{Layout, said, opening, Opened, Follows, Rec
 use Rattle.history.proofs.Answers.{Tracks, TracksFrom, Passes, baseIn, base-found, judged, known-exactly, known-value, tracks-consistent, fresh-tracks}
 use Rattle.history.proofs.Counting.{judged-once}
 use Rattle.history.proofs.Readings.{reading-passes}
-use Rattle.history.proofs.Places.{found-inside, found-past, found-behind}
+use Rattle.history.proofs.Sides.{found-inside, found-past, found-behind}
 use Rattle.claims.specs.Run.{Step, Run, final, read, goes-on, history}
 use Rattle.claims.specs.Demand.{esi, ShownExactly, HiddenBefore, HiddenOutside, Demand-3, Every-list, Alike, No-choice}
 

@@ -22,7 +22,7 @@ use Rattle.history.specs.History.{Located, reading, baseFor, Log, fresh, baseOf
 use Rattle.history.specs.Model.{Joined, State, opened, foundBy, stateAfter, responds, answering, marking, aduAt}
 use Rattle.receiver.specs.Promises.{Layout, said, Opened, Received, AduAnswered}
 use Rattle.history.proofs.Answers.{Tracks, TracksFrom, baseIn, fresh-tracks}
-use Rattle.history.proofs.Places.{adu-inside, adu-past, adu-behind}
+use Rattle.history.proofs.Sides.{adu-inside, adu-past, adu-behind}
 use Rattle.history.proofs.Starting.{Sees, shown-whole, unseen, shows-held, held-shows, shows-inside, seen-outside, AreStarts, MarksTrack}
 use Rattle.history.proofs.Starting.{fresh-marks, tracks-sees, marking-tracks}
 use Rattle.claims.specs.Run.{Step, Run, final, read, goes-on, history}

@@ -15,7 +15,7 @@ use Rattle.history.specs.Symbol.{Symbol, bytesOf}
 use Rattle.history.specs.History.{Filling, Located, All, fresh, value, refusal}
 use Rattle.history.specs.Model.{Finding, hides, finding}
 use Rattle.receiver.specs.Promises.{Layout, said, Places, PlaceAnswered}
-use Rattle.history.proofs.Places.{found-past, found-behind}
+use Rattle.history.proofs.Sides.{found-past, found-behind}
 use Rattle.claims.specs.Run.{final, history}
 use Rattle.claims.specs.Demand.{esi}
 use Rattle.claims.specs.Placing.{PlacedExactly, Placed, Every-place}

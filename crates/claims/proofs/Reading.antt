@@ -14,18 +14,18 @@ use Rattle.wire.proofs.Settings.{within-true}
 use Rattle.wire.proofs.Reading.{source-form, source-adu, source-esi, repair-form, repair-symbols, repair-key, density-threshold, protected-count}
 use Rattle.wire.proofs.Reading.{first-esi}
 use Rattle.coefficients.specs.Coefficients.{keys, listsOf, allOk}
-use Rattle.history.specs.History.{Located, source, repair, placeOf, source-call, repair-call, Reading, located, check, placed, workingSize}
+use Rattle.history.specs.History.{Located, source, repair, sideOf, source-call, repair-call, Reading, located, check, fromSide, workingSize}
 use Rattle.history.specs.History.{readSource, readRepair, reading}
-use Rattle.history.proofs.Places.{placed-taken, placed-behind, placed-far}
+use Rattle.history.proofs.Sides.{side-taken, fails-behind, fails-far}
 use Rattle.claims.specs.Reading.{ReadBy, Reads}
 
 -- A reading that comes to a place.
-by-place : (base d n : ℕ) (next : ℕ → Reading) (q : Located) (r : Reading) → d < 2 ^ 32 → next d ≡ located q
-    → r ≡ placed n (placeOf base ((base + d) % 2 ^ 32)) next → ReadBy d n q r
-by-place base d n next q r small e p = record {
-  taken = λ h k. p ∙ placed-taken base d small n next h k ∙ e;
-  behind = λ h. p ∙ placed-behind base d small n next h;
-  far = λ h k. p ∙ placed-far base d small n next h k;
+by-side : (base d n : ℕ) (next : ℕ → Reading) (q : Located) (r : Reading) → d < 2 ^ 32 → next d ≡ located q
+    → r ≡ fromSide n (sideOf base ((base + d) % 2 ^ 32)) next → ReadBy d n q r
+by-side base d n next q r small e p = record {
+  taken = λ h k. p ∙ side-taken base d small n next h k ∙ e;
+  behind = λ h. p ∙ fails-behind base d small n next h;
+  far = λ h k. p ∙ fails-far base d small n next h k;
 }
 
 module _ (s : Setting) (z : 0 < s .size) (w : s .width ≤ 255) (base room d : ℕ) (enough : workingSize s ≤ room) (small : d < 2 ^ 32) where
@@ -37,7 +37,7 @@ module _ (s : Setting) (z : 0 < s .size) (w : s .width ≤ 255) (base room d : �
       (reading s base room (source-call flow (sourcePacket adu esi)))
   unfolding reading readSource check
   source-read flow adu h k =
-      by-place base d (symbolCount (s .size) (length adu)) (λ x. located (source (base + x) (sourceSymbols flow adu (s .size)))) _ _ small refl
+      by-side base d (symbolCount (s .size) (length adu)) (λ x. located (source (base + x) (sourceSymbols flow adu (s .size)))) _ _ small refl
       (rw (
         le-leb (workingSize s) room enough,
         source-form adu esi,
@@ -54,7 +54,7 @@ module _ (s : Setting) (z : 0 < s .size) (w : s .width ≤ 255) (base room d : �
   unfolding reading readRepair check
   repair-read key dt n symbols a b c e f g h ok =
       let ks = keys key (length symbols) in
-      by-place base d n (λ x. check (allOk (s .scheme) dt n ks) 10 (located (repair (base + x) n (listsOf (s .scheme) dt n ks) symbols)))
+      by-side base d n (λ x. check (allOk (s .scheme) dt n ks) 10 (located (repair (base + x) n (listsOf (s .scheme) dt n ks) symbols)))
       _ _ small (rw ok)
       (rw (
         le-leb (workingSize s) room enough,

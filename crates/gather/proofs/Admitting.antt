@@ -29,7 +29,7 @@ use Rattle.decoder.proofs.Chain.{chain-none, chain-same, place-rows-same, elimi
 use Rattle.decoder.proofs.Combining.{normal-line}
 use Rattle.decoder.proofs.Refine.{lead-read, lead-none}
 use Rattle.decoder.proofs.Steps.{symbol-read, leads-scaled}
-use Rattle.table.specs.Window.{stride, place, row, line, equation, Window, Fits}
+use Rattle.table.specs.Window.{stride, rowOffset, row, line, equation, Window, Fits}
 use Rattle.table.specs.Packet.{Works, spelled, PivotMarked, Gathered}
 use Rattle.table.specs.RowSteps.{Zero-from}
 use Rattle.gather.specs.Gather.{Only, Spans, Agrees, Admitted}
@@ -47,65 +47,65 @@ use Rattle.gather.proofs.Front.{Front, reduce-front, read-front, front-
 -- ---- a row divided by its coefficient in a column
 
 -- The code scales the row from `at` on, and stores the column as its flag.
-module _ (w E k c at : ℕ) (m m₁ m′ : List ℕ) (g : Works w E k m) (h : c < w) (bytes : Bytes m) (here : at ≡ place w E k)
+module _ (w E k c at : ℕ) (m m₁ m′ : List ℕ) (g : Works w E k m) (h : c < w) (bytes : Bytes m) (here : at ≡ rowOffset w E k)
     (p : m₁ ≡ splice at (scaled (inverse (getD m (at + c) 0)) (part at (w + E) m)) m) (q : m′ ≡ set m₁ (at + (w + E)) c) where
   abbrev factor : ℕ
   factor = inverse (getD (row w E k m) c 0)
 
   abbrev divided : List ℕ
-  divided = scaled factor (part (place w E k) (w + E) m)
+  divided = scaled factor (part (rowOffset w E k) (w + E) m)
 
-  room : place w E k + stride w E ≤ length m
+  room : rowOffset w E k + stride w E ≤ length m
   room = row-room w E k m g
 
-  length-part-k : length (part (place w E k) (w + E) m) ≡ w + E
-  length-part-k = length-part (place w E k) (w + E) m (omega (arith, room))
+  length-part-k : length (part (rowOffset w E k) (w + E) m) ≡ w + E
+  length-part-k = length-part (rowOffset w E k) (w + E) m (omega (arith, room))
 
   length-divided : length divided ≡ w + E
-  length-divided = length-scaled factor (part (place w E k) (w + E) m) ∙ length-part-k
+  length-divided = length-scaled factor (part (rowOffset w E k) (w + E) m) ∙ length-part-k
 
-  first : m₁ ≡ splice (place w E k) divided m
+  first : m₁ ≡ splice (rowOffset w E k) divided m
   first =
       p
       ∙ ap (λ a. splice a (scaled (inverse (getD m (a + c) 0)) (part a (w + E) m)) m) here
-      ∙ ap (λ x. splice (place w E k) (scaled (inverse x) (part (place w E k) (w + E) m)) m)
-      (sym (getD-part (place w E k) (stride w E) c m (omega arith)))
+      ∙ ap (λ x. splice (rowOffset w E k) (scaled (inverse x) (part (rowOffset w E k) (w + E) m)) m)
+      (sym (getD-part (rowOffset w E k) (stride w E) c m (omega arith)))
 
   size : length m₁ ≡ length m
-  size = ap length first ∙ length-splice (place w E k) divided m (omega (arith, length-divided, room))
+  size = ap length first ∙ length-splice (rowOffset w E k) divided m (omega (arith, length-divided, room))
 
-  second : m′ ≡ splice (place w E k + (w + E)) (c ∷ []) m₁
-  second = q ∙ ap (λ a. set m₁ (a + (w + E)) c) here ∙ set-splice m₁ (place w E k + (w + E)) c (omega (arith, size, room))
+  second : m′ ≡ splice (rowOffset w E k + (w + E)) (c ∷ []) m₁
+  second = q ∙ ap (λ a. set m₁ (a + (w + E)) c) here ∙ set-splice m₁ (rowOffset w E k + (w + E)) c (omega (arith, size, room))
 
   cell : (i : ℕ) → i < w + E → getD (row w E k m′) i 0 ≡ getD divided i 0
   cell i l =
-      getD-part (place w E k) (stride w E) i m′ (omega arith)
-      ∙ ap (λ x. getD x (place w E k + i) 0) second
-      ∙ getD-before (place w E k + i) (place w E k + (w + E)) (c ∷ []) m₁ (omega arith) (omega (arith, size, room))
-      ∙ ap (λ x. getD x (place w E k + i) 0) first
-      ∙ getD-within (place w E k) i divided m (omega (arith, length-divided)) (omega (arith, room))
+      getD-part (rowOffset w E k) (stride w E) i m′ (omega arith)
+      ∙ ap (λ x. getD x (rowOffset w E k + i) 0) second
+      ∙ getD-before (rowOffset w E k + i) (rowOffset w E k + (w + E)) (c ∷ []) m₁ (omega arith) (omega (arith, size, room))
+      ∙ ap (λ x. getD x (rowOffset w E k + i) 0) first
+      ∙ getD-within (rowOffset w E k) i divided m (omega (arith, length-divided)) (omega (arith, room))
 
   pub normalised : Normalised w E k c m m′
   normalised = record {
     only =
         only-trans
-        (subst (Only (place w E k) (place w E k + (w + E + 1)) m) (sym first)
-        (only-splice (place w E k) (place w E k + (w + E + 1)) (place w E k) divided m (omega arith) (omega (arith, length-divided)) (omega (arith, room))))
-        (subst (Only (place w E k) (place w E k + (w + E + 1)) m₁) (sym second)
-        (only-splice (place w E k) (place w E k + (w + E + 1)) (place w E k + (w + E)) (c ∷ []) m₁ (omega arith) (omega arith) (omega (arith, size, room))));
+        (subst (Only (rowOffset w E k) (rowOffset w E k + (w + E + 1)) m) (sym first)
+        (only-splice (rowOffset w E k) (rowOffset w E k + (w + E + 1)) (rowOffset w E k) divided m (omega arith) (omega (arith, length-divided)) (omega (arith, room))))
+        (subst (Only (rowOffset w E k) (rowOffset w E k + (w + E + 1)) m₁) (sym second)
+        (only-splice (rowOffset w E k) (rowOffset w E k + (w + E + 1)) (rowOffset w E k + (w + E)) (c ∷ []) m₁ (omega arith) (omega arith) (omega (arith, size, room))));
     scaled =
-        line-scale w E (g .some-width) factor (row w E k m) (row w E k m′) (bytes-part (place w E k) (stride w E) m bytes)
+        line-scale w E (g .some-width) factor (row w E k m) (row w E k m′) (bytes-part (rowOffset w E k) (stride w E) m bytes)
         (inverse-lt (getD (row w E k m) c 0))
         (λ i l.
         cell i l
-        ∙ getD-scaled factor (part (place w E k) (w + E) m) i (omega (arith, length-part-k))
+        ∙ getD-scaled factor (part (rowOffset w E k) (w + E) m) i (omega (arith, length-part-k))
         ∙ ap (product factor) (part-row w E k i m l));
     flag =
-        let e : place w E k + (w + E) ≡ place w E k + (w + E) + 0 = omega arith in
-        getD-part (place w E k) (stride w E) (w + E) m′ (omega arith)
-        ∙ ap (λ x. getD x (place w E k + (w + E)) 0) second
-        ∙ ap (λ a. getD (splice (place w E k + (w + E)) (c ∷ []) m₁) a 0) e
-        ∙ getD-within (place w E k + (w + E)) 0 (c ∷ []) m₁ (omega arith) (omega (arith, size, room));
+        let e : rowOffset w E k + (w + E) ≡ rowOffset w E k + (w + E) + 0 = omega arith in
+        getD-part (rowOffset w E k) (stride w E) (w + E) m′ (omega arith)
+        ∙ ap (λ x. getD x (rowOffset w E k + (w + E)) 0) second
+        ∙ ap (λ a. getD (splice (rowOffset w E k + (w + E)) (c ∷ []) m₁) a 0) e
+        ∙ getD-within (rowOffset w E k + (w + E)) 0 (c ∷ []) m₁ (omega arith) (omega (arith, size, room));
   }
 
 -- ---- where a row leads
@@ -152,7 +152,7 @@ module _ (w E first k : ℕ) (m : List ℕ) (g : Works w E k m) (bytes : Bytes m
   positive = omega (arith, g .some-symbol)
 
   row-bytes : Bytes (row w E k m)
-  row-bytes = bytes-part (place w E k) (stride w E) m bytes
+  row-bytes = bytes-part (rowOffset w E k) (stride w E) m bytes
 
   module _ (r c i : ℕ) (m′ : List ℕ) (from : k ≤ r) (to : r < k + 1) (room : r < w) (h : i < w) (e : c ≡ (first + i) % w) (found : Leading w first i (row w E r m))
       (f : Normalised w E r c m m′) where
@@ -167,7 +167,7 @@ module _ (w E first k : ℕ) (m : List ℕ) (g : Works w E k m) (bytes : Bytes m
 
     works : Works w E (k + 1) m′
     works =
-        let old = works-only {z = place w E k + (w + E + 1)} (omega arith) (done .only) g in
+        let old = works-only {z = rowOffset w E k + (w + E + 1)} (omega arith) (done .only) g in
         record {
           some-width = old .some-width;
           wide = old .wide;
@@ -223,7 +223,7 @@ module _ (w E first k : ℕ) (m : List ℕ) (g : Works w E k m) (bytes : Bytes m
     settled-kept = record { only = done .only; works = works; outcome = kept }
 
   -- No coefficient: the code reads the symbol from `at` on.
-  module _ (at : ℕ) (here : at ≡ place w E k + w) (blank : k < w → Leading w first w (row w E k m)) where
+  module _ (at : ℕ) (here : at ≡ rowOffset w E k + w) (blank : k < w → Leading w first w (row w E k m)) where
     no-lead : (b d : ℕ) → d < w → (b + d) % w ≡ first → ((j : ℕ) → b ≤ j → j < b + d → line w E (row w E k m) .cells j ≡ Coded E .𝟘) → k < w
         → lead (Coded E) w (spelled w E b m k) ≡ Coded E .𝟘
     no-lead b d near q front h =
@@ -232,8 +232,8 @@ module _ (w E first k : ℕ) (m : List ℕ) (g : Works w E k m) (bytes : Bytes m
 
     symbol-cell : (i : ℕ) → w ≤ i → i < w + E → getD (row w E k m) i 0 ≡ getD m (at + (i - w)) 0
     symbol-cell i l u =
-        let e : place w E k + i ≡ at + (i - w) = omega arith in
-        getD-part (place w E k) (stride w E) i m (omega arith) ∙ ap (λ x. getD m x 0) e
+        let e : rowOffset w E k + i ≡ at + (i - w) = omega arith in
+        getD-part (rowOffset w E k) (stride w E) i m (omega arith) ∙ ap (λ x. getD m x 0) e
 
     pub settled-implied : Zero-from at (at + E) m → Settled w E first k Implied m m
     settled-implied z = record {
@@ -277,7 +277,7 @@ gathered-same w E b kept S m m′ es pos same f =
 
 -- So a change in the row `kept` leaves them.
 pub gathered-only : (w E b kept z : ℕ) (S : State (Coded E) w) (m m′ : List ℕ) (es : List (Row (Coded E) w)) → 0 < E
-    → Only (place w E kept) z m m′ → z ≤ place w E kept + stride w E → Gathered w E b S m kept es → Gathered w E b S m′ kept es
+    → Only (rowOffset w E kept) z m m′ → z ≤ rowOffset w E kept + stride w E → Gathered w E b S m kept es → Gathered w E b S m′ kept es
 gathered-only w E b kept z S m m′ es pos f h =
     gathered-same w E b kept S m m′ es pos (λ j l. only-row w E kept j z m m′ f h (omega arith))
 
@@ -290,23 +290,23 @@ gathered-none w E b S m pos = record {
   inserted = refl;
 }
 
-module _ (w E base stay kept first count n : ℕ) (verdict : Verdict) (m work work₁ work₂ work′ : List ℕ) (fits : Fits w E m) (bytes : Bytes m)
-    (g : Works w E kept work) (small : Bytes work) (near : Staying w base first count stay n)
+module _ (w E oldest stay kept first count n : ℕ) (verdict : Verdict) (m work work₁ work₂ work′ : List ℕ) (fits : Fits w E m) (bytes : Bytes m)
+    (g : Works w E kept work) (small : Bytes work) (near : Staying w oldest first count stay n)
     (f₁ : StateReduced w E kept first n m work work₁) (f₂ : PacketReduced w E kept kept work₁ work₂)
     (f₃ : Settled w E first kept verdict work₂ work′) where
   L : Laws (Coded E)
   L = laws E (omega (arith, fits .some-symbol))
 
-  only₁ : Only (place w E kept) (place w E kept + (w + E)) work work₁
+  only₁ : Only (rowOffset w E kept) (rowOffset w E kept + (w + E)) work work₁
   only₁ = state-only w E kept first n m work work₁ g f₁
 
-  only₂ : Only (place w E kept) (place w E kept + (w + E)) work work₂
+  only₂ : Only (rowOffset w E kept) (rowOffset w E kept + (w + E)) work work₂
   only₂ = only-trans only₁ (f₂ .only)
 
-  only₃ : Only (place w E kept) (place w E kept + (w + E + 1)) work work′
-  only₃ = only-trans (only-wider (place w E kept + (w + E)) (place w E kept + (w + E + 1)) (omega arith) only₂) (f₃ .only)
+  only₃ : Only (rowOffset w E kept) (rowOffset w E kept + (w + E + 1)) work work′
+  only₃ = only-trans (only-wider (rowOffset w E kept + (w + E)) (rowOffset w E kept + (w + E + 1)) (omega arith) only₂) (f₃ .only)
 
-  module _ (b rise d : ℕ) (S : State (Coded E) w) (es : List (Row (Coded E) w)) (here : (b + rise) % w ≡ base) (stays : stay ≡ w - rise)
+  module _ (b rise d : ℕ) (S : State (Coded E) w) (es : List (Row (Coded E) w)) (here : (b + rise) % w ≡ oldest) (stays : stay ≡ w - rise)
       (from : (b + rise + d) % w ≡ first) (in-window : d < w) (room : d + count ≤ w) (held : Window w E m b S) (rref : Rref S) (spans : Spans w first count (row w E kept work))
       (f : Gathered w E (b + rise) (advance-by rise S) work kept es) where
     abbrev S₀ : State (Coded E) w
@@ -321,25 +321,25 @@ module _ (w E base stay kept first count n : ℕ) (verdict : Verdict) (m work wo
     -- What the rows before give, in all four memories.
     f′ : Gathered w E q S₀ work′ kept es
     f′ =
-        gathered-only w E q kept (place w E kept + (w + E + 1)) S₀ work work′ es (omega (arith, fits .some-symbol)) only₃ (omega arith) f
+        gathered-only w E q kept (rowOffset w E kept + (w + E + 1)) S₀ work work′ es (omega (arith, fits .some-symbol)) only₃ (omega arith) f
 
     abbrev T : State (Coded E) w
     T = place-rows (spelled w E q work′) kept S₀
 
     row-before : (j : ℕ) → j < kept → row w E j work₁ ≡ row w E j work
-    row-before j l = only-row w E kept j (place w E kept + (w + E)) work work₁ only₁ (omega arith) (omega arith)
+    row-before j l = only-row w E kept j (rowOffset w E kept + (w + E)) work work₁ only₁ (omega arith) (omega arith)
 
     reduced : spelled w E q work₂ kept ≡ reduce T e
     reduced =
         f₂ .sum q (λ j l. subst (PivotMarked w E q) (sym (row-before j l)) (f .marked j l))
         ∙ eliminate-same L w (spelled w E q work₁) (spelled w E q work) kept (spelled w E q work₁ kept) (λ j l. ap (equation w E q) (row-before j l))
         ∙ ap (eliminate (Coded E) w (spelled w E q work) kept)
-        (state-reduced w E kept first n base count stay m work work₁ fits bytes g small f₁ near b rise d S here stays from room held rref spans)
+        (state-reduced w E kept first n oldest count stay m work work₁ fits bytes g small f₁ near b rise d S here stays from room held rref spans)
         ∙ chain-reduce L S₀ (spelled w E q work) kept e (f .chain)
         ∙ ap (λ X. reduce X e)
         (place-rows-same L (spelled w E q work) (spelled w E q work′) kept S₀
         (λ j l.
-        ap (equation w E q) (sym (only-row w E kept j (place w E kept + (w + E + 1)) work work′ only₃ (omega arith) (omega arith)))))
+        ap (equation w E q) (sym (only-row w E kept j (rowOffset w E kept + (w + E + 1)) work work′ only₃ (omega arith) (omega arith)))))
 
     -- No coefficient before the equation's first.
     front : (j : ℕ) → q ≤ j → j < q + d → line w E (row w E kept work₂) .cells j ≡ Coded E .𝟘
@@ -352,7 +352,7 @@ module _ (w E base stay kept first count n : ℕ) (verdict : Verdict) (m work wo
         let x : q + (j - q) ≡ j = omega arith in
         byte-zero _
         (ap (λ k. getD (row w E kept work) (k % w) 0) (sym x)
-        ∙ no-coefficient w E kept first n base count stay m work work₁ fits bytes g small f₁ near b rise d S here stays from room held rref spans
+        ∙ no-coefficient w E kept first n oldest count stay m work work₁ fits bytes g small f₁ near b rise d S here stays from room held rref spans
         (j - q) (omega arith) (λ t u. omega arith))))))
 
     -- Without a coefficient, or with as many rows as there are positions.
@@ -391,7 +391,7 @@ module _ (w E base stay kept first count n : ℕ) (verdict : Verdict) (m work wo
         packet-contradicts L S₀ (spelled w E q work′) kept es (f′ .chain) (f′ .inserted) e (none-left z)
         (λ x. y (ap (symbol (Coded E) w) reduced ∙ x))
 
-  pub admitted : Admitted w E base stay kept first count verdict m work work′
+  pub admitted : Admitted w E oldest stay kept first count verdict m work work′
   admitted = record {
     only = only₃;
     works = f₃ .works;

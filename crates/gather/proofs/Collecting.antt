@@ -69,7 +69,7 @@ module _ (w E first : ℕ) (m l : List ℕ) where
       still z j g (no x) = f .none (z .0) j (omega arith)
 
 -- The columns of positions that stay, where the first of them is of one.
-pub staying-none : {w base first count stay : ℕ} (d : ℕ) → d < w → (base + d) % w ≡ first → stay ≤ d → Staying w base first count stay 0
+pub staying-none : {w oldest first count stay : ℕ} (d : ℕ) → d < w → (oldest + d) % w ≡ first → stay ≤ d → Staying w oldest first count stay 0
 staying-none d h e g = record {
   distance = d;
   near = h;
@@ -79,8 +79,8 @@ staying-none d h e g = record {
   all = λ i l k. absurd (omega arith);
 }
 
-pub staying-some : {w base first count stay : ℕ} (d n : ℕ) → d < w → (base + d) % w ≡ first → d < stay → n ≤ count → n ≤ stay - d
-    → ((i : ℕ) → i ≤ count → i ≤ stay - d → i ≤ n) → Staying w base first count stay n
+pub staying-some : {w oldest first count stay : ℕ} (d n : ℕ) → d < w → (oldest + d) % w ≡ first → d < stay → n ≤ count → n ≤ stay - d
+    → ((i : ℕ) → i ≤ count → i ≤ stay - d → i ≤ n) → Staying w oldest first count stay n
 staying-some d n h e g a b f = record {
   distance = d;
   near = h;

@@ -10,7 +10,7 @@ use lib.ListN.{length, take, drop, getD}
 use lib.Seq.{drop-drop}
 use Rattle.memory.specs.Part.{part, splice}
 use Rattle.memory.proofs.Parts.{length-part, length-splice, take-splice, past-splice, part-part, part-drop, row-fits}
-use Rattle.table.specs.Window.{stride, place, row}
+use Rattle.table.specs.Window.{stride, rowOffset, row}
 use Rattle.table.specs.Packet.{Works}
 use Rattle.gather.specs.Gather.{Only}
 
@@ -49,15 +49,15 @@ only-past a z i n m m′ f h =
     ap (λ k. part k n m′) e ∙ part-drop z (i - z) n m′ ∙ ap (part (i - z) n) (f .past) ∙ sym (part-drop z (i - z) n m) ∙ ap (λ k. part k n m) (sym e)
 
 -- The rows other than the one that has changed.
-pub only-row : (w E k q z : ℕ) (m m′ : List ℕ) → Only (place w E k) z m m′ → z ≤ place w E k + stride w E → q ≢ k → row w E q m′ ≡ row w E q m
+pub only-row : (w E k q z : ℕ) (m m′ : List ℕ) → Only (rowOffset w E k) z m m′ → z ≤ rowOffset w E k + stride w E → q ≢ k → row w E q m′ ≡ row w E q m
 only-row w E k q z m m′ f h d = go (decLt q k)
   where
     go : Dec (q < k) → row w E q m′ ≡ row w E q m
-    go (yes l) = only-before (place w E k) z (place w E q) (stride w E) m m′ f (omega (arith, row-fits k (stride w E) q l))
-    go (no l) = only-past (place w E k) z (place w E q) (stride w E) m m′ f (omega (arith, row-fits q (stride w E) k (omega arith)))
+    go (yes l) = only-before (rowOffset w E k) z (rowOffset w E q) (stride w E) m m′ f (omega (arith, row-fits k (stride w E) q l))
+    go (no l) = only-past (rowOffset w E k) z (rowOffset w E q) (stride w E) m m′ f (omega (arith, row-fits q (stride w E) k (omega arith)))
 
 -- Working memory with its rows before the row `k` as they were.
-pub works-only : {w E k z : ℕ} {m m′ : List ℕ} → z ≤ place w E k + stride w E → Only (place w E k) z m m′ → Works w E k m → Works w E k m′
+pub works-only : {w E k z : ℕ} {m m′ : List ℕ} → z ≤ rowOffset w E k + stride w E → Only (rowOffset w E k) z m m′ → Works w E k m → Works w E k m′
 works-only {w} {E} {k} {z} {m} {m′} h f g = record {
   some-width = g .some-width;
   wide = g .wide;
@@ -82,8 +82,8 @@ works-none g = record {
 
 -- Where the row `k` ends, and how long it is.
 module _ (w E k : ℕ) (work : List ℕ) (g : Works w E k work) where
-  pub row-room : place w E k + stride w E ≤ length work
+  pub row-room : rowOffset w E k + stride w E ≤ length work
   row-room = omega (arith, g .room, g .within, row-fits (w + 1) (stride w E) k (omega (arith, g .within)))
 
   pub length-row : length (row w E k work) ≡ stride w E
-  length-row = length-part (place w E k) (stride w E) work row-room
+  length-row = length-part (rowOffset w E k) (stride w E) work row-room

@@ -9,7 +9,7 @@ use native.Mathlib.Omega.{arith}
 use lib.ListN.{length, getD, replicate, length-replicate, getD-replicate}
 use Rattle.memory.specs.Part.{part, splice}
 use Rattle.memory.proofs.Parts.{length-part, length-splice, getD-part, getD-before, getD-within, getD-past}
-use Rattle.table.specs.Window.{stride, place, row}
+use Rattle.table.specs.Window.{stride, rowOffset, row}
 use Rattle.table.specs.Packet.{Works}
 use Rattle.gather.specs.Gather.{Only, LaidIn}
 use Rattle.gather.proofs.Framing.{only-splice, only-trans, only-past, row-room}
@@ -18,7 +18,7 @@ use Rattle.gather.proofs.Framing.{only-splice, only-trans, only-past, r
 pub wrapped : (w c : ℕ) → w ≤ c → c < w + w → c % w ≡ c - w
 wrapped w c h l = mod-eq-sub-mod h ∙ mod-eq-of-lt (omega arith)
 
-module _ (w E k first : ℕ) (cs work : List ℕ) (g : Works w E k work) (h : first < w) (n : length cs ≤ w) (at : ℕ) (here : at ≡ place w E k) where
+module _ (w E k first : ℕ) (cs work : List ℕ) (g : Works w E k work) (h : first < w) (n : length cs ≤ w) (at : ℕ) (here : at ≡ rowOffset w E k) where
   room : at + stride w E ≤ length work
   room = omega (arith, row-room w E k work g)
 
@@ -37,7 +37,7 @@ module _ (w E k first : ℕ) (cs work : List ℕ) (g : Works w E k work) (h : fi
 
   -- A byte of the row.
   cell : (m : List ℕ) (j : ℕ) → j < w → getD (row w E k m) j 0 ≡ getD m (at + j) 0
-  cell m j l = getD-part (place w E k) (stride w E) j m (omega arith) ∙ ap (λ a. getD m (a + j) 0) (sym here)
+  cell m j l = getD-part (rowOffset w E k) (stride w E) j m (omega arith) ∙ ap (λ a. getD m (a + j) 0) (sym here)
 
   -- Some of the coefficients, from column `c` on.
   module _ (c i s : ℕ) (m : List ℕ) (fits : i + s ≤ length cs) (size : length m ≡ length work) (inside : c + s ≤ w) where
@@ -66,7 +66,7 @@ module _ (w E k first : ℕ) (cs work : List ℕ) (g : Works w E k work) (h : fi
     past-laid : (j : ℕ) → c + s ≤ j → getD laid (at + j) 0 ≡ getD m (at + j) 0
     past-laid j l = getD-past (at + j) (at + c) (part i s cs) m (omega (arith, length-cut)) (omega (arith, room))
 
-  framed : (m : List ℕ) → Only at (at + w) work m → Only (place w E k) (place w E k + w) work m
+  framed : (m : List ℕ) → Only at (at + w) work m → Only (rowOffset w E k) (rowOffset w E k + w) work m
   framed m f = subst (λ a. Only a (a + w) work m) here f
 
   -- All before the end of the window.
@@ -180,10 +180,10 @@ module _ (w E k first : ℕ) (cs work : List ℕ) (g : Works w E k work) (h : fi
 pub laid-symbol : (w E k first : ℕ) (cs work work′ : List ℕ) → LaidIn w E k first cs work work′ → (i : ℕ) → i < E
     → getD (row w E k work′) (w + i) 0 ≡ getD (row w E k work) (w + i) 0
 laid-symbol w E k first cs work work′ f i h =
-    let same : (m : List ℕ) → getD (row w E k m) (w + i) 0 ≡ getD (part (place w E k + w) E m) i 0 =
+    let same : (m : List ℕ) → getD (row w E k m) (w + i) 0 ≡ getD (part (rowOffset w E k + w) E m) i 0 =
     (λ m.
-    let e : place w E k + (w + i) ≡ place w E k + w + i = omega arith in
-    getD-part (place w E k) (stride w E) (w + i) m (omega arith) ∙ ap (λ a. getD m a 0) e ∙ sym (getD-part (place w E k + w) E i m h)) in
+    let e : rowOffset w E k + (w + i) ≡ rowOffset w E k + w + i = omega arith in
+    getD-part (rowOffset w E k) (stride w E) (w + i) m (omega arith) ∙ ap (λ a. getD m a 0) e ∙ sym (getD-part (rowOffset w E k + w) E i m h)) in
     same work′
-    ∙ ap (λ x. getD x i 0) (only-past (place w E k) (place w E k + w) (place w E k + w) E work work′ (f .only) (omega arith))
+    ∙ ap (λ x. getD x i 0) (only-past (rowOffset w E k) (rowOffset w E k + w) (rowOffset w E k + w) E work work′ (f .only) (omega arith))
     ∙ sym (same work)

@@ -30,7 +30,7 @@ use Rattle.decoder.specs.Chain.{eliminate}
 use Rattle.decoder.proofs.Bytes.{laws, byte-zero}
 use Rattle.decoder.proofs.Stretch.{remainders, line-same, line-add}
 use Rattle.decoder.proofs.Combining.{stays-lines, eliminate-line}
-use Rattle.table.specs.Window.{stride, place, row, inUse, line, table, equation, Window, Fits}
+use Rattle.table.specs.Window.{stride, rowOffset, row, inUse, line, table, equation, Window, Fits}
 use Rattle.table.specs.Packet.{Works, spelled, PivotMarked}
 use Rattle.gather.specs.Gather.{Only, Spans}
 use Rattle.gather.specs.GatherSteps.{if-used, multiplier, Zeros, Collected, StateReduced, Eliminated, PacketReduced, Staying}
@@ -39,16 +39,16 @@ use Rattle.gather.proofs.Framing.{only-refl, only-trans, only-splice, o
 
 -- ---- a row that has been replaced
 
-module _ (w E k : ℕ) (x m : List ℕ) (h : place w E k ≤ length m) where
-  pub new-cell : (i : ℕ) → i < length x → i < stride w E → getD (row w E k (splice (place w E k) x m)) i 0 ≡ getD x i 0
-  new-cell i l g = getD-part (place w E k) (stride w E) i (splice (place w E k) x m) g ∙ getD-within (place w E k) i x m l h
+module _ (w E k : ℕ) (x m : List ℕ) (h : rowOffset w E k ≤ length m) where
+  pub new-cell : (i : ℕ) → i < length x → i < stride w E → getD (row w E k (splice (rowOffset w E k) x m)) i 0 ≡ getD x i 0
+  new-cell i l g = getD-part (rowOffset w E k) (stride w E) i (splice (rowOffset w E k) x m) g ∙ getD-within (rowOffset w E k) i x m l h
 
-  pub new-line : 0 < w → length x ≡ w + E → line w E (row w E k (splice (place w E k) x m)) ≡ line w E x
-  new-line pos n = line-same w E pos (row w E k (splice (place w E k) x m)) x (λ i l. new-cell i (omega arith) (omega arith))
+  pub new-line : 0 < w → length x ≡ w + E → line w E (row w E k (splice (rowOffset w E k) x m)) ≡ line w E x
+  new-line pos n = line-same w E pos (row w E k (splice (rowOffset w E k) x m)) x (λ i l. new-cell i (omega arith) (omega arith))
 
 -- The same bytes as a part of `w + E` and as a row.
-pub part-row : (w E k i : ℕ) (m : List ℕ) → i < w + E → getD (part (place w E k) (w + E) m) i 0 ≡ getD (row w E k m) i 0
-part-row w E k i m h = getD-part (place w E k) (w + E) i m h ∙ sym (getD-part (place w E k) (stride w E) i m (omega arith))
+pub part-row : (w E k i : ℕ) (m : List ℕ) → i < w + E → getD (part (rowOffset w E k) (w + E) m) i 0 ≡ getD (row w E k m) i 0
+part-row w E k i m h = getD-part (rowOffset w E k) (w + E) i m h ∙ sym (getD-part (rowOffset w E k) (stride w E) i m (omega arith))
 
 pub bytes-addScaled : (c : ℕ) (d s : List ℕ) → Bytes d → Bytes (addScaled c d s)
 unfolding addScaled
@@ -60,9 +60,9 @@ bytes-addScaled c (x ∷ d) (y ∷ s) f (suc i) = bytes-addScaled c d s (λ j. f
 -- ---- by the packet's rows
 
 -- The code reads the row `j` from `from` on and its flag, and the row `k` from `at` on.
-module _ (w E k j at from : ℕ) (m : List ℕ) (p : at ≡ place w E k) (q : from ≡ place w E j) (g : Works w E k m) (h : j < k) where
+module _ (w E k j at from : ℕ) (m : List ℕ) (p : at ≡ rowOffset w E k) (q : from ≡ rowOffset w E j) (g : Works w E k m) (h : j < k) where
   flag : getD m (from + (w + E)) 0 ≡ getD (row w E j m) (w + E) 0
-  flag = ap (λ a. getD m (a + (w + E)) 0) q ∙ sym (getD-part (place w E j) (stride w E) (w + E) m (omega arith))
+  flag = ap (λ a. getD m (a + (w + E)) 0) q ∙ sym (getD-part (rowOffset w E j) (stride w E) (w + E) m (omega arith))
 
   pub flag-lt : getD m (from + (w + E)) 0 < w
   flag-lt = omega (arith, flag, g .columns j h)
@@ -75,11 +75,11 @@ module _ (w E k j at from : ℕ) (m : List ℕ) (p : at ≡ place w E k) (q : fr
   eliminated m′ s =
       let c = getD (row w E j m) (w + E) 0 in
       let e : getD m (at + getD m (from + (w + E)) 0) 0 ≡ getD (row w E k m) c 0 =
-      ap (λ x. getD m (at + x) 0) flag ∙ ap (λ a. getD m (a + c) 0) p ∙ sym (getD-part (place w E k) (stride w E) c m (omega (arith, g .columns j h))) in
+      ap (λ x. getD m (at + x) 0) flag ∙ ap (λ a. getD m (a + c) 0) p ∙ sym (getD-part (rowOffset w E k) (stride w E) c m (omega (arith, g .columns j h))) in
       s
       ∙ ap (λ y. splice at (addScaled y (part at (w + E) m) (part from (w + E) m)) m) e
       ∙ ap (λ a. splice a (addScaled (getD (row w E k m) c 0) (part a (w + E) m) (part from (w + E) m)) m) p
-      ∙ ap (λ a. splice (place w E k) (addScaled (getD (row w E k m) c 0) (part (place w E k) (w + E) m) (part a (w + E) m)) m) q
+      ∙ ap (λ a. splice (rowOffset w E k) (addScaled (getD (row w E k m) c 0) (part (rowOffset w E k) (w + E) m) (part a (w + E) m)) m) q
 
 module _ (w E k : ℕ) (work : List ℕ) where
   pub packet-none : PacketReduced w E k 0 work work
@@ -91,36 +91,36 @@ module _ (w E k : ℕ) (work : List ℕ) where
     factor = getD (row w E k m) (getD (row w E j m) (w + E) 0) 0
 
     abbrev sum : List ℕ
-    sum = addScaled factor (part (place w E k) (w + E) m) (part (place w E j) (w + E) m)
+    sum = addScaled factor (part (rowOffset w E k) (w + E) m) (part (rowOffset w E j) (w + E) m)
 
-    room : place w E k + stride w E ≤ length m
+    room : rowOffset w E k + stride w E ≤ length m
     room = row-room w E k m g
 
-    room-j : place w E j + stride w E ≤ length m
+    room-j : rowOffset w E j + stride w E ≤ length m
     room-j = omega (arith, room, row-fits k (stride w E) j h)
 
-    length-k : length (part (place w E k) (w + E) m) ≡ w + E
-    length-k = length-part (place w E k) (w + E) m (omega (arith, room))
+    length-k : length (part (rowOffset w E k) (w + E) m) ≡ w + E
+    length-k = length-part (rowOffset w E k) (w + E) m (omega (arith, room))
 
-    length-j : length (part (place w E j) (w + E) m) ≡ w + E
-    length-j = length-part (place w E j) (w + E) m (omega (arith, room-j))
+    length-j : length (part (rowOffset w E j) (w + E) m) ≡ w + E
+    length-j = length-part (rowOffset w E j) (w + E) m (omega (arith, room-j))
 
     length-sum : length sum ≡ w + E
-    length-sum = length-addScaled factor (part (place w E k) (w + E) m) (part (place w E j) (w + E) m) ∙ length-k
+    length-sum = length-addScaled factor (part (rowOffset w E k) (w + E) m) (part (rowOffset w E j) (w + E) m) ∙ length-k
 
     line-sum : line w E (row w E k m′) ≡ add-line (byte factor) (line w E (row w E j m)) (line w E (row w E k m))
     line-sum =
         ap (λ y. line w E (row w E k y)) s
         ∙ new-line w E k sum m (omega (arith, room)) (g .some-width) length-sum
         ∙ line-add w E (g .some-width) factor (row w E k m) (row w E j m) sum
-        (bytes-part (place w E k) (stride w E) m bytes) (bytes-part (place w E j) (stride w E) m bytes)
-        (bytes-part (place w E k) (stride w E) m bytes (getD (row w E j m) (w + E) 0))
+        (bytes-part (rowOffset w E k) (stride w E) m bytes) (bytes-part (rowOffset w E j) (stride w E) m bytes)
+        (bytes-part (rowOffset w E k) (stride w E) m bytes (getD (row w E j m) (w + E) 0))
         (λ i l.
-        getD-addScaled factor (part (place w E k) (w + E) m) (part (place w E j) (w + E) m) i (omega (arith, length-k)) (omega (arith, length-j))
+        getD-addScaled factor (part (rowOffset w E k) (w + E) m) (part (rowOffset w E j) (w + E) m) i (omega (arith, length-k)) (omega (arith, length-j))
         ∙ ap₂ (λ x y. bitXor x (product factor y)) (part-row w E k i m l) (part-row w E j i m l))
 
     same-row : row w E j m ≡ row w E j work
-    same-row = only-row w E k j (place w E k + (w + E)) work m (f .only) (omega arith) (omega arith)
+    same-row = only-row w E k j (rowOffset w E k + (w + E)) work m (f .only) (omega arith) (omega arith)
 
     module _ (b : ℕ) (marks : (i : ℕ) → i < k → PivotMarked w E b (row w E i work)) where
       mark : PivotMarked w E b (row w E j m)
@@ -144,8 +144,8 @@ module _ (w E k : ℕ) (work : List ℕ) where
     packet-more = record {
       only =
           only-trans (f .only)
-          (subst (Only (place w E k) (place w E k + (w + E)) m) (sym s)
-          (only-splice (place w E k) (place w E k + (w + E)) (place w E k) sum m (omega arith) (omega (arith, length-sum)) (omega (arith, room))));
+          (subst (Only (rowOffset w E k) (rowOffset w E k + (w + E)) m) (sym s)
+          (only-splice (rowOffset w E k) (rowOffset w E k + (w + E)) (rowOffset w E k) sum m (omega arith) (omega (arith, length-sum)) (omega (arith, room))));
       sum = λ b marks. all b marks ∙ ap (λ i. eliminate (Coded E) w (spelled w E b work) i (spelled w E b work k)) (sym (add-one j));
     }
 
@@ -166,11 +166,11 @@ zeros (suc n) (suc i) = zeros n i
 pub length-lent : (a n : ℕ) (m : List ℕ) → a + n ≤ length m → length (take (a + n - a) (drop a m)) ≡ n
 length-lent a n m h = ap length (cut a n m) ∙ length-part a n m h
 
-pub rows-added : (w E k a : ℕ) (m work cs x : List ℕ) → a ≡ place w E k → a + (w + E) ≤ length work → w ≤ length cs
+pub rows-added : (w E k a : ℕ) (m work cs x : List ℕ) → a ≡ rowOffset w E k → a + (w + E) ≤ length work → w ≤ length cs
     → x ≡ combined (coefficient (take w cs)) (rowAt m 64 (w + E + 4) (length (take (a + (w + E) - a) (drop a work)))) (length (take w cs)) (take (a + (w + E) - a) (drop a work))
     → length x ≡ length (take (a + (w + E) - a) (drop a work))
     → take a work ++ (x ++ drop (a + (w + E) - a) (drop a work))
-    ≡ splice (place w E k) (combined (coefficient (take w cs)) (rowAt m 64 (stride w E) (w + E)) w (part (place w E k) (w + E) work)) work
+    ≡ splice (rowOffset w E k) (combined (coefficient (take w cs)) (rowAt m 64 (stride w E) (w + E)) w (part (rowOffset w E k) (w + E) work)) work
 rows-added w E k a m work cs x here room h s n =
     put a (w + E) x work room n
     ∙ ap (λ y. splice a y work)
@@ -181,12 +181,12 @@ rows-added w E k a m work cs x here room h s n =
     ∙ ap (λ y. splice y (combined (coefficient (take w cs)) (rowAt m 64 (stride w E) (w + E)) w (part y (w + E) work)) work) here
 
 -- What `collect` has read is the row.
-module _ (w E k first n at any : ℕ) (m work cs cs′ : List ℕ) (here : at ≡ place w E k) (g : Works w E k work) (zeros : Zeros cs)
+module _ (w E k first n at any : ℕ) (m work cs cs′ : List ℕ) (here : at ≡ rowOffset w E k) (g : Works w E k work) (zeros : Zeros cs)
     (f : Collected w E first n any m (part at w work) cs cs′) where
   same : (c : ℕ) → c < w → multiplier w E c m (part at w work) ≡ multiplier w E c m (row w E k work)
   same c h =
       ap (if-used (inUse w E (row w E c m)))
-      (getD-part at w c work h ∙ ap (λ a. getD work (a + c) 0) here ∙ sym (getD-part (place w E k) (stride w E) c work (omega arith)))
+      (getD-part at w c work h ∙ ap (λ a. getD work (a + c) 0) here ∙ sym (getD-part (rowOffset w E k) (stride w E) c work (omega arith)))
 
   inside : (i : ℕ) → (first + i) % w < w
   inside i = mod-lt (first + i) (g .some-width)
@@ -198,12 +198,12 @@ module _ (w E k first n at any : ℕ) (m work cs cs′ : List ℕ) (here : at �
     on = λ i h. sym (f .none z i h) ∙ same ((first + i) % w) (inside i);
     off = λ j h d. refl;
     sum =
-        sym (splice-part (place w E k) (w + E) work (omega (arith, row-room w E k work g)))
-        ∙ ap (λ x. splice (place w E k) x work) (sym (combined-none (rowAt m 64 (stride w E) (w + E)) w (part (place w E k) (w + E) work)));
+        sym (splice-part (rowOffset w E k) (w + E) work (omega (arith, row-room w E k work g)))
+        ∙ ap (λ x. splice (rowOffset w E k) x work) (sym (combined-none (rowAt m 64 (stride w E) (w + E)) w (part (rowOffset w E k) (w + E) work)));
   }
 
   pub state-some : (work′ : List ℕ)
-      → work′ ≡ splice (place w E k) (combined (coefficient (take w cs′)) (rowAt m 64 (stride w E) (w + E)) w (part (place w E k) (w + E) work)) work
+      → work′ ≡ splice (rowOffset w E k) (combined (coefficient (take w cs′)) (rowAt m 64 (stride w E) (w + E)) w (part (rowOffset w E k) (w + E) work)) work
       → StateReduced w E k first n m work work′
   unfolding part
   state-some work′ s = record {
@@ -218,7 +218,7 @@ module _ (w E k first n at any : ℕ) (m work cs cs′ : List ℕ) (here : at �
 module _ (w E : ℕ) (m : List ℕ) (fits : Fits w E m) (bytes : Bytes m) where
   length-state : (r : ℕ) → r < w → length (rowAt m 64 (stride w E) (w + E) r) ≡ w + E
   unfolding rowAt
-  length-state r h = length-part (place w E r) (w + E) m (omega (arith, fits .room, row-fits w (stride w E) r h))
+  length-state r h = length-part (rowOffset w E r) (w + E) m (omega (arith, fits .room, row-fits w (stride w E) r h))
 
   state-cell : (r i : ℕ) → i < w + E → getD (rowAt m 64 (stride w E) (w + E) r) i 0 ≡ getD (row w E r m) i 0
   unfolding rowAt
@@ -240,7 +240,7 @@ module _ (w E : ℕ) (m : List ℕ) (fits : Fits w E m) (bytes : Bytes m) where
       let y = rowAt m 64 (stride w E) (w + E) k in
       let lx : length x ≡ w + E = length-combined (rowAt m 64 (stride w E) (w + E)) (coefficient cs) k d ∙ n in
       line-add w E (fits .some-width) (getD cs k 0) x (row w E k m) (addScaled (getD cs k 0) x y) (bytes-combined cs k d f)
-      (bytes-part (place w E k) (stride w E) m bytes) (small k)
+      (bytes-part (rowOffset w E k) (stride w E) m bytes) (small k)
       (λ i l.
       getD-addScaled (getD cs k 0) x y i (omega arith) (omega (arith, length-state k (omega arith)))
       ∙ ap (λ z. bitXor (getD x i 0) (product (getD cs k 0) z)) (state-cell k i l))
@@ -249,10 +249,10 @@ module _ (w E : ℕ) (m : List ℕ) (fits : Fits w E m) (bytes : Bytes m) where
 -- The row with the rows of the state added.
 module _ (w E k first n : ℕ) (m work work′ : List ℕ) (g : Works w E k work) (f : StateReduced w E k first n m work work′) where
   abbrev before : List ℕ
-  before = part (place w E k) (w + E) work
+  before = part (rowOffset w E k) (w + E) work
 
   length-before : length before ≡ w + E
-  length-before = length-part (place w E k) (w + E) work (omega (arith, row-room w E k work g))
+  length-before = length-part (rowOffset w E k) (w + E) work (omega (arith, row-room w E k work g))
 
   abbrev after : List ℕ
   after = combined (coefficient (f .multipliers)) (rowAt m 64 (stride w E) (w + E)) w before
@@ -260,10 +260,10 @@ module _ (w E k first n : ℕ) (m work work′ : List ℕ) (g : Works w E k work
   length-after : length after ≡ w + E
   length-after = length-combined (rowAt m 64 (stride w E) (w + E)) (coefficient (f .multipliers)) w before ∙ length-before
 
-  pub state-only : Only (place w E k) (place w E k + (w + E)) work work′
+  pub state-only : Only (rowOffset w E k) (rowOffset w E k + (w + E)) work work′
   state-only =
-      subst (Only (place w E k) (place w E k + (w + E)) work) (sym (f .sum))
-      (only-splice (place w E k) (place w E k + (w + E)) (place w E k) after work (omega arith) (omega (arith, length-after))
+      subst (Only (rowOffset w E k) (rowOffset w E k + (w + E)) work) (sym (f .sum))
+      (only-splice (rowOffset w E k) (rowOffset w E k + (w + E)) (rowOffset w E k) after work (omega arith) (omega (arith, length-after))
       (omega (arith, row-room w E k work g)))
 
   state-line : Fits w E m → Bytes m → Bytes work
@@ -271,15 +271,15 @@ module _ (w E k first n : ℕ) (m work work′ : List ℕ) (g : Works w E k work
   state-line fits bytes small =
       ap (λ x. line w E (row w E k x)) (f .sum)
       ∙ new-line w E k after work (omega (arith, row-room w E k work g)) (fits .some-width) length-after
-      ∙ combined-line w E m fits bytes (f .multipliers) (f .small) w (omega arith) before (bytes-part (place w E k) (w + E) work small) length-before
+      ∙ combined-line w E m fits bytes (f .multipliers) (f .small) w (omega arith) before (bytes-part (rowOffset w E k) (w + E) work small) length-before
       ∙ ap (add-lines (λ r. byte (getD (f .multipliers) r 0)) (λ r. line w E (row w E r m)) w)
       (line-same w E (fits .some-width) before (row w E k work) (λ i l. part-row w E k i work l))
 
 -- Where the coefficients of the rows that stay are the multipliers, that reduces it by the system moved on.
-module _ (w E k first n base count stay : ℕ) (m work work′ : List ℕ) (fits : Fits w E m) (bytes : Bytes m) (g : Works w E k work) (small : Bytes work)
-    (f : StateReduced w E k first n m work work′) (near : Staying w base first count stay n) where
+module _ (w E k first n oldest count stay : ℕ) (m work work′ : List ℕ) (fits : Fits w E m) (bytes : Bytes m) (g : Works w E k work) (small : Bytes work)
+    (f : StateReduced w E k first n m work work′) (near : Staying w oldest first count stay n) where
   -- The window from `b + rise` on, in which the coefficients stand at the positions from the `d`th on.
-  module _ (b rise d : ℕ) (S : State (Coded E) w) (here : (b + rise) % w ≡ base) (stays : stay ≡ w - rise) (from : (b + rise + d) % w ≡ first)
+  module _ (b rise d : ℕ) (S : State (Coded E) w) (here : (b + rise) % w ≡ oldest) (stays : stay ≡ w - rise) (from : (b + rise + d) % w ≡ first)
       (room : d + count ≤ w) (held : Window w E m b S) (rref : Rref S) (spans : Spans w first count (row w E k work)) where
     -- The column of the `i`th position, and of the `t`th coefficient.
     column : (t : ℕ) → (first + t) % w ≡ (b + rise + (d + t)) % w

@@ -9,7 +9,7 @@ use lib.ListN.{length, take, drop, getD}
 use Rattle.decoder.specs.Bytes.{Coded}
 use Rattle.decoder.specs.Model.{Row, State, Rref}
 use Rattle.decoder.specs.Receiver.{advance-by, insert-all}
-use Rattle.table.specs.Window.{place, row, equation, Window}
+use Rattle.table.specs.Window.{rowOffset, row, equation, Window}
 use Rattle.table.specs.Packet.{Works, Gathered}
 use Rattle.gather.specs.declared.Verdict.{Verdict}
 use Rattle.gather.specs.declared.Verdict.the-variants.{Kept, Implied, Contradiction}
@@ -31,7 +31,7 @@ pub record Laid (w first : ℕ) (cs l : List ℕ) : Type 0 where
 
 -- The coefficients have been laid in the row `k` of working memory.
 pub record LaidIn (w E k first : ℕ) (cs work work′ : List ℕ) : Type 0 where
-  pub only : Only (place w E k) (place w E k + w) work work′
+  pub only : Only (rowOffset w E k) (rowOffset w E k + w) work work′
   pub laid : Laid w first cs (row w E k work′)
 
 -- How many rows are kept now.
@@ -48,10 +48,10 @@ Agrees w E b S work kept es Contradiction = insert-all es S ≡ none
 
 -- The equation in the row `kept` has been admitted or refused, for a window that is to move on to the one whose base has the row `base`, so that
 -- `stay` positions stay. Its coefficients stand in the `n` columns from `first` on: at positions of that window, from the `d`th on.
-pub record Admitted (w E base stay kept first n : ℕ) (verdict : Verdict) (m work work′ : List ℕ) : Type 0 where
-  pub only : Only (place w E kept) (place w E kept + (w + E + 1)) work work′
+pub record Admitted (w E oldest stay kept first n : ℕ) (verdict : Verdict) (m work work′ : List ℕ) : Type 0 where
+  pub only : Only (rowOffset w E kept) (rowOffset w E kept + (w + E + 1)) work work′
   pub works : Works w E (count-kept kept verdict) work′
-  pub outcome : (b rise d : ℕ) (S : State (Coded E) w) (es : List (Row (Coded E) w)) → (b + rise) % w ≡ base → stay ≡ w - rise
+  pub outcome : (b rise d : ℕ) (S : State (Coded E) w) (es : List (Row (Coded E) w)) → (b + rise) % w ≡ oldest → stay ≡ w - rise
       → (b + rise + d) % w ≡ first → d < w → d + n ≤ w → Window w E m b S → Rref S → Spans w first n (row w E kept work)
       → Gathered w E (b + rise) (advance-by rise S) work kept es
       → Agrees w E (b + rise) (advance-by rise S) work′ kept (es ++ (equation w E (b + rise) (row w E kept work) ∷ [])) verdict

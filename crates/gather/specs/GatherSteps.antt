@@ -15,7 +15,7 @@ use Rattle.decoder.specs.Bytes.{byte, Coded}
 use Rattle.decoder.specs.Model.{lead, symbol, scale}
 use Rattle.decoder.specs.TableSteps.{scale-line}
 use Rattle.decoder.specs.Chain.{eliminate}
-use Rattle.table.specs.Window.{stride, place, row, inUse, line}
+use Rattle.table.specs.Window.{stride, rowOffset, row, inUse, line}
 use Rattle.table.specs.Packet.{Works, spelled, PivotMarked}
 use Rattle.gather.specs.Gather.{Only, count-kept}
 use Rattle.gather.specs.declared.Pivot.{Pivot}
@@ -47,7 +47,7 @@ pub record Collected (w E first n any : ℕ) (m l cs cs′ : List ℕ) : Type 0 
 -- The sum of the state's rows, each times its multiplier of `cs`, has been added to the row `k` of working memory.
 abbrev pub RowsAdded : (w E k : ℕ) (cs m work work′ : List ℕ) → Type 0
 RowsAdded w E k cs m work work′ =
-    work′ ≡ splice (place w E k) (combined (coefficient cs) (rowAt m 64 (stride w E) (w + E)) w (part (place w E k) (w + E) work)) work
+    work′ ≡ splice (rowOffset w E k) (combined (coefficient cs) (rowAt m 64 (stride w E) (w + E)) w (part (rowOffset w E k) (w + E) work)) work
 
 -- So it has with multipliers by column: those for the `n` columns from `first` on, and else zero.
 pub record StateReduced (w E k first n : ℕ) (m work work′ : List ℕ) : Type 0 where
@@ -60,12 +60,12 @@ pub record StateReduced (w E k first n : ℕ) (m work work′ : List ℕ) : Type
 -- The pivot of the row `j` of working memory has been eliminated from the row `k`.
 abbrev pub Eliminated : (w E k j : ℕ) (work work′ : List ℕ) → Type 0
 Eliminated w E k j work work′ =
-    work′ ≡ splice (place w E k)
-    (addScaled (getD (row w E k work) (getD (row w E j work) (w + E) 0) 0) (part (place w E k) (w + E) work) (part (place w E j) (w + E) work)) work
+    work′ ≡ splice (rowOffset w E k)
+    (addScaled (getD (row w E k work) (getD (row w E j work) (w + E) 0) 0) (part (rowOffset w E k) (w + E) work) (part (rowOffset w E j) (w + E) work)) work
 
 -- The pivots of the first `j` rows of working memory have been eliminated from the row `k`.
 pub record PacketReduced (w E k j : ℕ) (work work′ : List ℕ) : Type 0 where
-  pub only : Only (place w E k) (place w E k + (w + E)) work work′
+  pub only : Only (rowOffset w E k) (rowOffset w E k + (w + E)) work work′
   pub sum : (b : ℕ) → ((i : ℕ) → i < k → PivotMarked w E b (row w E i work))
       → spelled w E b work′ k ≡ eliminate (Coded E) w (spelled w E b work) j (spelled w E b work k)
 
@@ -84,7 +84,7 @@ Searched w E first from to Nothing work = (k : ℕ) → from ≤ k → k < to �
 
 -- The row `k` has been divided by its coefficient in the column `c`, and this is in its flag.
 pub record Normalised (w E k c : ℕ) (work work′ : List ℕ) : Type 0 where
-  pub only : Only (place w E k) (place w E k + (w + E + 1)) work work′
+  pub only : Only (rowOffset w E k) (rowOffset w E k + (w + E + 1)) work work′
   pub scaled : line w E (row w E k work′) ≡ scale-line (byte (inverse (getD (row w E k work) c 0))) (line w E (row w E k work))
   pub flag : getD (row w E k work′) (w + E) 0 ≡ c
 
@@ -101,16 +101,16 @@ Outcome w E b k work work′ Contradiction =
 
 -- So it is where the row has no coefficient at the positions before that of the column `first`.
 pub record Settled (w E first k : ℕ) (verdict : Verdict) (work work′ : List ℕ) : Type 0 where
-  pub only : Only (place w E k) (place w E k + (w + E + 1)) work work′
+  pub only : Only (rowOffset w E k) (rowOffset w E k + (w + E + 1)) work work′
   pub works : Works w E (count-kept k verdict) work′
   pub outcome : (b d : ℕ) → d < w → (b + d) % w ≡ first
       → ((j : ℕ) → b ≤ j → j < b + d → line w E (row w E k work) .cells j ≡ Coded E .𝟘) → Outcome w E b k work work′ verdict
 
 -- `n` is how many of the `count` columns from `first` on are of the first `stay` positions of the window.
-pub record Staying (w base first count stay n : ℕ) : Type 0 where
+pub record Staying (w oldest first count stay n : ℕ) : Type 0 where
   pub distance : ℕ
   pub near : distance < w
-  pub column : (base + distance) % w ≡ first
+  pub column : (oldest + distance) % w ≡ first
   pub few : n ≤ count
   pub stays : (i : ℕ) → i < n → distance + i < stay
   pub all : (i : ℕ) → i < count → distance + i < stay → i < n

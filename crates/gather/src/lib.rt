@@ -30,7 +30,7 @@ pub fn lay(work: &mut [u8], coefficients: &[u8], shape: Shape, k: usize, first: 
     ensures { λ _. ⌜ LaidIn (shape .width) (shape .size) k first (now (coefficients .entry)) (now (work .entry)) (now (work .exit)) ⌝ }
 {
     let w = shape.width;
-    let at = table::start_of(shape, k);
+    let at = table::row_offset(shape, k);
     let n = coefficients.len();
     let end = w - first;
     memory::fill_part(work, at, w, 0);
@@ -50,7 +50,7 @@ fn multiplier(mem: &[u8], shape: Shape, c: usize, k: u8) -> u8
     if k == 0 {
         return 0;
     }
-    let at = table::start_of(shape, c);
+    let at = table::row_offset(shape, c);
     if mem[at + (shape.width + shape.size)] == 0 {
         return 0;
     }
@@ -92,7 +92,7 @@ fn add_rows(mem: &[u8], work: &mut [u8], multipliers: &[u8], shape: Shape, k: us
 {
     let w = shape.width;
     let n = w + shape.size;
-    let at = table::start_of(shape, k);
+    let at = table::row_offset(shape, k);
     rows::combination::add_combination(&mut work[at..at + n], &multipliers[..w], mem, 64, n + 4);
 }
 
@@ -104,7 +104,7 @@ fn reduce(mem: &[u8], work: &mut [u8], shape: Shape, k: usize, first: usize, n: 
     ensures { λ _. ⌜ StateReduced (shape .width) (shape .size) k first n (now (mem .entry)) (now (work .entry)) (now (work .exit)) ⌝ }
 {
     let w = shape.width;
-    let at = table::start_of(shape, k);
+    let at = table::row_offset(shape, k);
     let mut multipliers = [0u8; 255];
     let any = collect(mem, &work[at..at + w], &mut multipliers, shape, first, n);
     if any == 0 {
@@ -119,8 +119,8 @@ fn eliminate(work: &mut [u8], shape: Shape, k: usize, j: usize)
     ensures { λ _. ⌜ Eliminated (shape .width) (shape .size) k j (now (work .entry)) (now (work .exit)) ⌝ }
 {
     let n = shape.width + shape.size;
-    let at = table::start_of(shape, k);
-    let from = table::start_of(shape, j);
+    let at = table::row_offset(shape, k);
+    let from = table::row_offset(shape, j);
     let c = work[from + n] as usize;
     let factor = work[at + c];
     rows::add_within(work, at, from, n, Gf256(factor));
@@ -147,7 +147,7 @@ fn find_pivot(work: &[u8], shape: Shape, first: usize, from: usize, to: usize) -
         if r == to {
             break Pivot::Nothing;
         }
-        let at = table::start_of(shape, r);
+        let at = table::row_offset(shape, r);
         let mut i: usize = 0;
         let mut c = first;
         loop {
@@ -170,7 +170,7 @@ fn normalise(work: &mut [u8], shape: Shape, k: usize, c: usize)
     ensures { λ _. ⌜ Normalised (shape .width) (shape .size) k c (now (work .entry)) (now (work .exit)) ⌝ }
 {
     let n = shape.width + shape.size;
-    let at = table::start_of(shape, k);
+    let at = table::row_offset(shape, k);
     let factor = Gf256(work[at + c]).inverse();
     rows::scale_part(work, at, n, factor);
     work[at + n] = c as u8;
@@ -187,7 +187,7 @@ fn settle(work: &mut [u8], shape: Shape, k: usize, first: usize) -> Verdict
         normalise(work, shape, r, c);
         return Verdict::Kept;
     }
-    let symbol = table::start_of(shape, k) + w;
+    let symbol = table::row_offset(shape, k) + w;
     if table::or_all(work, symbol, symbol + shape.size) == 0 {
         return Verdict::Implied;
     }
@@ -196,20 +196,20 @@ fn settle(work: &mut [u8], shape: Shape, k: usize, first: usize) -> Verdict
 
 // How many columns after the base the column `c` comes.
 fn distance(shape: Shape, c: usize) -> usize
-    requires { ⌜ (shape .base < shape .width) × (c < shape .width) × (shape .width ≤ 255) ⌝ }
-    ensures { λ d. ⌜ (d < shape .width) × ((shape .base + d) % shape .width ≡ c) ⌝ }
+    requires { ⌜ (shape .oldest < shape .width) × (c < shape .width) × (shape .width ≤ 255) ⌝ }
+    ensures { λ d. ⌜ (d < shape .width) × ((shape .oldest + d) % shape .width ≡ c) ⌝ }
 {
-    if shape.base <= c {
-        c - shape.base
+    if shape.oldest <= c {
+        c - shape.oldest
     } else {
-        c + shape.width - shape.base
+        c + shape.width - shape.oldest
     }
 }
 
 // How many of the `count` columns from `first` on are of positions that stay: of the first `stay` from the base on.
 fn staying(shape: Shape, first: usize, count: usize, stay: usize) -> usize
-    requires { ⌜ (shape .base < shape .width) × (first < shape .width) × (shape .width ≤ 255) ⌝ }
-    ensures { λ n. ⌜ Staying (shape .width) (shape .base) first count stay n ⌝ }
+    requires { ⌜ (shape .oldest < shape .width) × (first < shape .width) × (shape .width ≤ 255) ⌝ }
+    ensures { λ n. ⌜ Staying (shape .width) (shape .oldest) first count stay n ⌝ }
 {
     let d = distance(shape, first);
     if stay <= d {
@@ -218,7 +218,7 @@ fn staying(shape: Shape, first: usize, count: usize, stay: usize) -> usize
     memory::least(count, stay - d)
 }
 
-// The equation in the row `kept` of working memory, with coefficients in the `count` columns from `first` on, for the window from `shape.base`
+// The equation in the row `kept` of working memory, with coefficients in the `count` columns from `first` on, for the window from `shape.oldest`
 // on, of whose positions the first `stay` are of the state.
 pub fn admit(
     mem: &[u8],
@@ -230,8 +230,8 @@ pub fn admit(
     count: usize,
 ) -> Verdict
     requires { ⌜ Fits (shape .width) (shape .size) (now mem) × Works (shape .width) (shape .size) kept (now work)
-        × (shape .base < shape .width) × (first < shape .width) × (count ≤ shape .width) ⌝ }
-    ensures { λ r. ⌜ Admitted (shape .width) (shape .size) (shape .base) stay kept first count r
+        × (shape .oldest < shape .width) × (first < shape .width) × (count ≤ shape .width) ⌝ }
+    ensures { λ r. ⌜ Admitted (shape .width) (shape .size) (shape .oldest) stay kept first count r
         (now (mem .entry)) (now (work .entry)) (now (work .exit)) ⌝ }
 {
     let n = staying(shape, first, count, stay);

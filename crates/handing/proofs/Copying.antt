@@ -12,18 +12,18 @@ use lib.Dec.{eqb}
 use Rattle.memory.specs.Part.{part, splice}
 use Rattle.memory.proofs.Parts.{length-part, length-splice, part-add, splice-next, row-fits}
 use Rattle.wire.proofs.Adui.{room, least}
-use Rattle.table.specs.Window.{place, Fits}
+use Rattle.table.specs.Window.{rowOffset, Fits}
 use Rattle.table.specs.RowSteps.{Zero-from}
 use Rattle.starts.specs.Adu.{allZero}
-use Rattle.handing.specs.HandSteps.{symbolPlace, text, SymbolAt, Spans}
+use Rattle.handing.specs.HandSteps.{symbolOffset, text, SymbolAt, Spans}
 use Rattle.marks.proofs.Only.{row-area}
-use Rattle.handing.proofs.Texts.{text-length, text-place, text-rest, zero-test, symbol-ends}
+use Rattle.handing.proofs.Texts.{text-length, text-offset, text-rest, zero-test, symbol-ends}
 
 -- Where the code finds a symbol.
-pub symbol-found : (w E base i r at : ℕ) → (w ≤ 255) × (E ≤ 1500) → r ≡ (base + i) % w → (at ≡ place w E r + w) × (at + E ≤ place w E w)
-    → SymbolAt w E base i at
-symbol-found w E base i r at h e k = record {
-  start = k .0 ∙ ap (λ x. place w E x + w) e;
+pub symbol-found : (w E oldest i r at : ℕ) → (w ≤ 255) × (E ≤ 1500) → r ≡ (oldest + i) % w → (at ≡ rowOffset w E r + w) × (at + E ≤ rowOffset w E w)
+    → SymbolAt w E oldest i at
+symbol-found w E oldest i r at h e k = record {
+  start = k .0 ∙ ap (λ x. rowOffset w E x + w) e;
   end = k .1;
   small = omega (arith, row-area w E w (omega arith) (omega arith) (omega arith));
 }
@@ -50,9 +50,9 @@ module _ (w E d n L : ℕ) (z : 4 ≤ E) (s : Spans w E d n L) where
       the-last n h = omega arith
 
 -- The padding is what the last symbol has after the ADU.
-pub padding-test : (w E base d n L : ℕ) (m : List ℕ) → Fits w E m → Spans w E d n L → (at x : ℕ) → at ≡ symbolPlace w E base (d + (n - 1))
-    → (x ≡ 0) ↔ Zero-from (at + (3 + L - (n - 1) * E)) (at + E) m → eqb x 0 ≡ allZero (drop (3 + L) (text w E base m d n))
-padding-test w E base d n L m fits s at x here f =
+pub padding-test : (w E oldest d n L : ℕ) (m : List ℕ) → Fits w E m → Spans w E d n L → (at x : ℕ) → at ≡ symbolOffset w E oldest (d + (n - 1))
+    → (x ≡ 0) ↔ Zero-from (at + (3 + L - (n - 1) * E)) (at + E) m → eqb x 0 ≡ allZero (drop (3 + L) (text w E oldest m d n))
+padding-test w E oldest d n L m fits s at x here f =
     let z = fits .some-symbol in
     let last = span-last w E d n L z s in
     let start = span-start w E d n L z s (n - 1) (omega (arith, span-some w E d n L z s)) in
@@ -60,11 +60,11 @@ padding-test w E base d n L m fits s at x here f =
     let more : (n - 1) * E + a ≡ 3 + L = omega arith in
     let count : suc (n - 1) ≡ n = omega (arith, span-some w E d n L z s) in
     let size : at + a + (E - a) ≡ at + E = omega arith in
-    let ends : at + a + (E - a) ≤ length m = omega (arith, symbol-ends w E base m fits (d + (n - 1)), fits .room) in
+    let ends : at + a + (E - a) ≤ length m = omega (arith, symbol-ends w E oldest m fits (d + (n - 1)), fits .room) in
     zero-test x (at + a) (E - a) m ends (subst (λ k. (x ≡ 0) ↔ Zero-from (at + a) k m) (sym size) f)
     ∙ ap allZero
-    (ap (λ k. part (k + a) (E - a) m) here ∙ sym (text-rest w E base m fits d (n - 1) a last)
-    ∙ ap₂ (λ k i. drop k (text w E base m d i)) more count)
+    (ap (λ k. part (k + a) (E - a) m) here ∙ sym (text-rest w E oldest m fits d (n - 1) a last)
+    ∙ ap₂ (λ k i. drop k (text w E oldest m d i)) more count)
 
 -- ---- The copies
 
@@ -86,13 +86,13 @@ copied-none E n L x out h = record {
   bytes = refl;
 }
 
-module _ (w E base d n L i at skip : ℕ) (m out₀ out : List ℕ) (fits : Fits w E m) (s : Spans w E d n L) (enough : L ≤ length out₀)
-    (c : Copied E n L i at skip (text w E base m d n) out₀ out) where
+module _ (w E oldest d n L i at skip : ℕ) (m out₀ out : List ℕ) (fits : Fits w E m) (s : Spans w E d n L) (enough : L ≤ length out₀)
+    (c : Copied E n L i at skip (text w E oldest m d n) out₀ out) where
   abbrev x : List ℕ
-  x = text w E base m d n
+  x = text w E oldest m d n
 
   front : length (part 3 at x) ≡ at
-  front = length-part 3 at x (omega (arith, c .most, text-length w E base m fits d n, span-end w E d n L (fits .some-symbol) s))
+  front = length-part 3 at x (omega (arith, c .most, text-length w E oldest m fits d n, span-end w E d n L (fits .some-symbol) s))
 
   pub copied-length : length out ≡ length out₀
   copied-length = ap length (c .bytes) ∙ length-splice 0 (part 3 at x) out₀ (omega (arith, front, c .most))
@@ -100,13 +100,13 @@ module _ (w E base d n L i at skip : ℕ) (m out₀ out : List ℕ) (fits : Fits
   pub copied-all : n ≤ i → out ≡ splice 0 (part 3 L x) out₀
   copied-all h = c .bytes ∙ ap (λ k. splice 0 (part 3 k x) out₀) (c .all h)
 
-  module _ (h : i < n) (k : ℕ) (e : k ≡ min (E - skip) (L - at)) (from : ℕ) (place : from ≡ symbolPlace w E base (d + i)) where
+  module _ (h : i < n) (k : ℕ) (e : k ≡ min (E - skip) (L - at)) (from : ℕ) (offset : from ≡ symbolOffset w E oldest (d + i)) where
     -- What is copied is the ADU's next k bytes.
     next : part (from + skip) k m ≡ part (3 + at) k x
     next =
         let l : skip + k ≤ E = omega (arith, c .skips, fits .some-symbol) in
         let p : i * E + skip ≡ 3 + at = omega (arith, c .here h) in
-        ap (λ y. part (y + skip) k m) place ∙ sym (text-place w E base m fits d n i skip k h l) ∙ ap (λ y. part y k x) p
+        ap (λ y. part (y + skip) k m) offset ∙ sym (text-offset w E oldest m fits d n i skip k h l) ∙ ap (λ y. part y k x) p
 
     pub copied-more : (out′ : List ℕ) → out′ ≡ splice at (part (from + skip) k m) out → Copied E n L (i + 1) (at + k) 0 x out₀ out′
     copied-more out′ q =

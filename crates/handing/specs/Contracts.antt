@@ -17,8 +17,8 @@ use Rattle.starts.specs.Starts.{Starts, seen}
 use Rattle.marks.specs.Marks.{Marks}
 
 -- The ADU call for the d-th position of the window has been made; refusal 3 is none of its refusals.
-pub record HandedOut (w E base d : ℕ) (m out out′ : List ℕ) (r : Handed) : Type 0 where
+pub record HandedOut (w E oldest d : ℕ) (m out out′ : List ℕ) (r : Handed) : Type 0 where
   pub opened : (x : Refusal) → r ≡ Withheld x → numberOf x ≢ 3
   pub leaves : Leaves out out′ r
-  pub told : (b : ℕ) (S : State (Coded E) w) (M : Starts) → b % w ≡ base → Window w E m b S → Marks w E base m M
+  pub told : (b : ℕ) (S : State (Coded E) w) (M : Starts) → b % w ≡ oldest → Window w E m b S → Marks w E oldest m M
       → HandedAs (handing E w (length out) M (seen E w S) d) out out′ r

@@ -13,8 +13,8 @@ use wire::Refusal;
 
 // Where the symbol of the i-th position of the window begins.
 fn symbol_of(shape: Shape, i: usize) -> usize
-    requires { ⌜ (shape .base < shape .width) × (i < shape .width) × (shape .width ≤ 255) × (shape .size ≤ 1500) ⌝ }
-    ensures { λ at. ⌜ SymbolAt (shape .width) (shape .size) (shape .base) i at ⌝ }
+    requires { ⌜ (shape .oldest < shape .width) × (i < shape .width) × (shape .width ≤ 255) × (shape .size ≤ 1500) ⌝ }
+    ensures { λ at. ⌜ SymbolAt (shape .width) (shape .size) (shape .oldest) i at ⌝ }
 {
     let r = marks::row_of(shape, i);
     marks::symbol_at(shape, r)
@@ -22,8 +22,8 @@ fn symbol_of(shape: Shape, i: usize) -> usize
 
 // Whether the `n` positions from the d-th on are all known. None past the window is.
 fn all_known(mem: &[u8], shape: Shape, d: usize, n: usize) -> bool
-    requires { ⌜ Fits (shape .width) (shape .size) (now mem) × (shape .base < shape .width) × (d < shape .width) ⌝ }
-    ensures { λ t. ⌜ AllKnown (shape .width) (shape .size) (shape .base) d n t (now (mem .entry)) ⌝ }
+    requires { ⌜ Fits (shape .width) (shape .size) (now mem) × (shape .oldest < shape .width) × (d < shape .width) ⌝ }
+    ensures { λ t. ⌜ AllKnown (shape .width) (shape .size) (shape .oldest) d n t (now (mem .entry)) ⌝ }
 {
     if shape.width - d < n {
         return false;
@@ -39,8 +39,8 @@ fn all_known(mem: &[u8], shape: Shape, d: usize, n: usize) -> bool
 
 // Whether the padding after an ADU of `len` bytes in the `n` symbols from the d-th on is zero. Only the last symbol has any.
 fn is_padded(mem: &[u8], shape: Shape, d: usize, n: usize, len: usize) -> bool
-    requires { ⌜ Fits (shape .width) (shape .size) (now mem) × (shape .base < shape .width) × Spans (shape .width) (shape .size) d n len ⌝ }
-    ensures { λ t. ⌜ t ≡ allZero (drop (3 + len) (text (shape .width) (shape .size) (shape .base) (now (mem .entry)) d n)) ⌝ }
+    requires { ⌜ Fits (shape .width) (shape .size) (now mem) × (shape .oldest < shape .width) × Spans (shape .width) (shape .size) d n len ⌝ }
+    ensures { λ t. ⌜ t ≡ allZero (drop (3 + len) (text (shape .width) (shape .size) (shape .oldest) (now (mem .entry)) d n)) ⌝ }
 {
     let before = (n - 1) * shape.size;
     let last = symbol_of(shape, d + (n - 1));
@@ -50,10 +50,10 @@ fn is_padded(mem: &[u8], shape: Shape, d: usize, n: usize, len: usize) -> bool
 // Copies the ADU of `len` bytes in the `n` symbols from the d-th on to the front of the output: from each symbol what it has of it, which is
 // all of it but what stands before the ADU and after it.
 fn copy_adu(mem: &[u8], shape: Shape, d: usize, n: usize, len: usize, out: &mut [u8])
-    requires { ⌜ Fits (shape .width) (shape .size) (now mem) × (shape .base < shape .width) × Spans (shape .width) (shape .size) d n len
+    requires { ⌜ Fits (shape .width) (shape .size) (now mem) × (shape .oldest < shape .width) × Spans (shape .width) (shape .size) d n len
         × (len ≤ length (now out)) ⌝ }
     ensures { λ _. ⌜ now (out .exit)
-        ≡ splice 0 (part 3 len (text (shape .width) (shape .size) (shape .base) (now (mem .entry)) d n)) (now (out .entry)) ⌝ }
+        ≡ splice 0 (part 3 len (text (shape .width) (shape .size) (shape .oldest) (now (mem .entry)) d n)) (now (out .entry)) ⌝ }
 {
     let mut at: usize = 0;
     let mut skip: usize = 3;
@@ -68,8 +68,8 @@ fn copy_adu(mem: &[u8], shape: Shape, d: usize, n: usize, len: usize, out: &mut 
 
 // The ADU call for the d-th position of the window.
 pub fn hand_out(mem: &[u8], shape: Shape, d: usize, out: &mut [u8]) -> Handed
-    requires { ⌜ Fits (shape .width) (shape .size) (now mem) × (shape .base < shape .width) × (d < shape .width) ⌝ }
-    ensures { λ r. ⌜ HandedOut (shape .width) (shape .size) (shape .base) d (now (mem .entry)) (now (out .entry)) (now (out .exit)) r ⌝ }
+    requires { ⌜ Fits (shape .width) (shape .size) (now mem) × (shape .oldest < shape .width) × (d < shape .width) ⌝ }
+    ensures { λ r. ⌜ HandedOut (shape .width) (shape .size) (shape .oldest) d (now (mem .entry)) (now (out .entry)) (now (out .exit)) r ⌝ }
 {
     if !marks::is_marked(mem, shape, d) {
         return Handed::Withheld(Refusal::NoStart);

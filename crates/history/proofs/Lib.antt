@@ -4,5 +4,5 @@ pub mod Says
 pub mod Answers
 pub mod Starting
 pub mod Naming
-pub mod Places
+pub mod Sides
 pub mod Readings

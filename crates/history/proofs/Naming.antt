@@ -18,8 +18,8 @@ use Rattle.decoder.specs.Model.{Rref}
 use Rattle.decoder.specs.Receiver as decoder
 use Rattle.decoder.proofs.Bytes.{laws}
 use Rattle.decoder.proofs.History as history
-use Rattle.history.specs.History.{Place, behind, ahead, placeOf, Call, source-call, repair-call, Reading, fails, located, check}
-use Rattle.history.specs.History.{placed, readSource, readRepair, reading}
+use Rattle.history.specs.History.{Side, behind, ahead, sideOf, Call, source-call, repair-call, Reading, fails, located, check}
+use Rattle.history.specs.History.{fromSide, readSource, readRepair, reading}
 use Rattle.history.specs.Model.{packetOf, Joined, Outcome, refused, done, added, responds, answering}
 
 -- The number of a refusal that is not 3.
@@ -40,8 +40,8 @@ unfolding check
 check-named true n r a b = b
 check-named false n r a b = a
 
-placed-named : (n : ℕ) (p : Place) (f : ℕ → Reading) → ((d : ℕ) → NamedReading (f d)) → NamedReading (placed n p f)
-unfolding placed
+placed-named : (n : ℕ) (p : Side) (f : ℕ → Reading) → ((d : ℕ) → NamedReading (f d)) → NamedReading (fromSide n p f)
+unfolding fromSide
 placed-named n behind f k = named Behind (λ e. absurd (omega (arith, e)))
 placed-named n (ahead d) f k = check-named (leb (d + n) 65536) 9 (f d) (named Ahead (λ e. absurd (omega (arith, e)))) (k d)
 
@@ -50,12 +50,12 @@ unfolding reading readSource readRepair
 reading-named s base room (source-call flow p) =
     check-named _ 2 _ (named Short (λ e. absurd (omega (arith, e))))
     (check-named _ 5 _ (named Form (λ e. absurd (omega (arith, e))))
-    (check-named _ 4 _ (named Long (λ e. absurd (omega (arith, e)))) (placed-named _ (placeOf base (sourceEsi p)) _ (λ d. tt))))
+    (check-named _ 4 _ (named Long (λ e. absurd (omega (arith, e)))) (placed-named _ (sideOf base (sourceEsi p)) _ (λ d. tt))))
 reading-named s base room (repair-call p) =
     check-named _ 2 _ (named Short (λ e. absurd (omega (arith, e))))
     (check-named _ 5 _ (named Form (λ e. absurd (omega (arith, e))))
     (check-named _ 6 _ (named Range (λ e. absurd (omega (arith, e))))
-    (placed-named _ (placeOf base (firstEsi p)) _ (λ d. check-named _ 10 _ (named Draws (λ e. absurd (omega (arith, e)))) tt))))
+    (placed-named _ (sideOf base (firstEsi p)) _ (λ d. check-named _ 10 _ (named Draws (λ e. absurd (omega (arith, e)))) tt))))
 
 module _ (s : Setting) (e : 0 < s .size) where
   open Setting s using (size as E, width as w)

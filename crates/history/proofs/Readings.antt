@@ -24,10 +24,10 @@ use Rattle.wire.proofs.Settings.{both, within-bounds}
 use Rattle.wire.proofs.Adui.{length-adui, symbols-count}
 use Rattle.coefficients.specs.Coefficients.{keys, listsOf}
 use Rattle.coefficients.proofs.Lists.{length-keys, list-bytes}
-use Rattle.history.specs.History.{Located, source, repair, first, ahead, placeOf, Call, source-call, repair-call, baseFor, Log, baseOf, readAfter}
-use Rattle.history.specs.History.{OfBytes, esiOf, Reading, fails, located, check, placed, readSource, readRepair, workingSize, readPacket, reading}
+use Rattle.history.specs.History.{Located, source, repair, first, ahead, sideOf, Call, source-call, repair-call, baseFor, Log, baseOf, readAfter}
+use Rattle.history.specs.History.{OfBytes, esiOf, Reading, fails, located, check, fromSide, readSource, readRepair, workingSize, readPacket, reading}
 use Rattle.history.proofs.Cases.{IsLocated, packet-path, number-in}
-use Rattle.history.proofs.Places.{placed-taken}
+use Rattle.history.proofs.Sides.{side-taken}
 use Rattle.history.proofs.Says.{Wholes, AllBytes}
 use Rattle.history.proofs.Answers.{Fits}
 
@@ -86,15 +86,15 @@ lists-bytes : (scheme : Scheme) (dt n : ℕ) (ks : List ℕ) → AllBytes (lists
 lists-bytes scheme dt n [] = tt
 lists-bytes scheme dt n (k ∷ ks) = (list-bytes scheme k dt n, lists-bytes scheme dt n ks)
 
--- ---- Place
+-- ---- Side
 
 -- A packet's place has passed: it lies d ahead of the base, and not too far.
 pub record Places (base e n : ℕ) (next : ℕ → Reading) (q : Located) : Type 0 where
   pub near : distanceOf e (base % 2 ^ 32) < 2 ^ 31
   pub here : next (distanceOf e (base % 2 ^ 32)) ≡ located q
 
-places : (base e n : ℕ) (next : ℕ → Reading) (q : Located) → placed n (placeOf base e) next ≡ located q → Places base e n next q
-unfolding placed placeOf
+places : (base e n : ℕ) (next : ℕ → Reading) (q : Located) → fromSide n (sideOf base e) next ≡ located q → Places base e n next q
+unfolding fromSide sideOf
 places base e n next q h = go (ltb (distanceOf e (base % 2 ^ 32)) (2 ^ 31)) refl
   where
     go : (t : Bool) → ltb (distanceOf e (base % 2 ^ 32)) (2 ^ 31) ≡ t → Places base e n next q
@@ -208,10 +208,10 @@ not-check k true n r a b e = b refl e
 not-check k false n r a b e = a (ap number-in e)
 
 -- n symbols at the base itself.
-placed-here : (n e : ℕ) (next : ℕ → Reading) → e < 2 ^ 32 → n ≤ 65536 → placed n (placeOf e e) next ≡ next 0
-placed-here n e next small h =
+side-here : (n e : ℕ) (next : ℕ → Reading) → e < 2 ^ 32 → n ≤ 65536 → fromSide n (sideOf e e) next ≡ next 0
+side-here n e next small h =
     let z : e ≡ (e + 0) % 2 ^ 32 = omega arith in
-    ap (λ x. placed n (placeOf e x) next) z ∙ placed-taken e 0 (omega arith) n next (omega arith) (omega arith)
+    ap (λ x. fromSide n (sideOf e x) next) z ∙ side-taken e 0 (omega arith) n next (omega arith) (omega arith)
 
 -- Neither 8 nor 9 can stop it.
 pub joins-near : (s : Setting) → Valid s → (room : ℕ) (c : Call) → OfBytes c → (k : ℕ) → 8 ≤ k → k ≤ 9 → reading s (esiOf c) room c ≡ fails k → ⊥
@@ -223,7 +223,7 @@ joins-near s v room (source-call flow p) (f, b) k lo hi =
     (λ form. not-check k (leb (length (sourceAdu p)) 65535 && leb n (s .width)) 4 _ (λ e. omega (arith, e))
     (λ fits h.
     let few = leb-true n (s .width) (both (leb (length (sourceAdu p)) 65535) _ fits .1) in
-    subst IsLocated (sym (placed-here n (sourceEsi p) _ (source-small p form b) (omega (arith, few, v .width-most))) ∙ h) tt)))
+    subst IsLocated (sym (side-here n (sourceEsi p) _ (source-small p form b) (omega (arith, few, v .width-most))) ∙ h) tt)))
 joins-near s v room (repair-call p) b k lo hi =
     not-check k _ 2 _ (λ e. omega (arith, e))
     (λ _. not-check k (repairForm (s .size) p) 5 _ (λ e. omega (arith, e))
@@ -231,7 +231,7 @@ joins-near s v room (repair-call p) b k lo hi =
     (λ fits h.
     let few = within-bounds 1 (s .width) (protectedCount p) fits .1 in
     not-check k _ 10 _ (λ e. omega (arith, e)) (λ _ g. subst IsLocated g tt)
-    (sym (placed-here (protectedCount p) (firstEsi p) _ (repair-small (s .size) p form b) (omega (arith, few, v .width-most))) ∙ h))))
+    (sym (side-here (protectedCount p) (firstEsi p) _ (repair-small (s .size) p form b) (omega (arith, few, v .width-most))) ∙ h))))
 
 -- What a call's packet has passed after a history.
 pub reading-passes : (s : Setting) → 0 < s .size → (l : Log) (room : ℕ) (c : Call) (q : Located) → OfBytes c → readAfter s l room c ≡ located q

@@ -62,16 +62,16 @@ module _ (E : ℕ) where
   abbrev pub Known : List Located → ℕ → Type 0
   Known qs p = (f g : Filling E) → All qs f → All qs g → f p ≡ g p
 
--- ---- Place
+-- ---- Side
 
--- Where an ESI lies: behind the base, or d positions ahead of it.
-pub data Place : Type 0 where
-  behind : Place
-  ahead : (d : ℕ) → Place
+-- On which side of the base an ESI lies: behind it, or d positions ahead of it.
+pub data Side : Type 0 where
+  behind : Side
+  ahead : (d : ℕ) → Side
 
 -- d = (e - base) mod 2^32; from 2^31 on it lies behind.
-unfoldable pub placeOf : (base e : ℕ) → Place
-placeOf base e = let d = distanceOf e (base % 2 ^ 32) in cond (ltb d (2 ^ 31)) (ahead d) behind
+unfoldable pub sideOf : (base e : ℕ) → Side
+sideOf base e = let d = distanceOf e (base % 2 ^ 32) in cond (ltb d (2 ^ 31)) (ahead d) behind
 
 -- ---- Reading a call
 
@@ -100,10 +100,10 @@ unfoldable pub check : Bool → ℕ → Reading → Reading
 check true n r = r
 check false n r = fails n
 
--- n symbols at a place: 8 behind the base, 9 too far ahead of it, else what comes after.
-unfoldable pub placed : (n : ℕ) → Place → (ℕ → Reading) → Reading
-placed n behind next = fails 8
-placed n (ahead d) next = check (leb (d + n) 65536) 9 (next d)
+-- n symbols on a side of the base: 8 behind the base, 9 too far ahead of it, else what comes after.
+unfoldable pub fromSide : (n : ℕ) → Side → (ℕ → Reading) → Reading
+fromSide n behind next = fails 8
+fromSide n (ahead d) next = check (leb (d + n) 65536) 9 (next d)
 
 -- The bytes that a receiver needs, and those of the working memory that a packet call borrows.
 abbrev pub memorySize : Setting → ℕ
@@ -122,7 +122,7 @@ module _ (s : Setting) where
       let n = symbolCount E (length adu) in
       check (sourceForm p) 5
       (check (leb (length adu) 65535 && leb n width) 4
-      (placed n (placeOf base (sourceEsi p)) (λ d. located (source (base + d) (sourceSymbols flow adu E)))))
+      (fromSide n (sideOf base (sourceEsi p)) (λ d. located (source (base + d) (sourceSymbols flow adu E)))))
 
   -- A repair packet: form (5), number of symbols protected (6), place (8, 9), coefficients (10).
   unfoldable pub readRepair : (base : ℕ) → List ℕ → Reading
@@ -133,7 +133,7 @@ module _ (s : Setting) where
       let ks = keys (repairKey p) (length symbols) in
       check (repairForm E p) 5
       (check (within 1 width n) 6
-      (placed n (placeOf base (firstEsi p))
+      (fromSide n (sideOf base (firstEsi p))
       (λ d. check (allOk scheme dt n ks) 10 (located (repair (base + d) n (listsOf scheme dt n ks) symbols)))))
 
   abbrev pub readPacket : (base : ℕ) → Call → Reading

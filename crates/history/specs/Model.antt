@@ -14,7 +14,7 @@ use Rattle.decoder.specs.Packets as packets
 use Rattle.starts.specs.Adu.{Handing, withholds, need, handing}
 use Rattle.starts.specs.Starts.{Starts, also, moved, pass, seen}
 use Rattle.history.specs.Symbol.{Symbol, symbolOf}
-use Rattle.history.specs.History.{Located, source, repair, Place, behind, ahead, placeOf, Call, esiOf, Reading, fails, located, reading, Said, value}
+use Rattle.history.specs.History.{Located, source, repair, Side, behind, ahead, sideOf, Call, esiOf, Reading, fails, located, reading, Said, value}
 use Rattle.history.specs.History.{refusal}
 
 module _ (E : ℕ) where
@@ -90,14 +90,14 @@ module _ (s : Setting) where
   shown p (some v) = shows p v
 
   -- The symbol at a place: 8 behind the base; 12 past the window, or where it is not known.
-  abbrev pub symbolIn : Joined s → Place → Finding E
+  abbrev pub symbolIn : Joined s → Side → Finding E
   symbolIn t behind = hides 8
   symbolIn t (ahead d) = cond (ltb d width) (shown (t .base + d) (known (t .window) d)) (hides 12)
 
   -- The symbol call for the ESI e: before any base 12.
   unfoldable pub finding : State s → (e : ℕ) → Finding E
   finding none e = hides 12
-  finding (some t) e = symbolIn t (placeOf (t .base) e)
+  finding (some t) e = symbolIn t (sideOf (t .base) e)
 
 -- ---- Starts
 
@@ -120,11 +120,11 @@ module _ (s : Setting) where
   marking t M (fails m) o = M
 
   -- The ADU call at a place: 8 behind the base, 12 past the window, else what the window hands out there.
-  abbrev pub aduIn : Joined s → Starts → (room : ℕ) → Place → Handing
+  abbrev pub aduIn : Joined s → Starts → (room : ℕ) → Side → Handing
   aduIn t M room behind = withholds 8
   aduIn t M room (ahead d) = need (ltb d width) 12 (handing E width room M (seen E width (t .window)) d)
 
   -- The ADU call for the ESI e, with `room` bytes of output: before any base 12.
   unfoldable pub aduAt : State s → Starts → (room e : ℕ) → Handing
   aduAt none M room e = withholds 12
-  aduAt (some t) M room e = aduIn t M room (placeOf (t .base) e)
+  aduAt (some t) M room e = aduIn t M room (sideOf (t .base) e)

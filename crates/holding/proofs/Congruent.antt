@@ -20,8 +20,8 @@ use Rattle.decoder.specs.Packets as packets
 use Rattle.decoder.specs.Table.{read, slot, view, Echelon}
 use Rattle.table.specs.Window as window
 use Rattle.holding.specs.declared.Header.{Header}
-use Rattle.history.specs.History.{source, repair, Place, behind, ahead, placeOf, Call, source-call, repair-call, Reading, fails}
-use Rattle.history.specs.History.{located, check, placed, readSource, readRepair, reading}
+use Rattle.history.specs.History.{source, repair, Side, behind, ahead, sideOf, Call, source-call, repair-call, Reading, fails}
+use Rattle.history.specs.History.{located, check, fromSide, readSource, readRepair, reading}
 use Rattle.starts.specs.Starts.{Starts, also, moved, seen}
 use Rattle.starts.proofs.Agreeing.{Agree, also-agree, moved-agree, pass-agree}
 use Rattle.history.specs.Model.{Joined, State, foundBy, Outcome, refused, done, added, responds, answering, stateAfter, startsAfter, marking}
@@ -97,7 +97,7 @@ module _ (s : Setting) where
   open Setting s using (size as E, width as w)
 
   header-same : (t u : Joined s) → SameFrom s t u → headerFrom s t ≡ headerFrom s u
-  header-same t u k = ap₂ (λ r e. record { setting = s; joined = true; row = r; base = record { 0 = e } }) (k .row) (k .esi)
+  header-same t u k = ap₂ (λ r e. record { setting = s; joined = true; oldest = r; esi = record { 0 = e } }) (k .row) (k .esi)
 
   pub holds-same : (m : List ℕ) (t u : Joined s) → SameFrom s t u → Holds m s (some t) → Holds m s (some u)
   holds-same m t u k h = record {
@@ -115,10 +115,10 @@ module _ (s : Setting) where
   held-same m (some t) none h k = true≢false (ap (λ (x : Header). x .joined) (Option·some-injective _ _ (sym (h .header) ∙ k .header)))
   held-same m (some t) (some u) h k =
       let e : headerFrom s t ≡ headerFrom s u = Option·some-injective _ _ (sym (h .header) ∙ k .header) in
-      let r = ap (λ (x : Header). x .row) e in
+      let r = ap (λ (x : Header). x .oldest) e in
       record {
         row = r;
-        esi = ap (λ (x : Header). x .base .0) e;
+        esi = ap (λ (x : Header). x .esi .0) e;
         window = sym (h .rows .rows .reads) ∙ view-same w E m w (t .base) (u .base) r ∙ k .rows .rows .reads;
       }
 
@@ -143,14 +143,14 @@ module _ (b c : ℕ) where
   check-shifted true n r q k = k
   check-shifted false n r q k = both-fail n
 
-  placed-shifted : (n : ℕ) (p : Place) (f g : ℕ → Reading) → ((d : ℕ) → Shifted b c (f d) (g d)) → Shifted b c (placed n p f) (placed n p g)
-  unfolding placed
-  placed-shifted n behind f g k = both-fail 8
-  placed-shifted n (ahead d) f g k = check-shifted (leb (d + n) 65536) 9 (f d) (g d) (k d)
+  side-shifted : (n : ℕ) (p : Side) (f g : ℕ → Reading) → ((d : ℕ) → Shifted b c (f d) (g d)) → Shifted b c (fromSide n p f) (fromSide n p g)
+  unfolding fromSide
+  side-shifted n behind f g k = both-fail 8
+  side-shifted n (ahead d) f g k = check-shifted (leb (d + n) 65536) 9 (f d) (g d) (k d)
 
-  place-same : (e : ℕ) → b % 2 ^ 32 ≡ c % 2 ^ 32 → placeOf b e ≡ placeOf c e
-  unfolding placeOf
-  place-same e h = ap (λ x. let d = distanceOf e x in cond (ltb d (2 ^ 31)) (ahead d) behind) h
+  side-same : (e : ℕ) → b % 2 ^ 32 ≡ c % 2 ^ 32 → sideOf b e ≡ sideOf c e
+  unfolding sideOf
+  side-same e h = ap (λ x. let d = distanceOf e x in cond (ltb d (2 ^ 31)) (ahead d) behind) h
 
   reading-shifted : (s : Setting) (room : ℕ) (call : Call) → b % 2 ^ 32 ≡ c % 2 ^ 32 → Shifted b c (reading s b room call) (reading s c room call)
   unfolding reading readSource readRepair
@@ -158,14 +158,14 @@ module _ (b c : ℕ) where
       check-shifted _ 2 _ _
       (check-shifted _ 5 _ _
       (check-shifted _ 4 _ _
-      (rw (place-same (sourceEsi p) h)
-      (placed-shifted _ (placeOf c (sourceEsi p)) _ _ (λ d. both-source d (sourceSymbols flow (sourceAdu p) (s .size)))))))
+      (rw (side-same (sourceEsi p) h)
+      (side-shifted _ (sideOf c (sourceEsi p)) _ _ (λ d. both-source d (sourceSymbols flow (sourceAdu p) (s .size)))))))
   reading-shifted s room (repair-call p) h =
       check-shifted _ 2 _ _
       (check-shifted _ 5 _ _
       (check-shifted _ 6 _ _
-      (rw (place-same (firstEsi p) h)
-      (placed-shifted _ (placeOf c (firstEsi p)) _ _ (λ d. check-shifted _ 10 _ _ (both-repair d (protectedCount p) _ (repairSymbols (s .size) p)))))))
+      (rw (side-same (firstEsi p) h)
+      (side-shifted _ (sideOf c (firstEsi p)) _ _ (λ d. check-shifted _ 10 _ _ (both-repair d (protectedCount p) _ (repairSymbols (s .size) p)))))))
 
 -- Outcomes that differ by no more than the base.
 pub data Alike (s : Setting) : Outcome s → Outcome s → Type 0 where

@@ -23,7 +23,7 @@ use Rattle.holding.specs.declared.Header.{Header}
 use Rattle.holding.specs.declared.Spot.{Spot}
 use Rattle.holding.specs.declared.Spot.the-variants.{At, Nowhere}
 use Rattle.history.specs.Symbol.{bytesOf}
-use Rattle.history.specs.History.{placeOf}
+use Rattle.history.specs.History.{sideOf}
 use Rattle.history.specs.Model.{Joined, hides, shown, finding}
 use Rattle.holding.specs.Header.{headerIn}
 use Rattle.holding.specs.Inner.{RowOf, SpottedFor, Spotted}
@@ -64,13 +64,13 @@ finds-fresh m e h k j = record {
 
 module _ (m : List ℕ) (e : ℕ) (h : Header) (k : headerIn m ≡ some h) (joined : h .joined ≡ true) where
   abbrev d : ℕ
-  d = distanceOf e (h .base .0)
+  d = distanceOf e (h .esi .0)
 
   open Setting (h .setting) using (width, size)
 
   -- Nowhere, where the place alone says so.
   hidden : (x : Refusal) → numberOf x ≢ 3
-      → ((t : Joined (h .setting)) → h .base .0 ≡ t .base % 2 ^ 32 → finding (h .setting) (some t) e ≡ hides (numberOf x)) → Spotted m e (Nowhere x)
+      → ((t : Joined (h .setting)) → h .esi .0 ≡ t .base % 2 ^ 32 → finding (h .setting) (some t) e ≡ hides (numberOf x)) → Spotted m e (Nowhere x)
   hidden x n f = record {
     unopened = λ z. absurd (Option·none-ne-some h (sym z ∙ k));
     lies = λ y z. n;
@@ -78,13 +78,13 @@ module _ (m : List ℕ) (e : ℕ) (h : Header) (k : headerIn m ≡ some h) (join
   }
 
   pub finds-behind : 2 ^ 31 ≤ d → Spotted m e (Nowhere Behind)
-  unfolding finding placeOf
+  unfolding finding sideOf
   finds-behind l =
       hidden Behind (λ z. absurd (omega (arith, z)))
       (λ t b. rw (le-ltb (distanceOf e (t .base % 2 ^ 32)) (2 ^ 31) (subst (λ x. 2 ^ 31 ≤ distanceOf e x) b l)))
 
   pub finds-past : d < 2 ^ 31 → width ≤ d → Spotted m e (Nowhere Unknown)
-  unfolding finding placeOf
+  unfolding finding sideOf
   finds-past n l =
       hidden Unknown (λ z. absurd (omega (arith, z)))
       (λ t b.
@@ -93,14 +93,14 @@ module _ (m : List ℕ) (e : ℕ) (h : Header) (k : headerIn m ≡ some h) (join
         le-ltb (distanceOf e (t .base % 2 ^ 32)) width (subst (λ x. width ≤ distanceOf e x) b l),
       ))
 
-  module _ (near : d < 2 ^ 31) (inside : d < width) (r : ℕ) (w : RowOf (h .row) d width r) where
+  module _ (near : d < 2 ^ 31) (inside : d < width) (r : ℕ) (w : RowOf (h .oldest) d width r) where
     -- In the window the symbol call goes by what is known there.
-    looked : (t : Joined (h .setting)) → h .base .0 ≡ t .base % 2 ^ 32
+    looked : (t : Joined (h .setting)) → h .esi .0 ≡ t .base % 2 ^ 32
         → finding (h .setting) (some t) e ≡ shown (h .setting) (t .base + d) (known (t .window) d)
-    unfolding finding placeOf
+    unfolding finding sideOf
     looked t b = rw (← b, lt-ltb d (2 ^ 31) near, lt-ltb d width inside)
 
-    here : (t : Joined (h .setting)) → h .row ≡ t .base % width → (t .base + d) % width ≡ r
+    here : (t : Joined (h .setting)) → h .oldest ≡ t .base % width → (t .base + d) % width ≡ r
     here t a = sym (mod-add-mod (t .base) width d) ∙ ap (λ x. (x + d) % width) (sym a) ∙ sym (w .is)
 
     unknown : Known width size r false m → Spotted m e (Nowhere Unknown)
@@ -111,38 +111,38 @@ module _ (m : List ℕ) (e : ℕ) (h : Header) (k : headerIn m ≡ some h) (join
           (λ t g a b. looked t b ∙ ap (shown (h .setting) (t .base + d)) (u (t .base) d (t .window) inside (here t a) (g .rows)));
     }
 
-    row-ends : window.place width size r + window.stride width size ≤ length m
+    row-ends : window.rowOffset width size r + window.stride width size ≤ length m
     row-ends =
         let f = header-fits m h k in
         omega (arith, f .room, mul-le-mul-right (window.stride width size) (w .small), suc-mul r (window.stride width size))
 
-    symbol-is : Bytes m → bytesOf size (window.line width size (window.row width size r m) .sym) ≡ part (window.place width size r + width) size m
+    symbol-is : Bytes m → bytesOf size (window.line width size (window.row width size r m) .sym) ≡ part (window.rowOffset width size r + width) size m
     symbol-is b = symbol-bytes width size r m (header-fits m h k) (w .small) b
 
-    known-at : Bytes m → Known width size r true m → Spotted m e (At (window.place width size r + width) size)
+    known-at : Bytes m → Known width size r true m → Spotted m e (At (window.rowOffset width size r + width) size)
     known-at b u = record {
       unopened = λ z. absurd (Option·none-ne-some h (sym z ∙ k));
       lies = λ y z. let i : h ≡ y = Option·some-injective _ _ (sym k ∙ z) in (ap (λ (x : Header). x .setting .size) i, omega (arith, row-ends));
-      told = of-joined m h k joined (λ s t. SpottedFor m e s t (At (window.place width size r + width) size))
+      told = of-joined m h k joined (λ s t. SpottedFor m e s t (At (window.rowOffset width size r + width) size))
           (λ t g a c. (
             t .base + d,
             window.line width size (window.row width size r m) .sym,
             looked t c ∙ ap (shown (h .setting) (t .base + d)) (u (t .base) d (t .window) inside (here t a) (g .rows)),
             symbol-is b,
-            ap (λ x. window.place width size x + width) (sym (here t a)),
+            ap (λ x. window.rowOffset width size x + width) (sym (here t a)),
             refl,
           ));
     }
 
   -- The same with the distance, the row and the test as the code has them.
-  module _ (x : ℕ) (q : x ≡ d) (near : x < 2 ^ 31) (inside : x < width) (r : ℕ) (w : RowOf (h .row) x width r) (t : Bool) (u : Known width size r t m) where
-    row-is : RowOf (h .row) d width r
-    row-is = subst (λ y. RowOf (h .row) y width r) q w
+  module _ (x : ℕ) (q : x ≡ d) (near : x < 2 ^ 31) (inside : x < width) (r : ℕ) (w : RowOf (h .oldest) x width r) (t : Bool) (u : Known width size r t m) where
+    row-is : RowOf (h .oldest) d width r
+    row-is = subst (λ y. RowOf (h .oldest) y width r) q w
 
     pub finds-unknown : t ≡ false → Spotted m e (Nowhere Unknown)
     finds-unknown f = unknown (rw q at near) (rw q at inside) r row-is (subst (λ y. Known width size r y m) f u)
 
-    pub finds-at : t ≡ true → Bytes m → (a : ℕ) → a ≡ window.place width size r + width → Spotted m e (At a size)
+    pub finds-at : t ≡ true → Bytes m → (a : ℕ) → a ≡ window.rowOffset width size r + width → Spotted m e (At a size)
     finds-at f b a i =
         subst (λ y. Spotted m e (At y size)) (sym i) (known-at (rw q at near) (rw q at inside) r row-is b (subst (λ y. Known width size r y m) f u))
 

@@ -60,7 +60,7 @@ working-area s v =
 
 -- The header's numbers, of a memory with a setting.
 abbrev pub numbers : Setting → List ℕ → Header
-numbers s m = record { setting = s; joined = ltb 0 (rowIn m); row = rowIn m - 1; base = record { 0 = number (part 12 4 m) } }
+numbers s m = record { setting = s; joined = ltb 0 (rowIn m); oldest = rowIn m - 1; esi = record { 0 = number (part 12 4 m) } }
 
 module _ (m : List ℕ) (s : Setting) (e : settingIn 2 m ≡ some s) where
   pub found : memorySize s ≤ length m → rowIn m ≤ s .width → headerIn m ≡ some (numbers s m)
@@ -69,7 +69,7 @@ module _ (m : List ℕ) (s : Setting) (e : settingIn 2 m ≡ some s) where
 
   -- With a base, whose row and ESI are these.
   pub found-joined : (r b : ℕ) → memorySize s ≤ length m → r < s .width → rowIn m ≡ r + 1 → number (part 12 4 m) ≡ b
-      → headerIn m ≡ some (record { setting = s; joined = true; row = r; base = record { 0 = b } })
+      → headerIn m ≡ some (record { setting = s; joined = true; oldest = r; esi = record { 0 = b } })
   found-joined r b a l p q =
       let x : r + 1 - 1 ≡ r = omega arith in
       found a (omega (arith, p)) ∙ rw (p, q, lt-ltb 0 (r + 1) (omega arith), x)
@@ -92,7 +92,7 @@ pub record Headed (m : List ℕ) (h : Header) : Type 0 where
   pub is : numbers (h .setting) m ≡ h
   pub valid : Valid (h .setting)
   pub room : memorySize (h .setting) ≤ length m
-  pub row-lt : h .row < h .setting .width
+  pub row-lt : h .oldest < h .setting .width
 
 pub headed : (m : List ℕ) (h : Header) → headerIn m ≡ some h → Headed m h
 unfolding headerIn
@@ -142,7 +142,7 @@ setting-held m h s t e k = ap (λ (x : Header). x .setting) (header-held m h s t
 -- It has the header's setting; with the header's numbers, or no base yet.
 pub of-header : (m : List ℕ) (h : Header) → headerIn m ≡ some h → (P : (s : Setting) → State s → Type 0)
     → (h .joined ≡ false → P (h .setting) none)
-    → ((t : Joined (h .setting)) → Stands m (h .setting) t → h .joined ≡ true → h .row ≡ t .base % h .setting .width → h .base .0 ≡ t .base % 2 ^ 32
+    → ((t : Joined (h .setting)) → Stands m (h .setting) t → h .joined ≡ true → h .oldest ≡ t .base % h .setting .width → h .esi .0 ≡ t .base % 2 ^ 32
     → P (h .setting) (some t))
     → (s : Setting) (t : State s) → Holds m s t → P s t
 of-header m h k P f g s none d =
@@ -152,13 +152,13 @@ of-header m h k P f g s (some t) d =
     let i = header-held m h s (some t) k d in
     subst
     (λ (x : Header).
-    (t : Joined (x .setting)) → Stands m (x .setting) t → h .joined ≡ true → h .row ≡ t .base % x .setting .width → h .base .0 ≡ t .base % 2 ^ 32
+    (t : Joined (x .setting)) → Stands m (x .setting) t → h .joined ≡ true → h .oldest ≡ t .base % x .setting .width → h .esi .0 ≡ t .base % 2 ^ 32
     → P (x .setting) (some t))
-    i g t (d .rows) (ap (λ (x : Header). x .joined) i) (ap (λ (x : Header). x .row) i) (ap (λ (x : Header). x .base .0) i)
+    i g t (d .rows) (ap (λ (x : Header). x .joined) i) (ap (λ (x : Header). x .oldest) i) (ap (λ (x : Header). x .esi .0) i)
 
 -- With a base it has the header's numbers.
 pub of-joined : (m : List ℕ) (h : Header) → headerIn m ≡ some h → h .joined ≡ true → (P : (s : Setting) → State s → Type 0)
-    → ((t : Joined (h .setting)) → Stands m (h .setting) t → h .row ≡ t .base % h .setting .width → h .base .0 ≡ t .base % 2 ^ 32 → P (h .setting) (some t))
+    → ((t : Joined (h .setting)) → Stands m (h .setting) t → h .oldest ≡ t .base % h .setting .width → h .esi .0 ≡ t .base % 2 ^ 32 → P (h .setting) (some t))
     → (s : Setting) (t : State s) → Holds m s t → P s t
 of-joined m h k j P g = of-header m h k P (λ i. absurd (true≢false (sym j ∙ i))) (λ t d _ a b. g t d a b)
 

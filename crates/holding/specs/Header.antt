@@ -22,7 +22,7 @@ abbrev pub headerWith : List ℕ → Option Setting → Option Header
 headerWith m none = none
 headerWith m (some s) =
     cond (leb (memorySize s) (length m) && leb (rowIn m) (s .width))
-    (some (record { setting = s; joined = ltb 0 (rowIn m); row = rowIn m - 1; base = record { 0 = number (part 12 4 m) } })) none
+    (some (record { setting = s; joined = ltb 0 (rowIn m); oldest = rowIn m - 1; esi = record { 0 = number (part 12 4 m) } })) none
 
 -- the receiver's header at the front of a memory (a receiver is of kind 2); refusal 3 where there is none
 unfoldable pub headerIn : List ℕ → Option Header

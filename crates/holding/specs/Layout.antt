@@ -19,10 +19,10 @@ use Rattle.holding.specs.Header.{headerIn}
 
 -- The header of a receiver that has a base: row and ESI of a position are its remainders by the width and by 2^32; and of any.
 abbrev pub headerFrom : (s : Setting) → Joined s → Header
-headerFrom s t = record { setting = s; joined = true; row = t .base % s .width; base = record { 0 = t .base % 2 ^ 32 } }
+headerFrom s t = record { setting = s; joined = true; oldest = t .base % s .width; esi = record { 0 = t .base % 2 ^ 32 } }
 
 abbrev pub headerOf : (s : Setting) → State s → Header
-headerOf s none = record { setting = s; joined = false; row = 0; base = record { 0 = 0 } }
+headerOf s none = record { setting = s; joined = false; oldest = 0; esi = record { 0 = 0 } }
 headerOf s (some t) = headerFrom s t
 
 -- The memory m has the rows of a receiver that has a base; before any base it has none, wherever the base will be.
@@ -50,4 +50,4 @@ Marks m s (some t) M = MarksFrom m s t M
 
 -- Where the symbol at a position starts: after the coefficients of its row.
 abbrev pub symbolStart : Setting → ℕ → ℕ
-symbolStart s p = window.place (s .width) (s .size) (p % s .width) + s .width
+symbolStart s p = window.rowOffset (s .width) (s .size) (p % s .width) + s .width

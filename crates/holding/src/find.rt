@@ -2,7 +2,7 @@
 ghost use Rattle.holding.specs.Inner.{Spotted, RowOf};
 ghost use mathlib.Core.Path.{_≡_};
 ghost use Prim.Native.Nat.{_+_, _<_, _≤_};
-ghost use Rattle.table.specs.Window.{place};
+ghost use Rattle.table.specs.Window.{rowOffset};
 use super::Found;
 use super::Spot;
 use super::front;
@@ -22,7 +22,7 @@ pub fn row_after(row: usize, d: usize, width: usize) -> usize
 // Where the symbol of a row begins: after the coefficients.
 pub fn symbol_start(width: usize, size: usize, row: usize) -> usize
     requires { ⌜ (row ≤ width) × (width ≤ 255) × (size ≤ 1500) ⌝ }
-    ensures { λ at. ⌜ at ≡ place width size row + width ⌝ }
+    ensures { λ at. ⌜ at ≡ rowOffset width size row + width ⌝ }
 {
     64 + row * (width + size + 4) + width
 }
@@ -39,18 +39,18 @@ pub fn find(mem: &[u8], esi: Esi) -> Spot
     }
     let width = header.setting.width;
     let size = header.setting.size;
-    let d = esi.distance(header.base) as usize;
+    let d = esi.distance(header.esi) as usize;
     if d >= 2147483648 {
         return Spot::Nowhere(Refusal::Behind);
     }
     if d >= width {
         return Spot::Nowhere(Refusal::Unknown);
     }
-    let row = row_after(header.row, d, width);
+    let row = row_after(header.oldest, d, width);
     let shape = Shape {
         width,
         size,
-        base: header.row,
+        oldest: header.oldest,
     };
     if !placing::is_known(mem, shape, row) {
         return Spot::Nowhere(Refusal::Unknown);

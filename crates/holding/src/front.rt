@@ -43,13 +43,13 @@ pub fn read_header(mem: &[u8]) -> Found
     if setting.width < stored {
         return Found::NoHeader;
     }
-    let row = memory::excess(stored, 1);
-    let base = Esi(memory::load_u32(mem, 12));
+    let oldest = memory::excess(stored, 1);
+    let esi = Esi(memory::load_u32(mem, 12));
     Found::HeaderIs(Header {
         setting,
         joined: 0 < stored,
-        row,
-        base,
+        oldest,
+        esi,
     })
 }
 

@@ -11,8 +11,8 @@ use wire::Setting;
 pub struct Header {
     pub setting: Setting,
     pub joined: bool,
-    pub row: usize,
-    pub base: Esi,
+    pub oldest: usize,
+    pub esi: Esi,
 }
 
 // The header that a memory has, if it has one.

@@ -42,39 +42,39 @@ known-empty E (suc w) (suc i) = known-empty E w i
 pub unseen-empty : (E w i : ℕ) → seen E w (empty (Coded E) w) i ≡ none
 unseen-empty E w i = ap (shown E) (known-empty E w i)
 
-pub one-outside : (w E base i : ℕ) (m : List ℕ) → w ≤ i → OneKnown w E base i 0 m
-one-outside w E base i m h = record { most = omega arith; told = λ b S e v. sym (ap oneIf (known-outside S i h)) }
+pub one-outside : (w E oldest i : ℕ) (m : List ℕ) → w ≤ i → OneKnown w E oldest i 0 m
+one-outside w E oldest i m h = record { most = omega arith; told = λ b S e v. sym (ap oneIf (known-outside S i h)) }
 
-module _ (w E base i r : ℕ) (m : List ℕ) (l : i < w) (here : r ≡ (base + i) % w) where
-  there : (b : ℕ) → b % w ≡ base → (b + i) % w ≡ r
+module _ (w E oldest i r : ℕ) (m : List ℕ) (l : i < w) (here : r ≡ (oldest + i) % w) where
+  there : (b : ℕ) → b % w ≡ oldest → (b + i) % w ≡ r
   there b e = sym (mod-add-mod b w i) ∙ ap (λ k. (k + i) % w) e ∙ sym here
 
-  pub one-known : (t : Bool) → t ≡ true → Known w E r t m → OneKnown w E base i 1 m
+  pub one-known : (t : Bool) → t ≡ true → Known w E r t m → OneKnown w E oldest i 1 m
   one-known t y k = record {
     most = omega arith;
     told = λ b S e v. sym (ap oneIf (subst (λ x. Known w E r x m) y k b i S l (there b e) v));
   }
 
-  pub one-unknown : (t : Bool) → t ≡ false → Known w E r t m → OneKnown w E base i 0 m
+  pub one-unknown : (t : Bool) → t ≡ false → Known w E r t m → OneKnown w E oldest i 0 m
   one-unknown t y k = record {
     most = omega arith;
     told = λ b S e v. sym (ap oneIf (subst (λ x. Known w E r x m) y k b i S l (there b e) v));
   }
 
-pub tallied-none : (w E base first : ℕ) (m : List ℕ) → Tallied w E base first 0 0 m
+pub tallied-none : (w E oldest first : ℕ) (m : List ℕ) → Tallied w E oldest first 0 0 m
 unfolding tally
-tallied-none w E base first m = record { most = omega arith; told = λ b S e v. refl }
+tallied-none w E oldest first m = record { most = omega arith; told = λ b S e v. refl }
 
-pub tallied-more : (w E base first i r x : ℕ) (m : List ℕ) → Tallied w E base first i r m → OneKnown w E base (first + i) x m
-    → Tallied w E base first (i + 1) (r + x) m
+pub tallied-more : (w E oldest first i r x : ℕ) (m : List ℕ) → Tallied w E oldest first i r m → OneKnown w E oldest (first + i) x m
+    → Tallied w E oldest first (i + 1) (r + x) m
 unfolding tally
-tallied-more w E base first i r x m f g = record {
+tallied-more w E oldest first i r x m f g = record {
   most = omega (arith, f .most, g .most);
   told = λ b S e v. ap₂ (λ (y z : ℕ). y + z) (f .told b S e v) (g .told b S e v) ∙ ap (tally (known S) first) (sym (add-one i));
 }
 
-pub tallied-to : {w E base first i n r : ℕ} {m : List ℕ} → i ≡ n → Tallied w E base first i r m → Tallied w E base first n r m
-tallied-to {w} {E} {base} {first} {i} {n} {r} {m} e f = subst (λ x. Tallied w E base first x r m) e f
+pub tallied-to : {w E oldest first i n r : ℕ} {m : List ℕ} → i ≡ n → Tallied w E oldest first i r m → Tallied w E oldest first n r m
+tallied-to {w} {E} {oldest} {first} {i} {n} {r} {m} e f = subst (λ x. Tallied w E oldest first x r m) e f
 
 -- ---- counts of what is new
 

@@ -19,54 +19,54 @@ use Rattle.marks.proofs.Only.{mark-row, mark-past, mark-apart, no-mark,
 
 -- ---- one mark
 
-pub written : (w E base i v at : ℕ) (m : List ℕ) → at ≡ markAt w E base i → at < length m → Written w E base i v m (set m at v)
-written w E base i v at m e l = record {
+pub written : (w E oldest i v at : ℕ) (m : List ℕ) → at ≡ markAt w E oldest i → at < length m → Written w E oldest i v m (set m at v)
+written w E oldest i v at m e l = record {
   size = length-set m at v;
   here = ap (λ k. getD (set m at v) k 0) (sym e) ∙ getD-set-same m at v 0 l;
   rest = λ k n. getD-set-other m at k v 0 (λ q. n (q ∙ e));
 }
 
-pub written-only : {w E base i v : ℕ} {m m′ : List ℕ} → 0 < w → Written w E base i v m m′ → OnlyMarks w E m m′
-written-only {w} {E} {base} {i} pos f = record { size = f .size; others = λ k n. f .rest k (no-mark w E base i k pos n) }
+pub written-only : {w E oldest i v : ℕ} {m m′ : List ℕ} → 0 < w → Written w E oldest i v m m′ → OnlyMarks w E m m′
+written-only {w} {E} {oldest} {i} pos f = record { size = f .size; others = λ k n. f .rest k (no-mark w E oldest i k pos n) }
 
-other-mark : (w E base i v j : ℕ) (m m′ : List ℕ) → Written w E base i v m m′ → i ≤ w → j ≤ w → j ≢ i
-    → markByte w E base m′ j ≡ markByte w E base m j
-other-mark w E base i v j m m′ f h k n = f .rest (markAt w E base j) (mark-apart w E base j i k h n)
+other-mark : (w E oldest i v j : ℕ) (m m′ : List ℕ) → Written w E oldest i v m m′ → i ≤ w → j ≤ w → j ≢ i
+    → markByte w E oldest m′ j ≡ markByte w E oldest m j
+other-mark w E oldest i v j m m′ f h k n = f .rest (markAt w E oldest j) (mark-apart w E oldest j i k h n)
 
 -- The i-th position is marked as well.
-set-marks : (w E base i : ℕ) (m m′ : List ℕ) (M : Starts) → i ≤ w → Written w E base i 1 m m′ → Marks w E base m M → Marks w E base m′ (also i M)
-set-marks w E base i m m′ M l f h j k = go (ℕ-discrete j i)
+set-marks : (w E oldest i : ℕ) (m m′ : List ℕ) (M : Starts) → i ≤ w → Written w E oldest i 1 m m′ → Marks w E oldest m M → Marks w E oldest m′ (also i M)
+set-marks w E oldest i m m′ M l f h j k = go (ℕ-discrete j i)
   where
-    go : Dec (j ≡ i) → marked w E base m′ j ≡ also i M j
-    go (yes e) = ap (λ x. marked w E base m′ x) e ∙ ap (ltb 0) (f .here) ∙ sym (ap (λ t. t || M j) (eq-eqb j i e))
-    go (no n) = ap (ltb 0) (other-mark w E base i 1 j m m′ f l k n) ∙ h j k ∙ sym (ap (λ t. t || M j) (ne-eqb j i n))
+    go : Dec (j ≡ i) → marked w E oldest m′ j ≡ also i M j
+    go (yes e) = ap (λ x. marked w E oldest m′ x) e ∙ ap (ltb 0) (f .here) ∙ sym (ap (λ t. t || M j) (eq-eqb j i e))
+    go (no n) = ap (ltb 0) (other-mark w E oldest i 1 j m m′ f l k n) ∙ h j k ∙ sym (ap (λ t. t || M j) (ne-eqb j i n))
 
-pub added : (w E base i : ℕ) (m m′ : List ℕ) → 0 < w → i ≤ w → Written w E base i 1 m m′ → Added w E base i m m′
-added w E base i m m′ pos l f = record { only = written-only pos f; marks = λ M h. set-marks w E base i m m′ M l f h }
+pub added : (w E oldest i : ℕ) (m m′ : List ℕ) → 0 < w → i ≤ w → Written w E oldest i 1 m m′ → Added w E oldest i m m′
+added w E oldest i m m′ pos l f = record { only = written-only pos f; marks = λ M h. set-marks w E oldest i m m′ M l f h }
 
 -- ---- the first marks are dropped
 
-pub dropped-none : (w E base : ℕ) (m : List ℕ) → Dropped w E base 0 m m
-dropped-none w E base m = record { only = only-refl; gone = λ i l. absurd (omega arith); rest = λ i h l. refl }
+pub dropped-none : (w E oldest : ℕ) (m : List ℕ) → Dropped w E oldest 0 m m
+dropped-none w E oldest m = record { only = only-refl; gone = λ i l. absurd (omega arith); rest = λ i h l. refl }
 
-pub dropped-more : (w E base i : ℕ) (m m₁ m₂ : List ℕ) → 0 < w → i ≤ w → Dropped w E base i m m₁ → Written w E base i 0 m₁ m₂
-    → Dropped w E base (i + 1) m m₂
-dropped-more w E base i m m₁ m₂ pos l f g = record {
+pub dropped-more : (w E oldest i : ℕ) (m m₁ m₂ : List ℕ) → 0 < w → i ≤ w → Dropped w E oldest i m m₁ → Written w E oldest i 0 m₁ m₂
+    → Dropped w E oldest (i + 1) m m₂
+dropped-more w E oldest i m m₁ m₂ pos l f g = record {
   only = only-trans (f .only) (written-only pos g);
   gone = λ j k. go j k (ℕ-discrete j i);
-  rest = λ j h k. other-mark w E base i 0 j m₁ m₂ g l k (λ e. omega (arith, e)) ∙ f .rest j (omega arith) k;
+  rest = λ j h k. other-mark w E oldest i 0 j m₁ m₂ g l k (λ e. omega (arith, e)) ∙ f .rest j (omega arith) k;
 }
   where
-    go : (j : ℕ) → j < i + 1 → Dec (j ≡ i) → markByte w E base m₂ j ≡ 0
-    go j k (yes e) = ap (λ x. markByte w E base m₂ x) e ∙ g .here
-    go j k (no n) = other-mark w E base i 0 j m₁ m₂ g l (omega arith) n ∙ f .gone j (omega arith)
+    go : (j : ℕ) → j < i + 1 → Dec (j ≡ i) → markByte w E oldest m₂ j ≡ 0
+    go j k (yes e) = ap (λ x. markByte w E oldest m₂ x) e ∙ g .here
+    go j k (no n) = other-mark w E oldest i 0 j m₁ m₂ g l (omega arith) n ∙ f .gone j (omega arith)
 
-pub dropped-to : {w E base i n : ℕ} {m m′ : List ℕ} → i ≡ n → Dropped w E base i m m′ → Dropped w E base n m m′
-dropped-to {w} {E} {base} {i} {n} {m} {m′} e f = subst (λ x. Dropped w E base x m m′) e f
+pub dropped-to : {w E oldest i n : ℕ} {m m′ : List ℕ} → i ≡ n → Dropped w E oldest i m m′ → Dropped w E oldest n m m′
+dropped-to {w} {E} {oldest} {i} {n} {m} {m′} e f = subst (λ x. Dropped w E oldest x m m′) e f
 
 -- Where all marks are dropped, none is left, wherever the base is.
-none-left : (w E base : ℕ) (m m′ : List ℕ) → base < w → Dropped w E base (w + 1) m m′ → (b i : ℕ) → marked w E b m′ i ≡ false
-none-left w E base m m′ near f b i = go (decLt i w)
+none-left : (w E oldest : ℕ) (m m′ : List ℕ) → oldest < w → Dropped w E oldest (w + 1) m m′ → (b i : ℕ) → marked w E b m′ i ≡ false
+none-left w E oldest m m′ near f b i = go (decLt i w)
   where
     pos : 0 < w
     pos = omega arith
@@ -74,92 +74,92 @@ none-left w E base m m′ near f b i = go (decLt i w)
     go : Dec (i < w) → marked w E b m′ i ≡ false
     go (yes a) =
         let r = (b + i) % w in
-        let j = (r + w - base) % w in
-        let l : j < w = mod-lt (r + w - base) pos in
-        let k : base + (r + w - base) ≡ r + w = omega arith in
-        let e : r ≡ (base + j) % w =
-        sym (add-mod-mod base (r + w - base) w ∙ ap (λ x. x % w) k ∙ add-mod-right r w ∙ mod-eq-of-lt (mod-lt (b + i) pos)) in
-        ap (λ x. ltb 0 (getD m′ x 0)) (sym (mark-row w E b i r a refl) ∙ mark-row w E base j r l e) ∙ ap (ltb 0) (f .gone j (omega arith))
+        let j = (r + w - oldest) % w in
+        let l : j < w = mod-lt (r + w - oldest) pos in
+        let k : oldest + (r + w - oldest) ≡ r + w = omega arith in
+        let e : r ≡ (oldest + j) % w =
+        sym (add-mod-mod oldest (r + w - oldest) w ∙ ap (λ x. x % w) k ∙ add-mod-right r w ∙ mod-eq-of-lt (mod-lt (b + i) pos)) in
+        ap (λ x. ltb 0 (getD m′ x 0)) (sym (mark-row w E b i r a refl) ∙ mark-row w E oldest j r l e) ∙ ap (ltb 0) (f .gone j (omega arith))
     go (no a) =
-        ap (λ x. ltb 0 (getD m′ x 0)) (sym (mark-past w E b i (omega arith)) ∙ mark-past w E base w (omega arith)) ∙ ap (ltb 0) (f .gone w (omega arith))
+        ap (λ x. ltb 0 (getD m′ x 0)) (sym (mark-past w E b i (omega arith)) ∙ mark-past w E oldest w (omega arith)) ∙ ap (ltb 0) (f .gone w (omega arith))
 
-pub cleared : (w E base : ℕ) (m m′ : List ℕ) → base < w → Dropped w E base (w + 1) m m′ → Cleared w E m m′
-cleared w E base m m′ near f = record { only = f .only; marks = λ b i l. none-left w E base m m′ near f b i }
+pub cleared : (w E oldest : ℕ) (m m′ : List ℕ) → oldest < w → Dropped w E oldest (w + 1) m m′ → Cleared w E m m′
+cleared w E oldest m m′ near f = record { only = f .only; marks = λ b i l. none-left w E oldest m m′ near f b i }
 
 -- ---- the window moves on
 
-pub moved-none : (w E base rise : ℕ) (m : List ℕ) → base < w → rise ≡ 0 → Moved w E base rise m m
-moved-none w E base rise m h e = record {
+pub moved-none : (w E oldest rise : ℕ) (m : List ℕ) → oldest < w → rise ≡ 0 → Moved w E oldest rise m m
+moved-none w E oldest rise m h e = record {
   only = only-refl;
   marks = λ M f i l.
-      let s : (base + rise) % w ≡ base = ap (λ k. (base + k) % w) e ∙ ap (λ k. k % w) (add-zero base) ∙ mod-eq-of-lt h in
+      let s : (oldest + rise) % w ≡ oldest = ap (λ k. (oldest + k) % w) e ∙ ap (λ k. k % w) (add-zero oldest) ∙ mod-eq-of-lt h in
       let k : rise + i ≡ i = omega arith in
       ap (λ x. marked w E x m i) s ∙ f i l ∙ sym (ap (λ x. leb x w && M x) k ∙ ap (λ t. t && M i) (le-leb i w l));
 }
 
 -- The mark of a position after the base has risen stands where that of the position j did, in the same row.
-turned : (w E base rise i j : ℕ) → i < w → j < w → (base + j) % w ≡ (base + rise + i) % w → markAt w E ((base + rise) % w) i ≡ markAt w E base j
-turned w E base rise i j h l e =
-    sym (mark-row w E ((base + rise) % w) i ((base + rise + i) % w) h (sym (mod-add-mod (base + rise) w i)))
-    ∙ mark-row w E base j ((base + rise + i) % w) l (sym e)
+turned : (w E oldest rise i j : ℕ) → i < w → j < w → (oldest + j) % w ≡ (oldest + rise + i) % w → markAt w E ((oldest + rise) % w) i ≡ markAt w E oldest j
+turned w E oldest rise i j h l e =
+    sym (mark-row w E ((oldest + rise) % w) i ((oldest + rise + i) % w) h (sym (mod-add-mod (oldest + rise) w i)))
+    ∙ mark-row w E oldest j ((oldest + rise + i) % w) l (sym e)
 
 -- The base has risen by more than the width.
-pub moved-far : (w E base rise : ℕ) (m m′ : List ℕ) → base < w → w < rise → Dropped w E base (w + 1) m m′ → Moved w E base rise m m′
-moved-far w E base rise m m′ near g f = record {
+pub moved-far : (w E oldest rise : ℕ) (m m′ : List ℕ) → oldest < w → w < rise → Dropped w E oldest (w + 1) m m′ → Moved w E oldest rise m m′
+moved-far w E oldest rise m m′ near g f = record {
   only = f .only;
   marks = λ M h i l.
-      none-left w E base m m′ near f ((base + rise) % w) i ∙ sym (ap (λ t. t && M (rise + i)) (lt-leb (rise + i) w (omega arith)));
+      none-left w E oldest m m′ near f ((oldest + rise) % w) i ∙ sym (ap (λ t. t && M (rise + i)) (lt-leb (rise + i) w (omega arith)));
 }
 
 -- By no more: the mark of the position just past the window comes into the row of the old base.
-module _ (w E base rise past : ℕ) (m m₁ m₂ m₃ : List ℕ) (pos : 0 < rise) (near : rise ≤ w) (was : past ≡ getD m 10 0)
-    (f : Dropped w E base rise m m₁) (g : Written w E base w 0 m₁ m₂) (h : Written w E base 0 past m₂ m₃) where
+module _ (w E oldest rise past : ℕ) (m m₁ m₂ m₃ : List ℕ) (pos : 0 < rise) (near : rise ≤ w) (was : past ≡ getD m 10 0)
+    (f : Dropped w E oldest rise m m₁) (g : Written w E oldest w 0 m₁ m₂) (h : Written w E oldest 0 past m₂ m₃) where
   -- The old marks after it, by the old base.
-  at-zero : markByte w E base m₃ 0 ≡ markByte w E base m w
-  at-zero = h .here ∙ was ∙ ap (λ x. getD m x 0) (mark-past w E base w (omega arith))
+  at-zero : markByte w E oldest m₃ 0 ≡ markByte w E oldest m w
+  at-zero = h .here ∙ was ∙ ap (λ x. getD m x 0) (mark-past w E oldest w (omega arith))
 
-  at-past : markByte w E base m₃ w ≡ 0
-  at-past = other-mark w E base 0 past w m₂ m₃ h (omega arith) (omega arith) (λ e. omega (arith, e)) ∙ g .here
+  at-past : markByte w E oldest m₃ w ≡ 0
+  at-past = other-mark w E oldest 0 past w m₂ m₃ h (omega arith) (omega arith) (λ e. omega (arith, e)) ∙ g .here
 
-  at-low : (j : ℕ) → 0 < j → j < rise → markByte w E base m₃ j ≡ 0
+  at-low : (j : ℕ) → 0 < j → j < rise → markByte w E oldest m₃ j ≡ 0
   at-low j a b =
-      other-mark w E base 0 past j m₂ m₃ h (omega arith) (omega arith) (λ e. omega (arith, e))
-      ∙ other-mark w E base w 0 j m₁ m₂ g (omega arith) (omega arith) (λ e. omega (arith, e)) ∙ f .gone j b
+      other-mark w E oldest 0 past j m₂ m₃ h (omega arith) (omega arith) (λ e. omega (arith, e))
+      ∙ other-mark w E oldest w 0 j m₁ m₂ g (omega arith) (omega arith) (λ e. omega (arith, e)) ∙ f .gone j b
 
-  at-high : (j : ℕ) → rise ≤ j → j < w → markByte w E base m₃ j ≡ markByte w E base m j
+  at-high : (j : ℕ) → rise ≤ j → j < w → markByte w E oldest m₃ j ≡ markByte w E oldest m j
   at-high j a b =
-      other-mark w E base 0 past j m₂ m₃ h (omega arith) (omega arith) (λ e. omega (arith, e))
-      ∙ other-mark w E base w 0 j m₁ m₂ g (omega arith) (omega arith) (λ e. omega (arith, e)) ∙ f .rest j a (omega arith)
+      other-mark w E oldest 0 past j m₂ m₃ h (omega arith) (omega arith) (λ e. omega (arith, e))
+      ∙ other-mark w E oldest w 0 j m₁ m₂ g (omega arith) (omega arith) (λ e. omega (arith, e)) ∙ f .rest j a (omega arith)
 
-  module _ (M : Starts) (k : Marks w E base m M) (i : ℕ) where
+  module _ (M : Starts) (k : Marks w E oldest m M) (i : ℕ) where
     stays : rise + i ≤ w → M (rise + i) ≡ moved w rise M i
     stays l = sym (ap (λ t. t && M (rise + i)) (le-leb (rise + i) w l))
 
     leaves : w < rise + i → false ≡ moved w rise M i
     leaves l = sym (ap (λ t. t && M (rise + i)) (lt-leb (rise + i) w l))
 
-    wrapped : (j : ℕ) → i < w → j + w ≡ rise + i → Dec (j ≡ 0) → marked w E ((base + rise) % w) m₃ i ≡ moved w rise M i
-    wrapped j a e d = ap (λ x. ltb 0 (getD m₃ x 0)) (turned w E base rise i j a (omega arith) row) ∙ go d
+    wrapped : (j : ℕ) → i < w → j + w ≡ rise + i → Dec (j ≡ 0) → marked w E ((oldest + rise) % w) m₃ i ≡ moved w rise M i
+    wrapped j a e d = ap (λ x. ltb 0 (getD m₃ x 0)) (turned w E oldest rise i j a (omega arith) row) ∙ go d
       where
-        row : (base + j) % w ≡ (base + rise + i) % w
-        row = let s : base + j + w ≡ base + rise + i = omega arith in sym (add-mod-right (base + j) w) ∙ ap (λ x. x % w) s
+        row : (oldest + j) % w ≡ (oldest + rise + i) % w
+        row = let s : oldest + j + w ≡ oldest + rise + i = omega arith in sym (add-mod-right (oldest + j) w) ∙ ap (λ x. x % w) s
 
-        go : Dec (j ≡ 0) → marked w E base m₃ j ≡ moved w rise M i
+        go : Dec (j ≡ 0) → marked w E oldest m₃ j ≡ moved w rise M i
         go (yes z) =
             let s : w ≡ rise + i = omega arith in
-            ap (λ x. marked w E base m₃ x) z ∙ ap (ltb 0) at-zero ∙ k w (omega arith) ∙ ap M s ∙ stays (omega arith)
+            ap (λ x. marked w E oldest m₃ x) z ∙ ap (ltb 0) at-zero ∙ k w (omega arith) ∙ ap M s ∙ stays (omega arith)
         go (no z) = ap (ltb 0) (at-low j (omega arith) (omega arith)) ∙ leaves (omega arith)
 
-    moves : i ≤ w → Dec (i < w) → Dec (rise + i < w) → marked w E ((base + rise) % w) m₃ i ≡ moved w rise M i
+    moves : i ≤ w → Dec (i < w) → Dec (rise + i < w) → marked w E ((oldest + rise) % w) m₃ i ≡ moved w rise M i
     moves l (no a) d =
-        ap (λ x. ltb 0 (getD m₃ x 0)) (sym (mark-past w E ((base + rise) % w) i (omega arith)) ∙ mark-past w E base w (omega arith))
+        ap (λ x. ltb 0 (getD m₃ x 0)) (sym (mark-past w E ((oldest + rise) % w) i (omega arith)) ∙ mark-past w E oldest w (omega arith))
         ∙ ap (ltb 0) at-past ∙ leaves (omega arith)
     moves l (yes a) (yes b) =
-        ap (λ x. ltb 0 (getD m₃ x 0)) (turned w E base rise i (rise + i) a b (ap (λ x. x % w) (sym (add-assoc base rise i))))
+        ap (λ x. ltb 0 (getD m₃ x 0)) (turned w E oldest rise i (rise + i) a b (ap (λ x. x % w) (sym (add-assoc oldest rise i))))
         ∙ ap (ltb 0) (at-high (rise + i) (omega arith) b) ∙ k (rise + i) (omega arith) ∙ stays (omega arith)
     moves l (yes a) (no b) = wrapped (rise + i - w) a (omega arith) (ℕ-discrete (rise + i - w) 0)
 
-  pub moved-near : Moved w E base rise m m₃
+  pub moved-near : Moved w E oldest rise m m₃
   moved-near = record {
     only = only-trans (f .only) (only-trans (written-only (omega arith) g) (written-only (omega arith) h));
     marks = λ M k i l. moves M k i l (decLt i w) (decLt (rise + i) w);

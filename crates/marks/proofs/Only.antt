@@ -13,14 +13,14 @@ use Rattle.memory.proofs.Parts.{row-fits}
 use Rattle.decoder.specs.Bytes.{Coded}
 use Rattle.decoder.specs.Model.{State}
 use Rattle.decoder.proofs.Stretch.{remainders}
-use Rattle.table.specs.Window.{stride, place, Window, Fits}
+use Rattle.table.specs.Window.{stride, rowOffset, Window, Fits}
 use Rattle.table.proofs.Holding.{window-same}
 use Rattle.marks.specs.Marks.{flagAt, markAt, NoMark, OnlyMarks, OnlyStarts}
 
 -- ---- where marks stand
 
-pub row-wrapped : (base i w : ℕ) → base < w → i < w → w ≤ base + i → base + i - w ≡ (base + i) % w
-row-wrapped base i w a b h = sym (mod-eq-sub-mod h ∙ mod-eq-of-lt (omega arith))
+pub row-wrapped : (oldest i w : ℕ) → oldest < w → i < w → w ≤ oldest + i → oldest + i - w ≡ (oldest + i) % w
+row-wrapped oldest i w a b h = sym (mod-eq-sub-mod h ∙ mod-eq-of-lt (omega arith))
 
 -- A row lies below the window's area.
 pub row-area : (w E r : ℕ) → r ≤ w → w ≤ 255 → E ≤ 1500 → r * (w + E + 4) ≤ 448545
@@ -30,18 +30,18 @@ row-area w E r h a b =
     mul-le-mul x y
 
 -- A mark lies among the rows, and so does a symbol.
-pub flag-inside : (w E r : ℕ) → r < w → flagAt w E r < place w E w
+pub flag-inside : (w E r : ℕ) → r < w → flagAt w E r < rowOffset w E w
 flag-inside w E r h = omega (arith, row-fits w (stride w E) r h)
 
-pub symbol-inside : (w E r : ℕ) → r < w → place w E r + w + E ≤ place w E w
+pub symbol-inside : (w E r : ℕ) → r < w → rowOffset w E r + w + E ≤ rowOffset w E w
 symbol-inside w E r h = omega (arith, row-fits w (stride w E) r h)
 
 -- The mark of a position of the window, and of the one just past it.
-pub mark-row : (w E base i r : ℕ) → i < w → r ≡ (base + i) % w → flagAt w E r ≡ markAt w E base i
-mark-row w E base i r h e = let t : ltb i w ≡ true = lt-ltb i w h in rw (t, e)
+pub mark-row : (w E oldest i r : ℕ) → i < w → r ≡ (oldest + i) % w → flagAt w E r ≡ markAt w E oldest i
+mark-row w E oldest i r h e = let t : ltb i w ≡ true = lt-ltb i w h in rw (t, e)
 
-pub mark-past : (w E base i : ℕ) → w ≤ i → 10 ≡ markAt w E base i
-mark-past w E base i h = let t : ltb i w ≡ false = le-ltb i w h in rw t
+pub mark-past : (w E oldest i : ℕ) → w ≤ i → 10 ≡ markAt w E oldest i
+mark-past w E oldest i h = let t : ltb i w ≡ false = le-ltb i w h in rw t
 
 -- Other rows have other marks.
 flag-apart : (w E p q : ℕ) → p ≢ q → flagAt w E p ≢ flagAt w E q
@@ -53,29 +53,29 @@ flag-apart w E p q n e = go (decLt p q) (decLt q p)
     go (no l) (no k) = n (omega arith)
 
 -- Other positions have other marks.
-pub mark-apart : (w E base i j : ℕ) → i ≤ w → j ≤ w → i ≢ j → markAt w E base i ≢ markAt w E base j
-mark-apart w E base i j h k n e = go (decLt i w) (decLt j w)
+pub mark-apart : (w E oldest i j : ℕ) → i ≤ w → j ≤ w → i ≢ j → markAt w E oldest i ≢ markAt w E oldest j
+mark-apart w E oldest i j h k n e = go (decLt i w) (decLt j w)
   where
     go : Dec (i < w) → Dec (j < w) → ⊥
     go (yes a) (yes b) =
-        flag-apart w E ((base + i) % w) ((base + j) % w)
-        (λ q. n (omega (arith, remainders w base (base + i) (base + j) (omega arith) (omega arith) (omega arith) (omega arith) q)))
-        (mark-row w E base i ((base + i) % w) a refl ∙ e ∙ sym (mark-row w E base j ((base + j) % w) b refl))
+        flag-apart w E ((oldest + i) % w) ((oldest + j) % w)
+        (λ q. n (omega (arith, remainders w oldest (oldest + i) (oldest + j) (omega arith) (omega arith) (omega arith) (omega arith) q)))
+        (mark-row w E oldest i ((oldest + i) % w) a refl ∙ e ∙ sym (mark-row w E oldest j ((oldest + j) % w) b refl))
     go (yes a) (no b) =
-        let q : flagAt w E ((base + i) % w) ≡ 10 = mark-row w E base i ((base + i) % w) a refl ∙ e ∙ sym (mark-past w E base j (omega arith)) in
+        let q : flagAt w E ((oldest + i) % w) ≡ 10 = mark-row w E oldest i ((oldest + i) % w) a refl ∙ e ∙ sym (mark-past w E oldest j (omega arith)) in
         omega (arith, q)
     go (no a) (yes b) =
-        let q : flagAt w E ((base + j) % w) ≡ 10 = mark-row w E base j ((base + j) % w) b refl ∙ sym e ∙ sym (mark-past w E base i (omega arith)) in
+        let q : flagAt w E ((oldest + j) % w) ≡ 10 = mark-row w E oldest j ((oldest + j) % w) b refl ∙ sym e ∙ sym (mark-past w E oldest i (omega arith)) in
         omega (arith, q)
     go (no a) (no b) = n (omega arith)
 
 -- Where a mark stands is no byte that is no mark.
-pub no-mark : (w E base i k : ℕ) → 0 < w → NoMark w E k → k ≢ markAt w E base i
-no-mark w E base i k pos n e = go (decLt i w)
+pub no-mark : (w E oldest i k : ℕ) → 0 < w → NoMark w E k → k ≢ markAt w E oldest i
+no-mark w E oldest i k pos n e = go (decLt i w)
   where
     go : Dec (i < w) → ⊥
-    go (yes a) = n .rows ((base + i) % w) (mod-lt (base + i) pos) (e ∙ sym (mark-row w E base i ((base + i) % w) a refl))
-    go (no a) = n .header (e ∙ sym (mark-past w E base i (omega arith)))
+    go (yes a) = n .rows ((oldest + i) % w) (mod-lt (oldest + i) pos) (e ∙ sym (mark-row w E oldest i ((oldest + i) % w) a refl))
+    go (no a) = n .header (e ∙ sym (mark-past w E oldest i (omega arith)))
 
 -- ---- nothing but marks has changed
 
@@ -99,14 +99,14 @@ pub header-no-mark : (w E k : ℕ) → k < 64 → k ≢ 10 → NoMark w E k
 header-no-mark w E k h n = record { header = n; rows = λ r l e. omega (arith, e) }
 
 -- What is past the rows.
-pub past-no-mark : (w E k : ℕ) → place w E w ≤ k → NoMark w E k
+pub past-no-mark : (w E k : ℕ) → rowOffset w E w ≤ k → NoMark w E k
 past-no-mark w E k h = record { header = λ e. omega arith; rows = λ r l e. omega (arith, e, flag-inside w E r l) }
 
 -- A row up to its first flag.
-pub row-no-mark : (w E r k : ℕ) → k < w + E + 1 → NoMark w E (place w E r + k)
+pub row-no-mark : (w E r k : ℕ) → k < w + E + 1 → NoMark w E (rowOffset w E r + k)
 row-no-mark w E r k h = record { header = λ e. omega arith; rows = λ q l e. go q e (decLt r q) (decLt q r) }
   where
-    go : (q : ℕ) → place w E r + k ≡ flagAt w E q → Dec (r < q) → Dec (q < r) → ⊥
+    go : (q : ℕ) → rowOffset w E r + k ≡ flagAt w E q → Dec (r < q) → Dec (q < r) → ⊥
     go q e (yes l) d = omega (arith, e, row-fits q (stride w E) r l)
     go q e (no l) (yes g) = omega (arith, e, row-fits r (stride w E) q g)
     go q e (no l) (no g) = let s : q ≡ r = omega arith in omega (arith, e, ap (λ x. x * stride w E) s)
@@ -133,11 +133,11 @@ starts-fits f o = record {
 
 pub starts-window : {w E : ℕ} {m m′ : List ℕ} → 0 < w → OnlyStarts w E m m′ → (b : ℕ) (S : State (Coded E) w) → Window w E m b S → Window w E m′ b S
 starts-window {w} {E} {m} {m′} pos o =
-    window-same w E m m′ pos (λ r l k n. o .others (place w E r + k) (row-no-mark w E r k n) (λ e. omega (arith, e)))
+    window-same w E m m′ pos (λ r l k n. o .others (rowOffset w E r + k) (row-no-mark w E r k n) (λ e. omega (arith, e)))
 
 -- Byte 11 is no mark.
 pub note-no-mark : (w E : ℕ) → NoMark w E 11
 note-no-mark w E = header-no-mark w E 11 (omega arith) (λ e. omega (arith, e))
 
-pub mark-not-note : (w E base i : ℕ) → 0 < w → markAt w E base i ≢ 11
-mark-not-note w E base i pos e = no-mark w E base i 11 pos (note-no-mark w E) (sym e)
+pub mark-not-note : (w E oldest i : ℕ) → 0 < w → markAt w E oldest i ≢ 11
+mark-not-note w E oldest i pos e = no-mark w E oldest i 11 pos (note-no-mark w E) (sym e)

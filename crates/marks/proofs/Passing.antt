@@ -19,7 +19,7 @@ use Rattle.memory.proofs.Parts.{part-part}
 use Rattle.wire.specs.Packets.{symbolCount}
 use Rattle.decoder.specs.Bytes.{Coded}
 use Rattle.decoder.specs.Model.{State}
-use Rattle.table.specs.Window.{place, Window, Fits}
+use Rattle.table.specs.Window.{rowOffset, Window, Fits}
 use Rattle.placing.specs.Place.{Known}
 use Rattle.placing.proofs.Showing.{symbol-bytes}
 use Rattle.starts.specs.Adu.{needs, View}
@@ -47,17 +47,17 @@ not-noted m e = let l = ltb-false 0 (notedIn m) e in omega arith
 pub noted-only : {w E v : ℕ} {m m′ : List ℕ} → Noted v m m′ → OnlyStarts w E m m′
 noted-only f = record { size = f .size; others = λ k n d. f .rest k d }
 
-pub noted-marks : (w E base v : ℕ) (m m′ : List ℕ) (M : Starts) → 0 < w → Noted v m m′ → Marks w E base m M → Marks w E base m′ M
-noted-marks w E base v m m′ M pos f h i l = ap (ltb 0) (f .rest (markAt w E base i) (mark-not-note w E base i pos)) ∙ h i l
+pub noted-marks : (w E oldest v : ℕ) (m m′ : List ℕ) (M : Starts) → 0 < w → Noted v m m′ → Marks w E oldest m M → Marks w E oldest m′ M
+noted-marks w E oldest v m m′ M pos f h i l = ap (ltb 0) (f .rest (markAt w E oldest i) (mark-not-note w E oldest i pos)) ∙ h i l
 
 -- ---- the turn of the i-th position, in the row r
 
-module _ (w E base i r : ℕ) (m : List ℕ) (l : i < w) (here : r ≡ (base + i) % w) where
-  row-there : (b : ℕ) → b % w ≡ base → (b + i) % w ≡ r
+module _ (w E oldest i r : ℕ) (m : List ℕ) (l : i < w) (here : r ≡ (oldest + i) % w) where
+  row-there : (b : ℕ) → b % w ≡ oldest → (b + i) % w ≡ r
   row-there b e = sym (mod-add-mod b w i) ∙ ap (λ k. (k + i) % w) e ∙ sym here
 
   -- It is not known.
-  pub step-unknown : (t : Bool) → t ≡ false → Known w E r t m → Stepped w E base i w m m
+  pub step-unknown : (t : Bool) → t ≡ false → Known w E r t m → Stepped w E oldest i w m m
   step-unknown t f k = record {
     only = starts-refl;
     later = (l, omega arith);
@@ -67,24 +67,24 @@ module _ (w E base i r : ℕ) (m : List ℕ) (l : i < w) (here : r ≡ (base + i
         (λ o. Option·none-ne-some _ (sym (unseen b S e v) ∙ o .sees));
   }
     where
-      unseen : (b : ℕ) (S : State (Coded E) w) → b % w ≡ base → Window w E m b S → seen E w S i ≡ none
+      unseen : (b : ℕ) (S : State (Coded E) w) → b % w ≡ oldest → Window w E m b S → seen E w S i ≡ none
       unseen b S e v = ap (shown E) (subst (λ x. Known w E r x m) f k b i S l (row-there b e) v)
 
-      same : (b : ℕ) (S : State (Coded E) w) (M : Starts) → b % w ≡ base → Window w E m b S → (j : ℕ)
+      same : (b : ℕ) (S : State (Coded E) w) (M : Starts) → b % w ≡ oldest → Window w E m b S → (j : ℕ)
           → onward E (M i) (seen E w S i) i M j ≡ M j
       same b S M e v j = ap (λ o. onward E (M i) o i M j) (unseen b S e v) ∙ ap (λ N. N j) (onward-none E i (M i) M)
 
   -- It is marked and known, and the ADU that it begins needs n symbols.
-  module _ (at n L : ℕ) (fits : Fits w E m) (bytes : Bytes m) (place-of : at ≡ place w E r + w) (t : Bool) (yes-known : t ≡ true) (k : Known w E r t m)
+  module _ (at n L : ℕ) (fits : Fits w E m) (bytes : Bytes m) (offset-of : at ≡ rowOffset w E r + w) (t : Bool) (yes-known : t ≡ true) (k : Known w E r t m)
       (loaded : L ≡ number (part (at + 1) 2 m)) (count : n ≡ symbolCount E L)
-      (u : Bool) (mark : u ≡ marked w E base m i) (yes-marked : u ≡ true) where
+      (u : Bool) (mark : u ≡ marked w E oldest m i) (yes-marked : u ≡ true) where
     within : r < w
-    within = rw here (mod-lt (base + i) (fits .some-width))
+    within = rw here (mod-lt (oldest + i) (fits .some-width))
 
-    sees : (b : ℕ) (S : State (Coded E) w) → b % w ≡ base → Window w E m b S → seen E w S i ≡ some (part at E m)
+    sees : (b : ℕ) (S : State (Coded E) w) → b % w ≡ oldest → Window w E m b S → seen E w S i ≡ some (part at E m)
     sees b S e v =
         ap (shown E) (subst (λ x. Known w E r x m) yes-known k b i S l (row-there b e) v)
-        ∙ ap some (symbol-bytes w E r m fits within bytes ∙ ap (λ x. part x E m) (sym place-of))
+        ∙ ap some (symbol-bytes w E r m fits within bytes ∙ ap (λ x. part x E m) (sym offset-of))
 
     counts : needs E (part at E m) ≡ n
     counts = ap (λ x. symbolCount E x) (ap number (part-part at E 1 2 m (omega (arith, fits .some-symbol))) ∙ sym loaded) ∙ sym count
@@ -92,7 +92,7 @@ module _ (w E base i r : ℕ) (m : List ℕ) (l : i < w) (here : r ≡ (base + i
     some-needed : 0 < n
     some-needed = let s = needs-some E (part at E m) (omega (arith, fits .some-symbol)) in omega (arith, counts, s)
 
-    module _ (b : ℕ) (S : State (Coded E) w) (M : Starts) (e : b % w ≡ base) (v : Window w E m b S) (h : Marks w E base m M) where
+    module _ (b : ℕ) (S : State (Coded E) w) (M : Starts) (e : b % w ≡ oldest) (v : Window w E m b S) (h : Marks w E oldest m M) where
       turn : onward E (M i) (seen E w S i) i M ≡ also (i + n) M
       turn =
           ap (λ x. onward E x (seen E w S i) i M) (sym (h i (omega arith)) ∙ sym mark ∙ yes-marked) ∙ ap (λ o. onward E true o i M) (sees b S e v)
@@ -103,7 +103,7 @@ module _ (w E base i r : ℕ) (m : List ℕ) (l : i < w) (here : r ≡ (base + i
       turn-far g j q = ap (λ N. N j) turn ∙ ap (λ x. x || M j) (ne-eqb j (i + n) (λ z. omega (arith, z)))
 
       -- Nor does one that is marked already.
-      turn-marked : i + n ≤ w → marked w E base m (i + n) ≡ true → Agree w (onward E (M i) (seen E w S i) i M) M
+      turn-marked : i + n ≤ w → marked w E oldest m (i + n) ≡ true → Agree w (onward E (M i) (seen E w S i) i M) M
       turn-marked g y j q = ap (λ N. N j) turn ∙ go (ℕ-discrete j (i + n))
         where
           go : Dec (j ≡ i + n) → also (i + n) M j ≡ M j
@@ -114,7 +114,7 @@ module _ (w E base i r : ℕ) (m : List ℕ) (l : i < w) (here : r ≡ (base + i
       its-needs : (f : ℕ) (N : Starts) (o : Open E w (seen E w S) f N i) → needs E (o .bytes) ≡ n
       its-needs f N o = ap (needs E) (Option·some-injective _ _ (sym (o .sees) ∙ sees b S e v)) ∙ counts
 
-    pub step-long : w < n → Stepped w E base i w m m
+    pub step-long : w < n → Stepped w E oldest i w m m
     step-long g = record {
       only = starts-refl;
       later = (l, omega arith);
@@ -124,18 +124,18 @@ module _ (w E base i r : ℕ) (m : List ℕ) (l : i < w) (here : r ≡ (base + i
           (λ o. omega (arith, its-needs b S M e v h (notedIn m) M o, o .fits, g));
     }
 
-    pub step-far : (m′ : List ℕ) → w - i < n → Noted 1 m m′ → Stepped w E base i w m m′
+    pub step-far : (m′ : List ℕ) → w - i < n → Noted 1 m m′ → Stepped w E oldest i w m m′
     step-far m′ g a = record {
       only = noted-only a;
       later = (l, omega arith);
-      marks = λ b S M e v h j q. noted-marks w E base 1 m m′ M (fits .some-width) a h j q ∙ sym (turn-far b S M e v h g j q);
+      marks = λ b S M e v h j q. noted-marks w E oldest 1 m m′ M (fits .some-width) a h j q ∙ sym (turn-far b S M e v h g j q);
       opens = λ b S M e v h k o.
           noted E w (seen E w S) (notedIn m) M (onward E (M i) (seen E w S i) i M) i w (part at E m) (turn-far b S M e v h g) (sees b S e v)
           (omega (arith, counts, g, l)) k
           (subst (λ f. Open E w (seen E w S) f (onward E (M i) (seen E w S i) i M) k) (a .here) o);
     }
 
-    pub step-again : n ≤ w - i → (y : Bool) → y ≡ marked w E base m (i + n) → y ≡ true → Stepped w E base i w m m
+    pub step-again : n ≤ w - i → (y : Bool) → y ≡ marked w E oldest m (i + n) → y ≡ true → Stepped w E oldest i w m m
     step-again g y is yes-y = record {
       only = starts-refl;
       later = (l, omega arith);
@@ -148,7 +148,7 @@ module _ (w E base i r : ℕ) (m : List ℕ) (l : i < w) (here : r ≡ (base + i
           true≢false (sym at-end ∙ o .unmarked (omega (arith, z, g, l))));
     }
 
-    pub step-near : (m′ : List ℕ) → n ≤ w - i → Added w E base (i + n) m m′ → Stepped w E base i (i + n) m m′
+    pub step-near : (m′ : List ℕ) → n ≤ w - i → Added w E oldest (i + n) m m′ → Stepped w E oldest i (i + n) m m′
     step-near m′ g a = record {
       only = starts-of (a .only);
       later = (let s = some-needed in omega arith, omega arith);
@@ -162,8 +162,8 @@ module _ (w E base i r : ℕ) (m : List ℕ) (l : i < w) (here : r ≡ (base + i
     }
 
 -- It is not marked.
-pub step-unmarked : (w E base i : ℕ) (m : List ℕ) → i < w → (u : Bool) → u ≡ marked w E base m i → u ≡ false → Stepped w E base i w m m
-step-unmarked w E base i m l u is f = record {
+pub step-unmarked : (w E oldest i : ℕ) (m : List ℕ) → i < w → (u : Bool) → u ≡ marked w E oldest m i → u ≡ false → Stepped w E oldest i w m m
+step-unmarked w E oldest i m l u is f = record {
   only = starts-refl;
   later = (l, omega arith);
   marks = λ b S M e v h j g. h j g ∙ sym (same S M h j);
@@ -172,30 +172,30 @@ step-unmarked w E base i m l u is f = record {
       (λ o. true≢false (sym (o .mark) ∙ sym (h i (omega arith)) ∙ sym is ∙ f));
 }
   where
-    same : (S : State (Coded E) w) (M : Starts) → Marks w E base m M → (j : ℕ) → onward E (M i) (seen E w S i) i M j ≡ M j
+    same : (S : State (Coded E) w) (M : Starts) → Marks w E oldest m M → (j : ℕ) → onward E (M i) (seen E w S i) i M j ≡ M j
     same S M h j = ap (λ t. onward E t (seen E w S i) i M j) (sym (h i (omega arith)) ∙ sym is ∙ f)
 
 -- ---- the pass, so far through the first i positions
 
-pub record Passing (w E base i : ℕ) (m m′ : List ℕ) : Type 0 where
+pub record Passing (w E oldest i : ℕ) (m m′ : List ℕ) : Type 0 where
   pub only : OnlyStarts w E m m′
-  pub marks : (b : ℕ) (S : State (Coded E) w) (M : Starts) → b % w ≡ base → Window w E m b S → Marks w E base m M
-      → Marks w E base m′ (pass E (seen E w S) i M)
+  pub marks : (b : ℕ) (S : State (Coded E) w) (M : Starts) → b % w ≡ oldest → Window w E m b S → Marks w E oldest m M
+      → Marks w E oldest m′ (pass E (seen E w S) i M)
       × ((k : ℕ) → k < i → ¬ Open E w (seen E w S) (notedIn m′) (pass E (seen E w S) i M) k)
 
-pub passing-none : (w E base : ℕ) (m : List ℕ) → Passing w E base 0 m m
+pub passing-none : (w E oldest : ℕ) (m : List ℕ) → Passing w E oldest 0 m m
 unfolding pass
-passing-none w E base m = record { only = starts-refl; marks = λ b S M e v h. (h, λ k l. absurd (omega arith)) }
+passing-none w E oldest m = record { only = starts-refl; marks = λ b S M e v h. (h, λ k l. absurd (omega arith)) }
 
-pub passing-more : (w E base i r : ℕ) (m m₁ m₂ : List ℕ) → 0 < w → Passing w E base i m m₁ → Stepped w E base i r m₁ m₂ → Passing w E base (i + 1) m m₂
+pub passing-more : (w E oldest i r : ℕ) (m m₁ m₂ : List ℕ) → 0 < w → Passing w E oldest i m m₁ → Stepped w E oldest i r m₁ m₂ → Passing w E oldest (i + 1) m m₂
 unfolding pass
-passing-more w E base i r m m₁ m₂ pos f g = record {
+passing-more w E oldest i r m m₁ m₂ pos f g = record {
   only = starts-trans (f .only) (g .only);
   marks = λ b S M e v h.
       let P = pass E (seen E w S) i M in
       let v₁ = starts-window pos (f .only) b S v in
       let (h₁, shut) = f .marks b S M e v h in
-      subst (λ n. Marks w E base m₂ (pass E (seen E w S) n M) × ((k : ℕ) → k < n → ¬ Open E w (seen E w S) (notedIn m₂) (pass E (seen E w S) n M) k))
+      subst (λ n. Marks w E oldest m₂ (pass E (seen E w S) n M) × ((k : ℕ) → k < n → ¬ Open E w (seen E w S) (notedIn m₂) (pass E (seen E w S) n M) k))
       (sym (add-one i))
       (g .marks b S P e v₁ h₁, λ k l o. still (g .later .0) l (shut k) (g .opens b S P e v₁ h₁ k o));
 }
@@ -208,26 +208,26 @@ passing-more w E base i r m m₁ m₂ pos f g = record {
         below (yes q) = q
         below (no q) = absurd (n (omega arith))
 
-pub passed : (w E base i : ℕ) (m m′ : List ℕ) → i ≡ w → Passing w E base i m m′ → Passed w E base m m′
-passed w E base i m m′ e f = record {
+pub passed : (w E oldest i : ℕ) (m m′ : List ℕ) → i ≡ w → Passing w E oldest i m m′ → Passed w E oldest m m′
+passed w E oldest i m m′ e f = record {
   only = f .only;
   marks = λ b S M q v h.
       let (g, s) = f .marks b S M q v h in
-      subst (λ n. Marks w E base m′ (pass E (seen E w S) n M) × Settled E w (seen E w S) (notedIn m′) (pass E (seen E w S) n M)) e
+      subst (λ n. Marks w E oldest m′ (pass E (seen E w S) n M) × Settled E w (seen E w S) (notedIn m′) (pass E (seen E w S) n M)) e
       (g, λ k o. s k (omega (arith, o .inside, e)) o);
 }
 
 -- After the note was cleared.
-pub passed-all : (w E base : ℕ) (m m₁ m₂ : List ℕ) → 0 < w → Noted 0 m m₁ → Passed w E base m₁ m₂ → Passed w E base m m₂
-passed-all w E base m m₁ m₂ pos f g = record {
+pub passed-all : (w E oldest : ℕ) (m m₁ m₂ : List ℕ) → 0 < w → Noted 0 m m₁ → Passed w E oldest m₁ m₂ → Passed w E oldest m m₂
+passed-all w E oldest m m₁ m₂ pos f g = record {
   only = starts-trans (noted-only f) (g .only);
-  marks = λ b S M e v h. g .marks b S M e (starts-window pos (noted-only f) b S v) (noted-marks w E base 0 m m₁ M pos f h);
+  marks = λ b S M e v h. g .marks b S M e (starts-window pos (noted-only f) b S v) (noted-marks w E oldest 0 m m₁ M pos f h);
 }
 
 -- ---- walks
 
-pub followed-none : (w E base : ℕ) (P : ℕ → Type 0) (m : List ℕ) → ((k : ℕ) → P k → ⊥) → Followed w E base P m m
-followed-none w E base P m no-one = record {
+pub followed-none : (w E oldest : ℕ) (P : ℕ → Type 0) (m : List ℕ) → ((k : ℕ) → P k → ⊥) → Followed w E oldest P m m
+followed-none w E oldest P m no-one = record {
   only = starts-refl;
   kept = λ b S e v i l h. h;
   reached = λ b S e v i l h. seed h;
@@ -235,19 +235,19 @@ followed-none w E base P m no-one = record {
 }
 
 -- So far: i is the position that has its turn next.
-pub record Walking (w E base from i : ℕ) (m m′ : List ℕ) : Type 0 where
+pub record Walking (w E oldest from i : ℕ) (m m′ : List ℕ) : Type 0 where
   pub within : i ≤ w
   pub only : OnlyStarts w E m m′
-  pub kept : (b : ℕ) (S : State (Coded E) w) → b % w ≡ base → Window w E m b S
-      → (j : ℕ) → j ≤ w → marked w E base m j ≡ true → marked w E base m′ j ≡ true
-  pub reached : (b : ℕ) (S : State (Coded E) w) → b % w ≡ base → Window w E m b S
-      → (j : ℕ) → j ≤ w → marked w E base m′ j ≡ true → Reaches E w (seen E w S) (marked w E base m) j
-  pub opens : (b : ℕ) (S : State (Coded E) w) → b % w ≡ base → Window w E m b S
-      → (k : ℕ) → Open E w (seen E w S) (notedIn m′) (marked w E base m′) k
-      → (k ≡ i) ⊎ (Open E w (seen E w S) (notedIn m) (marked w E base m) k × (k ≢ from))
+  pub kept : (b : ℕ) (S : State (Coded E) w) → b % w ≡ oldest → Window w E m b S
+      → (j : ℕ) → j ≤ w → marked w E oldest m j ≡ true → marked w E oldest m′ j ≡ true
+  pub reached : (b : ℕ) (S : State (Coded E) w) → b % w ≡ oldest → Window w E m b S
+      → (j : ℕ) → j ≤ w → marked w E oldest m′ j ≡ true → Reaches E w (seen E w S) (marked w E oldest m) j
+  pub opens : (b : ℕ) (S : State (Coded E) w) → b % w ≡ oldest → Window w E m b S
+      → (k : ℕ) → Open E w (seen E w S) (notedIn m′) (marked w E oldest m′) k
+      → (k ≡ i) ⊎ (Open E w (seen E w S) (notedIn m) (marked w E oldest m) k × (k ≢ from))
 
-pub walking-none : (w E base from : ℕ) (m : List ℕ) → from ≤ w → Walking w E base from from m m
-walking-none w E base from m l = record {
+pub walking-none : (w E oldest from : ℕ) (m : List ℕ) → from ≤ w → Walking w E oldest from from m m
+walking-none w E oldest from m l = record {
   within = l;
   only = starts-refl;
   kept = λ b S e v j q h. h;
@@ -259,44 +259,44 @@ walking-none w E base from m l = record {
     go o (yes e) = inl e
     go o (no n) = inr (o, n)
 
-module _ (w E base i r : ℕ) (m m′ : List ℕ) (g : Stepped w E base i r m m′) (l : i < w) where
+module _ (w E oldest i r : ℕ) (m m′ : List ℕ) (g : Stepped w E oldest i r m m′) (l : i < w) where
   -- The marks after a turn, by those before it.
-  after-turn : (b : ℕ) (S : State (Coded E) w) → b % w ≡ base → Window w E m b S
-      → Marks w E base m′ (onward E (marked w E base m i) (seen E w S i) i (marked w E base m))
-  after-turn b S e v = g .marks b S (marked w E base m) e v (λ j q. refl)
+  after-turn : (b : ℕ) (S : State (Coded E) w) → b % w ≡ oldest → Window w E m b S
+      → Marks w E oldest m′ (onward E (marked w E oldest m i) (seen E w S i) i (marked w E oldest m))
+  after-turn b S e v = g .marks b S (marked w E oldest m) e v (λ j q. refl)
 
-  turn-keeps : (b : ℕ) (S : State (Coded E) w) → b % w ≡ base → Window w E m b S → (j : ℕ) → j ≤ w → marked w E base m j ≡ true
-      → marked w E base m′ j ≡ true
+  turn-keeps : (b : ℕ) (S : State (Coded E) w) → b % w ≡ oldest → Window w E m b S → (j : ℕ) → j ≤ w → marked w E oldest m j ≡ true
+      → marked w E oldest m′ j ≡ true
   turn-keeps b S e v j q h =
-      after-turn b S e v j q ∙ chaining.stays E (seen E w S) i (marked w E base m) (marked w E base m i) (seen E w S i) j h
+      after-turn b S e v j q ∙ chaining.stays E (seen E w S) i (marked w E oldest m) (marked w E oldest m i) (seen E w S i) j h
 
-  turn-reaches : (b : ℕ) (S : State (Coded E) w) → b % w ≡ base → Window w E m b S → (M : Starts)
-      → ((j : ℕ) → j ≤ w → marked w E base m j ≡ true → Reaches E w (seen E w S) M j)
-      → (j : ℕ) → j ≤ w → marked w E base m′ j ≡ true → Reaches E w (seen E w S) M j
+  turn-reaches : (b : ℕ) (S : State (Coded E) w) → b % w ≡ oldest → Window w E m b S → (M : Starts)
+      → ((j : ℕ) → j ≤ w → marked w E oldest m j ≡ true → Reaches E w (seen E w S) M j)
+      → (j : ℕ) → j ≤ w → marked w E oldest m′ j ≡ true → Reaches E w (seen E w S) M j
   turn-reaches b S e v M before j q h =
-      go (chaining.no-other E (seen E w S) i (marked w E base m) (marked w E base m i) (seen E w S i) j (sym (after-turn b S e v j q) ∙ h))
+      go (chaining.no-other E (seen E w S) i (marked w E oldest m) (marked w E oldest m i) (seen E w S i) j (sym (after-turn b S e v j q) ∙ h))
     where
-      go : (marked w E base m j ≡ true)
-          ⊎ ((x : List ℕ) × (marked w E base m i ≡ true) × (seen E w S i ≡ some x) × (j ≡ i + needs E x))
+      go : (marked w E oldest m j ≡ true)
+          ⊎ ((x : List ℕ) × (marked w E oldest m i ≡ true) × (seen E w S i ≡ some x) × (j ≡ i + needs E x))
           → Reaches E w (seen E w S) M j
       go (inl y) = before j q y
       go (inr (x, y, z, at)) = subst (Reaches E w (seen E w S) M) (sym at) (next (before i (omega arith) y) l z)
 
-  turn-opens : (b : ℕ) (S : State (Coded E) w) → b % w ≡ base → Window w E m b S → (k : ℕ)
-      → Open E w (seen E w S) (notedIn m′) (marked w E base m′) k
-      → (k ≡ r) ⊎ (Open E w (seen E w S) (notedIn m) (marked w E base m) k × (k ≢ i))
+  turn-opens : (b : ℕ) (S : State (Coded E) w) → b % w ≡ oldest → Window w E m b S → (k : ℕ)
+      → Open E w (seen E w S) (notedIn m′) (marked w E oldest m′) k
+      → (k ≡ r) ⊎ (Open E w (seen E w S) (notedIn m) (marked w E oldest m) k × (k ≢ i))
   turn-opens b S e v k o =
-      g .opens b S (marked w E base m) e v (λ j q. refl) k
-      (open-agree E w (seen E w S) (notedIn m′) (marked w E base m′) _ (after-turn b S e v) k o)
+      g .opens b S (marked w E oldest m) e v (λ j q. refl) k
+      (open-agree E w (seen E w S) (notedIn m′) (marked w E oldest m′) _ (after-turn b S e v) k o)
 
-pub walking-more : (w E base from i r : ℕ) (m m₁ m₂ : List ℕ) → 0 < w → i < w → Walking w E base from i m m₁ → Stepped w E base i r m₁ m₂
-    → Walking w E base from r m m₂
-walking-more w E base from i r m m₁ m₂ pos l f g = record {
+pub walking-more : (w E oldest from i r : ℕ) (m m₁ m₂ : List ℕ) → 0 < w → i < w → Walking w E oldest from i m m₁ → Stepped w E oldest i r m₁ m₂
+    → Walking w E oldest from r m m₂
+walking-more w E oldest from i r m m₁ m₂ pos l f g = record {
   within = g .later .1;
   only = starts-trans (f .only) (g .only);
-  kept = λ b S e v j q h. turn-keeps w E base i r m₁ m₂ g l b S e (starts-window pos (f .only) b S v) j q (f .kept b S e v j q h);
-  reached = λ b S e v. turn-reaches w E base i r m₁ m₂ g l b S e (starts-window pos (f .only) b S v) (marked w E base m) (f .reached b S e v);
-  opens = λ b S e v k o. go (turn-opens w E base i r m₁ m₂ g l b S e (starts-window pos (f .only) b S v) k o) (f .opens b S e v k);
+  kept = λ b S e v j q h. turn-keeps w E oldest i r m₁ m₂ g l b S e (starts-window pos (f .only) b S v) j q (f .kept b S e v j q h);
+  reached = λ b S e v. turn-reaches w E oldest i r m₁ m₂ g l b S e (starts-window pos (f .only) b S v) (marked w E oldest m) (f .reached b S e v);
+  opens = λ b S e v k o. go (turn-opens w E oldest i r m₁ m₂ g l b S e (starts-window pos (f .only) b S v) k o) (f .opens b S e v k);
 }
   where
     go : {k : ℕ} {A B : Type 0} → (k ≡ r) ⊎ (A × (k ≢ i)) → (A → (k ≡ i) ⊎ (B × (k ≢ from))) → (k ≡ r) ⊎ (B × (k ≢ from))
@@ -307,8 +307,8 @@ walking-more w E base from i r m m₁ m₂ pos l f g = record {
         last (inl e) = absurd (n e)
         last (inr b) = inr b
 
-pub walked : (w E base from i : ℕ) (m m′ : List ℕ) → w ≤ i → Walking w E base from i m m′ → Followed w E base (λ k. k ≡ from) m m′
-walked w E base from i m m′ l f = record {
+pub walked : (w E oldest from i : ℕ) (m m′ : List ℕ) → w ≤ i → Walking w E oldest from i m m′ → Followed w E oldest (λ k. k ≡ from) m m′
+walked w E oldest from i m m′ l f = record {
   only = f .only;
   kept = f .kept;
   reached = f .reached;
@@ -320,10 +320,10 @@ walked w E base from i m m′ l f = record {
     go h (inr b) = b
 
 -- One walk after others.
-pub followed-more : (w E base first i : ℕ) (m m₁ m₂ : List ℕ) → 0 < w
-    → Followed w E base (λ k. (first ≤ k) × (k < first + i)) m m₁ → Followed w E base (λ k. k ≡ first + i) m₁ m₂
-    → Followed w E base (λ k. (first ≤ k) × (k < first + (i + 1))) m m₂
-followed-more w E base first i m m₁ m₂ pos f g = record {
+pub followed-more : (w E oldest first i : ℕ) (m m₁ m₂ : List ℕ) → 0 < w
+    → Followed w E oldest (λ k. (first ≤ k) × (k < first + i)) m m₁ → Followed w E oldest (λ k. k ≡ first + i) m₁ m₂
+    → Followed w E oldest (λ k. (first ≤ k) × (k < first + (i + 1))) m m₂
+followed-more w E oldest first i m m₁ m₂ pos f g = record {
   only = starts-trans (f .only) (g .only);
   kept = λ b S e v j q h. g .kept b S e (starts-window pos (f .only) b S v) j q (f .kept b S e v j q h);
   reached = λ b S e v j q h. through b S e v (g .reached b S e (starts-window pos (f .only) b S v) j q h) q;
@@ -333,8 +333,8 @@ followed-more w E base first i m m₁ m₂ pos f g = record {
       (z, λ (a, c). apart k n d a c (decLt k (first + i)));
 }
   where
-    through : (b : ℕ) (S : State (Coded E) w) → b % w ≡ base → Window w E m b S → {j : ℕ}
-        → Reaches E w (seen E w S) (marked w E base m₁) j → j ≤ w → Reaches E w (seen E w S) (marked w E base m) j
+    through : (b : ℕ) (S : State (Coded E) w) → b % w ≡ oldest → Window w E m b S → {j : ℕ}
+        → Reaches E w (seen E w S) (marked w E oldest m₁) j → j ≤ w → Reaches E w (seen E w S) (marked w E oldest m) j
     through b S e v (seed {j} h) q = f .reached b S e v j q h
     through b S e v (next c l h) q = next (through b S e v c (omega arith)) l h
 
@@ -342,13 +342,13 @@ followed-more w E base first i m m₁ m₂ pos f g = record {
     apart k n d a c (yes q) = d (a, q)
     apart k n d a c (no q) = n (omega arith)
 
-pub followed-to : (w E base first i n : ℕ) (m m′ : List ℕ) → i ≡ n → Followed w E base (λ k. (first ≤ k) × (k < first + i)) m m′
-    → Followed w E base (λ k. (first ≤ k) × (k < first + n)) m m′
-followed-to w E base first i n m m′ e f = subst (λ x. Followed w E base (λ k. (first ≤ k) × (k < first + x)) m m′) e f
+pub followed-to : (w E oldest first i n : ℕ) (m m′ : List ℕ) → i ≡ n → Followed w E oldest (λ k. (first ≤ k) × (k < first + i)) m m′
+    → Followed w E oldest (λ k. (first ≤ k) × (k < first + n)) m m′
+followed-to w E oldest first i n m m′ e f = subst (λ x. Followed w E oldest (λ k. (first ≤ k) × (k < first + x)) m m′) e f
 
-pub followed-own : (w E base first n : ℕ) (m m′ : List ℕ) → Followed w E base (λ k. (first ≤ k) × (k < first + (n + 1))) m m′
-    → Followed w E base (λ k. (0 < n) × (first ≤ k) × (k < first + (n + 1))) m m′
-followed-own w E base first n m m′ f = record {
+pub followed-own : (w E oldest first n : ℕ) (m m′ : List ℕ) → Followed w E oldest (λ k. (first ≤ k) × (k < first + (n + 1))) m m′
+    → Followed w E oldest (λ k. (0 < n) × (first ≤ k) × (k < first + (n + 1))) m m′
+followed-own w E oldest first n m m′ f = record {
   only = f .only;
   kept = f .kept;
   reached = f .reached;
@@ -358,9 +358,9 @@ followed-own w E base first n m m′ f = record {
 -- ---- after a packet
 
 -- It has symbols of its own.
-pub owned-some : (w E base first n : ℕ) (m m₁ m₂ : List ℕ) → n ≢ 0 → Added w E base (first + n) m m₁ → Added w E base first m₁ m₂
-    → Owned w E base first n m m₂
-owned-some w E base first n m m₁ m₂ own f g = record {
+pub owned-some : (w E oldest first n : ℕ) (m m₁ m₂ : List ℕ) → n ≢ 0 → Added w E oldest (first + n) m m₁ → Added w E oldest first m₁ m₂
+    → Owned w E oldest first n m m₂
+owned-some w E oldest first n m m₁ m₂ own f g = record {
   only = only-trans (f .only) (g .only);
   marks = λ M h i l.
       g .marks (also (first + n) M) (f .marks M h) i l
@@ -372,15 +372,15 @@ owned-some w E base first n m m₁ m₂ own f g = record {
     positive (suc n) h = omega arith
 
 -- It has none.
-pub owned-none : (w E base first n : ℕ) (m : List ℕ) → n ≡ 0 → Owned w E base first n m m
-owned-none w E base first n m e = record {
+pub owned-none : (w E oldest first n : ℕ) (m : List ℕ) → n ≡ 0 → Owned w E oldest first n m m
+owned-none w E oldest first n m e = record {
   only = only-refl;
   marks = λ M h i l. h i l ∙ sym (ap (λ t. cond t (also first (also (first + n) M)) M i) (le-ltb 0 n (omega arith)));
 }
 
 -- The marks after the packet: those of the pass, and settled.
-module _ (w E oldest base rise first n : ℕ) (others : Bool) (m m₁ m₂ m₃ : List ℕ) (fits : Fits w E m) (is : base ≡ (oldest + rise) % w)
-    (f : Moved w E oldest rise m m₁) (g : Owned w E base first n m₁ m₂) (p : Extended w E base rise first n others m₂ m₃) where
+module _ (w E former oldest rise first n : ℕ) (others : Bool) (m m₁ m₂ m₃ : List ℕ) (fits : Fits w E m) (is : oldest ≡ (former + rise) % w)
+    (f : Moved w E former rise m m₁) (g : Owned w E oldest first n m₁ m₂) (p : Extended w E oldest rise first n others m₂ m₃) where
   pos : 0 < w
   pos = fits .some-width
 
@@ -390,49 +390,49 @@ module _ (w E oldest base rise first n : ℕ) (others : Bool) (m m₁ m₂ m₃ 
   note-same : notedIn m₂ ≡ notedIn m
   note-same = g .only .others 11 (note-no-mark w E) ∙ f .only .others 11 (note-no-mark w E)
 
-  module _ (b : ℕ) (before : View) (S : State (Coded E) w) (M : Starts) (e : b % w ≡ base) (v : Window w E m b S) (h : Marks w E oldest m M)
+  module _ (b : ℕ) (before : View) (S : State (Coded E) w) (M : Starts) (e : b % w ≡ oldest) (v : Window w E m b S) (h : Marks w E former m M)
       (s : Settled E w before (notedIn m) M) (old : others ≡ false → Old w rise first n before (seen E w S)) where
     abbrev N : Starts
     N = owning first n (moved w rise M)
 
-    owned : Marks w E base m₂ N
+    owned : Marks w E oldest m₂ N
     owned = g .marks (moved w rise M) (subst (λ x. Marks w E x m₁ (moved w rise M)) (sym is) (f .marks M h))
 
     v₂ : Window w E m₂ b S
     v₂ = starts-window pos first-only b S v
 
-    result : Passed w E base m₂ m₃
-        ⊎ (MayWalk rise others m₂ × Followed w E base (λ k. (0 < n) × (first ≤ k) × (k < first + (n + 1))) m₂ m₃)
-        → Marks w E base m₃ (pass E (seen E w S) w N) × Settled E w (seen E w S) (notedIn m₃) (pass E (seen E w S) w N)
+    result : Passed w E oldest m₂ m₃
+        ⊎ (MayWalk rise others m₂ × Followed w E oldest (λ k. (0 < n) × (first ≤ k) × (k < first + (n + 1))) m₂ m₃)
+        → Marks w E oldest m₃ (pass E (seen E w S) w N) × Settled E w (seen E w S) (notedIn m₃) (pass E (seen E w S) w N)
     result (inl q) = q .marks b S N e v₂ owned
     result (inr ((no-others, may), q)) =
-        (agrees, settled-agree E w (seen E w S) (notedIn m₃) (marked w E base m₃) (pass E (seen E w S) w N) agrees settled)
+        (agrees, settled-agree E w (seen E w S) (notedIn m₃) (marked w E oldest m₃) (pass E (seen E w S) w N) agrees settled)
       where
         noted-before : (rise ≡ 0) ⊎ (notedIn m₂ ≡ 0) → (rise ≡ 0) ⊎ (notedIn m ≡ 0)
         noted-before (inl z) = inl z
         noted-before (inr z) = inr (sym note-same ∙ z)
 
-        settled : Settled E w (seen E w S) (notedIn m₃) (marked w E base m₃)
+        settled : Settled E w (seen E w S) (notedIn m₃) (marked w E oldest m₃)
         settled k o =
             let (z, away) = q .opens b S e v₂ k o in
-            let y = subst (λ x. Open E w (seen E w S) x (marked w E base m₂) k) note-same z in
+            let y = subst (λ x. Open E w (seen E w S) x (marked w E oldest m₂) k) note-same z in
             nothing-open E w rise first n (notedIn m) before (seen E w S) M s (old no-others) (noted-before may) k away
-            (open-agree E w (seen E w S) (notedIn m) (marked w E base m₂) N owned k y)
+            (open-agree E w (seen E w S) (notedIn m) (marked w E oldest m₂) N owned k y)
 
-        reaches : (j : ℕ) → j ≤ w → marked w E base m₃ j ≡ true → Reaches E w (seen E w S) N j
-        reaches j l t = reaches-agree E w (seen E w S) (marked w E base m₂) N owned l (q .reached b S e v₂ j l t)
+        reaches : (j : ℕ) → j ≤ w → marked w E oldest m₃ j ≡ true → Reaches E w (seen E w S) N j
+        reaches j l t = reaches-agree E w (seen E w S) (marked w E oldest m₂) N owned l (q .reached b S e v₂ j l t)
 
-        agrees : Agree w (marked w E base m₃) (pass E (seen E w S) w N)
+        agrees : Agree w (marked w E oldest m₃) (pass E (seen E w S) w N)
         agrees =
-            is-pass E w (seen E w S) (omega (arith, fits .some-symbol)) (notedIn m₃) N (marked w E base m₃)
+            is-pass E w (seen E w S) (omega (arith, fits .some-symbol)) (notedIn m₃) N (marked w E oldest m₃)
             (λ j l t. q .kept b S e v₂ j l (owned j l ∙ t)) reaches settled
 
-  how-only : Passed w E base m₂ m₃
-      ⊎ (MayWalk rise others m₂ × Followed w E base (λ k. (0 < n) × (first ≤ k) × (k < first + (n + 1))) m₂ m₃) → OnlyStarts w E m₂ m₃
+  how-only : Passed w E oldest m₂ m₃
+      ⊎ (MayWalk rise others m₂ × Followed w E oldest (λ k. (0 < n) × (first ≤ k) × (k < first + (n + 1))) m₂ m₃) → OnlyStarts w E m₂ m₃
   how-only (inl q) = q .only
   how-only (inr (z, q)) = q .only
 
-  pub updated : Updated w E oldest rise first n others m m₃
+  pub updated : Updated w E former rise first n others m m₃
   updated = record {
     only = starts-trans first-only (how-only (p .how));
     marks = λ b before S M e v h s old.

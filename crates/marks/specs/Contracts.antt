@@ -13,20 +13,20 @@ use Rattle.starts.specs.Settled.{Settled}
 -- No position is marked, wherever the base will be.
 pub record Cleared (w E : ℕ) (m m′ : List ℕ) : Type 0 where
   pub only : OnlyMarks w E m m′
-  pub marks : (base : ℕ) → Marks w E base m′ nowhere
+  pub marks : (oldest : ℕ) → Marks w E oldest m′ nowhere
 
 -- One more position is marked.
-pub record Added (w E base i : ℕ) (m m′ : List ℕ) : Type 0 where
+pub record Added (w E oldest i : ℕ) (m m′ : List ℕ) : Type 0 where
   pub only : OnlyMarks w E m m′
-  pub marks : (M : Starts) → Marks w E base m M → Marks w E base m′ (also i M)
+  pub marks : (M : Starts) → Marks w E oldest m M → Marks w E oldest m′ (also i M)
 
 -- The base has risen from the row `base` on.
-pub record Moved (w E base rise : ℕ) (m m′ : List ℕ) : Type 0 where
+pub record Moved (w E oldest rise : ℕ) (m m′ : List ℕ) : Type 0 where
   pub only : OnlyMarks w E m m′
-  pub marks : (M : Starts) → Marks w E base m M → Marks w E ((base + rise) % w) m′ (moved w rise M)
+  pub marks : (M : Starts) → Marks w E oldest m M → Marks w E ((oldest + rise) % w) m′ (moved w rise M)
 
 -- The pass through the window has been made.
-pub record Passed (w E base : ℕ) (m m′ : List ℕ) : Type 0 where
+pub record Passed (w E oldest : ℕ) (m m′ : List ℕ) : Type 0 where
   pub only : OnlyStarts w E m m′
-  pub marks : (b : ℕ) (S : State (Coded E) w) (M : Starts) → b % w ≡ base → Window w E m b S → Marks w E base m M
-      → Marks w E base m′ (pass E (seen E w S) w M) × Settled E w (seen E w S) (notedIn m′) (pass E (seen E w S) w M)
+  pub marks : (b : ℕ) (S : State (Coded E) w) (M : Starts) → b % w ≡ oldest → Window w E m b S → Marks w E oldest m M
+      → Marks w E oldest m′ (pass E (seen E w S) w M) × Settled E w (seen E w S) (notedIn m′) (pass E (seen E w S) w M)

@@ -7,23 +7,23 @@ use mathlib.Core.List.{List}
 use Prim.Native.Nat.{ℕ, _+_, _%_, _≤_, _<_}
 use lib.ListN.{length, getD}
 use lib.Dec.{ltb}
-use Rattle.table.specs.Window.{place}
+use Rattle.table.specs.Window.{rowOffset}
 use Rattle.starts.specs.Starts.{Starts}
 
 -- Where the mark of the row r, and of the i-th position from that of the row `base` on, stands.
 abbrev pub flagAt : (w E r : ℕ) → ℕ
-flagAt w E r = place w E r + (w + E + 1)
+flagAt w E r = rowOffset w E r + (w + E + 1)
 
-abbrev pub markAt : (w E base i : ℕ) → ℕ
-markAt w E base i = cond (ltb i w) (flagAt w E ((base + i) % w)) 10
+abbrev pub markAt : (w E oldest i : ℕ) → ℕ
+markAt w E oldest i = cond (ltb i w) (flagAt w E ((oldest + i) % w)) 10
 
 -- The byte there says whether the position is marked.
-abbrev pub marked : (w E base : ℕ) → List ℕ → Starts
-marked w E base m i = ltb 0 (getD m (markAt w E base i) 0)
+abbrev pub marked : (w E oldest : ℕ) → List ℕ → Starts
+marked w E oldest m i = ltb 0 (getD m (markAt w E oldest i) 0)
 
 -- The memory has these marks.
-abbrev pub Marks : (w E base : ℕ) → List ℕ → Starts → Type 0
-Marks w E base m M = (i : ℕ) → i ≤ w → marked w E base m i ≡ M i
+abbrev pub Marks : (w E oldest : ℕ) → List ℕ → Starts → Type 0
+Marks w E oldest m M = (i : ℕ) → i ≤ w → marked w E oldest m i ≡ M i
 
 -- A byte that is no mark.
 pub record NoMark (w E k : ℕ) : Type 0 where

@@ -2,7 +2,7 @@
 ghost use mathlib.Core.Path.{_≡_};
 ghost use Prim.Native.Nat.{_+_, _%_, _≤_, _<_};
 ghost use lib.ListN.{length};
-ghost use Rattle.table.specs.Window.{place, Fits};
+ghost use Rattle.table.specs.Window.{rowOffset, Fits};
 ghost use Rattle.marks.specs.Marks.{markAt, marked};
 ghost use Rattle.marks.specs.MarkSteps.{Written, Dropped, Noted, Stepped, Followed, Owned, Decided, Extended, Updated, OneKnown, Tallied};
 ghost use Rattle.marks.specs.Contracts.{Cleared, Added, Moved, Passed};
@@ -10,17 +10,17 @@ use table::Shape;
 
 // The row of the i-th position of the window.
 pub fn row_of(shape: Shape, i: usize) -> usize
-    requires { ⌜ (shape .base < shape .width) × (i < shape .width) × (shape .width ≤ 255) ⌝ }
-    ensures { λ r. ⌜ (r ≡ (shape .base + i) % shape .width) × (r < shape .width) ⌝ }
+    requires { ⌜ (shape .oldest < shape .width) × (i < shape .width) × (shape .width ≤ 255) ⌝ }
+    ensures { λ r. ⌜ (r ≡ (shape .oldest + i) % shape .width) × (r < shape .width) ⌝ }
 {
-    let r = shape.base + i;
+    let r = shape.oldest + i;
     if r < shape.width { r } else { r - shape.width }
 }
 
 // Where the mark of the i-th position of the window, or of the one just past it, stands.
 fn mark_at(shape: Shape, i: usize) -> usize
-    requires { ⌜ (shape .base < shape .width) × (i ≤ shape .width) × (shape .width ≤ 255) × (shape .size ≤ 1500) ⌝ }
-    ensures { λ at. ⌜ (at ≡ markAt (shape .width) (shape .size) (shape .base) i) × (at < place (shape .width) (shape .size) (shape .width)) ⌝ }
+    requires { ⌜ (shape .oldest < shape .width) × (i ≤ shape .width) × (shape .width ≤ 255) × (shape .size ≤ 1500) ⌝ }
+    ensures { λ at. ⌜ (at ≡ markAt (shape .width) (shape .size) (shape .oldest) i) × (at < rowOffset (shape .width) (shape .size) (shape .width)) ⌝ }
 {
     let w = shape.width;
     if i < w {
@@ -35,16 +35,16 @@ fn mark_at(shape: Shape, i: usize) -> usize
 // Where the symbol of the row `r` begins.
 pub fn symbol_at(shape: Shape, r: usize) -> usize
     requires { ⌜ (r < shape .width) × (shape .width ≤ 255) × (shape .size ≤ 1500) ⌝ }
-    ensures { λ at. ⌜ (at ≡ place (shape .width) (shape .size) r + shape .width)
-        × (at + shape .size ≤ place (shape .width) (shape .size) (shape .width)) ⌝ }
+    ensures { λ at. ⌜ (at ≡ rowOffset (shape .width) (shape .size) r + shape .width)
+        × (at + shape .size ≤ rowOffset (shape .width) (shape .size) (shape .width)) ⌝ }
 {
     64 + r * (shape.width + shape.size + 4) + shape.width
 }
 
 // One if the i-th position is one of the window and known, else zero.
 fn one_known(mem: &[u8], shape: Shape, i: usize) -> usize
-    requires { ⌜ Fits (shape .width) (shape .size) (now mem) × (shape .base < shape .width) ⌝ }
-    ensures { λ r. ⌜ OneKnown (shape .width) (shape .size) (shape .base) i r (now (mem .entry)) ⌝ }
+    requires { ⌜ Fits (shape .width) (shape .size) (now mem) × (shape .oldest < shape .width) ⌝ }
+    ensures { λ r. ⌜ OneKnown (shape .width) (shape .size) (shape .oldest) i r (now (mem .entry)) ⌝ }
 {
     if shape.width <= i {
         return 0;
@@ -59,8 +59,8 @@ fn one_known(mem: &[u8], shape: Shape, i: usize) -> usize
 
 // How many of the n positions from `first` on are known.
 pub fn known_among(mem: &[u8], shape: Shape, first: usize, n: usize) -> usize
-    requires { ⌜ Fits (shape .width) (shape .size) (now mem) × (shape .base < shape .width) × (first + n ≤ 100000) ⌝ }
-    ensures { λ r. ⌜ Tallied (shape .width) (shape .size) (shape .base) first n r (now (mem .entry)) ⌝ }
+    requires { ⌜ Fits (shape .width) (shape .size) (now mem) × (shape .oldest < shape .width) × (first + n ≤ 100000) ⌝ }
+    ensures { λ r. ⌜ Tallied (shape .width) (shape .size) (shape .oldest) first n r (now (mem .entry)) ⌝ }
 {
     let mut count: usize = 0;
     for i in 0..n {
@@ -71,8 +71,8 @@ pub fn known_among(mem: &[u8], shape: Shape, first: usize, n: usize) -> usize
 
 // Whether the i-th position of the window, or the one just past it, is marked.
 pub fn is_marked(mem: &[u8], shape: Shape, i: usize) -> bool
-    requires { ⌜ Fits (shape .width) (shape .size) (now mem) × (shape .base < shape .width) × (i ≤ shape .width) ⌝ }
-    ensures { λ r. ⌜ r ≡ marked (shape .width) (shape .size) (shape .base) (now (mem .entry)) i ⌝ }
+    requires { ⌜ Fits (shape .width) (shape .size) (now mem) × (shape .oldest < shape .width) × (i ≤ shape .width) ⌝ }
+    ensures { λ r. ⌜ r ≡ marked (shape .width) (shape .size) (shape .oldest) (now (mem .entry)) i ⌝ }
 {
     let at = mark_at(shape, i);
     0 < mem[at]
@@ -80,8 +80,8 @@ pub fn is_marked(mem: &[u8], shape: Shape, i: usize) -> bool
 
 // The byte of the i-th position's mark becomes `v`.
 fn write(mem: &mut [u8], shape: Shape, i: usize, v: u8)
-    requires { ⌜ Fits (shape .width) (shape .size) (now mem) × (shape .base < shape .width) × (i ≤ shape .width) ⌝ }
-    ensures { λ _. ⌜ Written (shape .width) (shape .size) (shape .base) i v (now (mem .entry)) (now (mem .exit)) ⌝ }
+    requires { ⌜ Fits (shape .width) (shape .size) (now mem) × (shape .oldest < shape .width) × (i ≤ shape .width) ⌝ }
+    ensures { λ _. ⌜ Written (shape .width) (shape .size) (shape .oldest) i v (now (mem .entry)) (now (mem .exit)) ⌝ }
 {
     let at = mark_at(shape, i);
     mem[at] = v;
@@ -89,8 +89,8 @@ fn write(mem: &mut [u8], shape: Shape, i: usize, v: u8)
 
 // The first n positions are no longer marked.
 fn drop_first(mem: &mut [u8], shape: Shape, n: usize)
-    requires { ⌜ Fits (shape .width) (shape .size) (now mem) × (shape .base < shape .width) × (n ≤ shape .width + 1) ⌝ }
-    ensures { λ _. ⌜ Dropped (shape .width) (shape .size) (shape .base) n (now (mem .entry)) (now (mem .exit)) ⌝ }
+    requires { ⌜ Fits (shape .width) (shape .size) (now mem) × (shape .oldest < shape .width) × (n ≤ shape .width + 1) ⌝ }
+    ensures { λ _. ⌜ Dropped (shape .width) (shape .size) (shape .oldest) n (now (mem .entry)) (now (mem .exit)) ⌝ }
 {
     for i in 0..n {
         write(mem, shape, i, 0);
@@ -99,15 +99,15 @@ fn drop_first(mem: &mut [u8], shape: Shape, n: usize)
 
 // The i-th position of the window, or the one just past it, is marked.
 fn set(mem: &mut [u8], shape: Shape, i: usize)
-    requires { ⌜ Fits (shape .width) (shape .size) (now mem) × (shape .base < shape .width) × (i ≤ shape .width) ⌝ }
-    ensures { λ _. ⌜ Added (shape .width) (shape .size) (shape .base) i (now (mem .entry)) (now (mem .exit)) ⌝ }
+    requires { ⌜ Fits (shape .width) (shape .size) (now mem) × (shape .oldest < shape .width) × (i ≤ shape .width) ⌝ }
+    ensures { λ _. ⌜ Added (shape .width) (shape .size) (shape .oldest) i (now (mem .entry)) (now (mem .exit)) ⌝ }
 {
     write(mem, shape, i, 1);
 }
 
 // No position is marked.
 pub fn clear(mem: &mut [u8], shape: Shape)
-    requires { ⌜ Fits (shape .width) (shape .size) (now mem) × (shape .base < shape .width) ⌝ }
+    requires { ⌜ Fits (shape .width) (shape .size) (now mem) × (shape .oldest < shape .width) ⌝ }
     ensures { λ _. ⌜ Cleared (shape .width) (shape .size) (now (mem .entry)) (now (mem .exit)) ⌝ }
 {
     drop_first(mem, shape, shape.width + 1);
@@ -115,8 +115,8 @@ pub fn clear(mem: &mut [u8], shape: Shape)
 
 // The window moves on by `rise` positions: marks below its base are dropped, and the one just past it comes into a row.
 fn move_on(mem: &mut [u8], shape: Shape, rise: usize)
-    requires { ⌜ Fits (shape .width) (shape .size) (now mem) × (shape .base < shape .width) ⌝ }
-    ensures { λ _. ⌜ Moved (shape .width) (shape .size) (shape .base) rise (now (mem .entry)) (now (mem .exit)) ⌝ }
+    requires { ⌜ Fits (shape .width) (shape .size) (now mem) × (shape .oldest < shape .width) ⌝ }
+    ensures { λ _. ⌜ Moved (shape .width) (shape .size) (shape .oldest) rise (now (mem .entry)) (now (mem .exit)) ⌝ }
 {
     if rise == 0 {
         return;
@@ -143,8 +143,8 @@ fn note(mem: &mut [u8], v: u8)
 // The turn of the i-th position in the pass: if it is marked and known, it marks the position where the ADU that it begins ends. Gives that
 // position if it was not marked before, else the width.
 fn step(mem: &mut [u8], shape: Shape, i: usize) -> usize
-    requires { ⌜ Fits (shape .width) (shape .size) (now mem) × (shape .base < shape .width) × (i < shape .width) ⌝ }
-    ensures { λ r. ⌜ Stepped (shape .width) (shape .size) (shape .base) i r (now (mem .entry)) (now (mem .exit)) ⌝ }
+    requires { ⌜ Fits (shape .width) (shape .size) (now mem) × (shape .oldest < shape .width) × (i < shape .width) ⌝ }
+    ensures { λ r. ⌜ Stepped (shape .width) (shape .size) (shape .oldest) i r (now (mem .entry)) (now (mem .exit)) ⌝ }
 {
     let w = shape.width;
     if !is_marked(mem, shape, i) {
@@ -172,8 +172,8 @@ fn step(mem: &mut [u8], shape: Shape, i: usize) -> usize
 
 // The turns of all positions of the window, rising.
 fn step_all(mem: &mut [u8], shape: Shape)
-    requires { ⌜ Fits (shape .width) (shape .size) (now mem) × (shape .base < shape .width) ⌝ }
-    ensures { λ _. ⌜ Passed (shape .width) (shape .size) (shape .base) (now (mem .entry)) (now (mem .exit)) ⌝ }
+    requires { ⌜ Fits (shape .width) (shape .size) (now mem) × (shape .oldest < shape .width) ⌝ }
+    ensures { λ _. ⌜ Passed (shape .width) (shape .size) (shape .oldest) (now (mem .entry)) (now (mem .exit)) ⌝ }
 {
     let w = shape.width;
     for i in 0..w {
@@ -183,8 +183,8 @@ fn step_all(mem: &mut [u8], shape: Shape)
 
 // A marked known position marks the one where the ADU that it begins ends, rising through the window.
 fn pass(mem: &mut [u8], shape: Shape)
-    requires { ⌜ Fits (shape .width) (shape .size) (now mem) × (shape .base < shape .width) ⌝ }
-    ensures { λ _. ⌜ Passed (shape .width) (shape .size) (shape .base) (now (mem .entry)) (now (mem .exit)) ⌝ }
+    requires { ⌜ Fits (shape .width) (shape .size) (now mem) × (shape .oldest < shape .width) ⌝ }
+    ensures { λ _. ⌜ Passed (shape .width) (shape .size) (shape .oldest) (now (mem .entry)) (now (mem .exit)) ⌝ }
 {
     note(mem, 0);
     step_all(mem, shape);
@@ -192,8 +192,8 @@ fn pass(mem: &mut [u8], shape: Shape)
 
 // The turns of the position `from`, and of the one that it marks, and so on.
 fn walk(mem: &mut [u8], shape: Shape, from: usize)
-    requires { ⌜ Fits (shape .width) (shape .size) (now mem) × (shape .base < shape .width) × (from ≤ shape .width) ⌝ }
-    ensures { λ _. ⌜ Followed (shape .width) (shape .size) (shape .base) (λ k. k ≡ from) (now (mem .entry)) (now (mem .exit)) ⌝ }
+    requires { ⌜ Fits (shape .width) (shape .size) (now mem) × (shape .oldest < shape .width) × (from ≤ shape .width) ⌝ }
+    ensures { λ _. ⌜ Followed (shape .width) (shape .size) (shape .oldest) (λ k. k ≡ from) (now (mem .entry)) (now (mem .exit)) ⌝ }
 {
     let w = shape.width;
     let mut i = from;
@@ -204,8 +204,8 @@ fn walk(mem: &mut [u8], shape: Shape, from: usize)
 
 // Walks from each of the n positions from `first` on.
 fn walk_all(mem: &mut [u8], shape: Shape, first: usize, n: usize)
-    requires { ⌜ Fits (shape .width) (shape .size) (now mem) × (shape .base < shape .width) × (first + n ≤ shape .width + 1) ⌝ }
-    ensures { λ _. ⌜ Followed (shape .width) (shape .size) (shape .base) (λ k. (first ≤ k) × (k < first + n)) (now (mem .entry)) (now (mem .exit)) ⌝ }
+    requires { ⌜ Fits (shape .width) (shape .size) (now mem) × (shape .oldest < shape .width) × (first + n ≤ shape .width + 1) ⌝ }
+    ensures { λ _. ⌜ Followed (shape .width) (shape .size) (shape .oldest) (λ k. (first ≤ k) × (k < first + n)) (now (mem .entry)) (now (mem .exit)) ⌝ }
 {
     for i in 0..n {
         walk(mem, shape, first + i);
@@ -214,8 +214,8 @@ fn walk_all(mem: &mut [u8], shape: Shape, first: usize, n: usize)
 
 // A packet with `named` symbols of its own from the position `first` on, if any, marks that and the one after its last.
 fn set_own(mem: &mut [u8], shape: Shape, first: usize, named: usize)
-    requires { ⌜ Fits (shape .width) (shape .size) (now mem) × (shape .base < shape .width) × (first + named ≤ shape .width) ⌝ }
-    ensures { λ _. ⌜ Owned (shape .width) (shape .size) (shape .base) first named (now (mem .entry)) (now (mem .exit)) ⌝ }
+    requires { ⌜ Fits (shape .width) (shape .size) (now mem) × (shape .oldest < shape .width) × (first + named ≤ shape .width) ⌝ }
+    ensures { λ _. ⌜ Owned (shape .width) (shape .size) (shape .oldest) first named (now (mem .entry)) (now (mem .exit)) ⌝ }
 {
     if named == 0 {
         return;
@@ -240,8 +240,8 @@ fn must_pass(mem: &[u8], rise: usize, others: bool) -> bool
 
 // What the marks reach is marked, after a packet with `named` symbols of its own from the position `first` on.
 fn reach(mem: &mut [u8], shape: Shape, rise: usize, first: usize, named: usize, others: bool)
-    requires { ⌜ Fits (shape .width) (shape .size) (now mem) × (shape .base < shape .width) × (first + named ≤ shape .width) ⌝ }
-    ensures { λ _. ⌜ Extended (shape .width) (shape .size) (shape .base) rise first named others (now (mem .entry)) (now (mem .exit)) ⌝ }
+    requires { ⌜ Fits (shape .width) (shape .size) (now mem) × (shape .oldest < shape .width) × (first + named ≤ shape .width) ⌝ }
+    ensures { λ _. ⌜ Extended (shape .width) (shape .size) (shape .oldest) rise first named others (now (mem .entry)) (now (mem .exit)) ⌝ }
 {
     if must_pass(mem, rise, others) {
         pass(mem, shape);
@@ -254,25 +254,25 @@ fn reach(mem: &mut [u8], shape: Shape, rise: usize, first: usize, named: usize, 
 }
 
 // A packet was accepted, with `named` symbols of its own from the position `first` on: the window has moved on by `rise` positions from the row
-// `oldest` on, and the packet's first position and the one after its last are marked, and what they and the marks before reach. `others` tells
+// `former` on, and the packet's first position and the one after its last are marked, and what they and the marks before reach. `others` tells
 // whether positions other than the packet's own have become known.
 pub fn update(
     mem: &mut [u8],
     shape: Shape,
-    oldest: usize,
+    former: usize,
     rise: usize,
     first: usize,
     named: usize,
     others: bool,
 )
-    requires { ⌜ Fits (shape .width) (shape .size) (now mem) × (oldest < shape .width) × (shape .base ≡ (oldest + rise) % shape .width)
+    requires { ⌜ Fits (shape .width) (shape .size) (now mem) × (former < shape .width) × (shape .oldest ≡ (former + rise) % shape .width)
         × (first + named ≤ shape .width) ⌝ }
-    ensures { λ _. ⌜ Updated (shape .width) (shape .size) oldest rise first named others (now (mem .entry)) (now (mem .exit)) ⌝ }
+    ensures { λ _. ⌜ Updated (shape .width) (shape .size) former rise first named others (now (mem .entry)) (now (mem .exit)) ⌝ }
 {
     let before = Shape {
         width: shape.width,
         size: shape.size,
-        base: oldest,
+        oldest: former,
     };
     move_on(mem, before, rise);
     set_own(mem, shape, first, named);

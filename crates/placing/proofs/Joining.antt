@@ -24,7 +24,7 @@ use Rattle.decoder.proofs.Combining.{reduced-cells}
 use Rattle.decoder.proofs.Counting.{newly-difference}
 use Rattle.decoder.proofs.Gaining.{place-line}
 use Rattle.decoder.proofs.Refine.{lead-read}
-use Rattle.table.specs.Window.{stride, place, row, flag, inUse, line, table, equation, Window, Fits}
+use Rattle.table.specs.Window.{stride, rowOffset, row, flag, inUse, line, table, equation, Window, Fits}
 use Rattle.placing.specs.Place.{Moved, Committed}
 use Rattle.table.specs.RowSteps.{known-flags, Settled, PlacedKept, Joined}
 use Rattle.table.specs.Packet.{spelled, PivotMarked}
@@ -45,10 +45,10 @@ settled-line {w} {E} {r} {n} {l} {l′} {m} {m′} e s = record {
 }
 
 -- The code hands on the row's coefficients and symbol, without its flags.
-pub without-flags : (w E k at : ℕ) (work : List ℕ) → 0 < w → at ≡ place w E k → line w E (part at (w + E) work) ≡ line w E (row w E k work)
+pub without-flags : (w E k at : ℕ) (work : List ℕ) → 0 < w → at ≡ rowOffset w E k → line w E (part at (w + E) work) ≡ line w E (row w E k work)
 without-flags w E k at work pos here =
     line-same w E pos (part at (w + E) work) (row w E k work)
-    (λ i l. getD-part at (w + E) i work l ∙ ap (λ a. getD work (a + i) 0) here ∙ sym (getD-part (place w E k) (stride w E) i work (omega arith)))
+    (λ i l. getD-part at (w + E) i work l ∙ ap (λ a. getD work (a + i) 0) here ∙ sym (getD-part (rowOffset w E k) (stride w E) i work (omega arith)))
 
 -- A reduced row that leads with one is placed.
 module _ (w E b n : ℕ) (T : State (Coded E) w) (l m m′ : List ℕ) (fits : Fits w E m) (v : Window w E m b T) (s : Settled w E (flag w E l) n l m m′)
@@ -108,9 +108,9 @@ pub joined-all : {w E i k n : ℕ} {work m m′ : List ℕ} → i ≡ k → Join
 joined-all {w} {E} {i} {k} {n} {work} {m} {m′} e f = subst (λ j. Joined w E j n work m m′) e f
 
 -- The window has moved on, and all rows have joined.
-pub committed : (w E base rise k n : ℕ) (work m m₁ m₂ : List ℕ) → Fits w E m → Bytes m₁ → Bytes m₂ → Moved w E base rise m m₁ → Joined w E k n work m₁ m₂
-    → Committed w E base rise k n work m m₂
-committed w E base rise k n work m m₁ m₂ fits f g a c = record {
+pub committed : (w E oldest rise k n : ℕ) (work m m₁ m₂ : List ℕ) → Fits w E m → Bytes m₁ → Bytes m₂ → Moved w E oldest rise m m₁ → Joined w E k n work m₁ m₂
+    → Committed w E oldest rise k n work m m₂
+committed w E oldest rise k n work m m₁ m₂ fits f g a c = record {
   unchanged = kept-trans (a .kept) (c .kept);
   most = c .most;
   outcome = λ b S es e v r h.

@@ -64,22 +64,22 @@ module _ (w E : ℕ) (m : List ℕ) (fits : Fits w E m) where
             (flagged-unused w E r (row w E r (flagged w E r 0 m)) (flagged-flag w E r 0 m fits l));
       }
 
-pub moved-to : {w E base i k : ℕ} {m m′ : List ℕ} → i ≡ k → Moved w E base i m m′ → Moved w E base k m m′
-moved-to {w} {E} {base} {i} {k} {m} {m′} e f = subst (λ x. Moved w E base x m m′) e f
+pub moved-to : {w E oldest i k : ℕ} {m m′ : List ℕ} → i ≡ k → Moved w E oldest i m m′ → Moved w E oldest k m m′
+moved-to {w} {E} {oldest} {i} {k} {m} {m′} e f = subst (λ x. Moved w E oldest x m m′) e f
 
 -- No turn yet, one more, and as many as there are rows.
-moved-none : (w E base : ℕ) (m : List ℕ) → Moved w E base 0 m m
+moved-none : (w E oldest : ℕ) (m : List ℕ) → Moved w E oldest 0 m m
 unfolding advance-by
-moved-none w E base m = record { kept = kept-refl; moves = λ b S e h. rw add-zero h }
+moved-none w E oldest m = record { kept = kept-refl; moves = λ b S e h. rw add-zero h }
 
-moved-more : (w E base i : ℕ) (m m′ : List ℕ) → Fits w E m′ → Moved w E base i m m′
-    → Moved w E base (i + 1) m (flagged w E ((base + i) % w) 0 m′)
-moved-more w E base i m m′ fits f =
+moved-more : (w E oldest i : ℕ) (m m′ : List ℕ) → Fits w E m′ → Moved w E oldest i m m′
+    → Moved w E oldest (i + 1) m (flagged w E ((oldest + i) % w) 0 m′)
+moved-more w E oldest i m m′ fits f =
     let pos = fits .some-width in record {
-      kept = kept-trans (f .kept) (flagged-kept w E ((base + i) % w) 0 m′ fits (mod-lt (base + i) pos));
+      kept = kept-trans (f .kept) (flagged-kept w E ((oldest + i) % w) 0 m′ fits (mod-lt (oldest + i) pos));
       moves = λ b S e h.
           let turn = window-free-one w E m′ fits (b + i) (advance-by i S) (f .moves b S e h) in
-          let same : (b + i) % w ≡ (base + i) % w = sym (mod-add-mod b w i) ∙ ap (λ k. (k + i) % w) e in
+          let same : (b + i) % w ≡ (oldest + i) % w = sym (mod-add-mod b w i) ∙ ap (λ k. (k + i) % w) e in
           let next : suc (b + i) ≡ b + (i + 1) = omega arith in
           let done : advance (advance-by i S) ≡ advance-by (i + 1) S = sym (advance-by-suc i S) ∙ ap (λ k. advance-by k S) (sym (add-one i)) in
           subst (λ k. Window w E (flagged w E k 0 m′) (b + (i + 1)) (advance-by (i + 1) S)) same
@@ -87,27 +87,27 @@ moved-more w E base i m m′ fits f =
           (subst (λ S′. Window w E (flagged w E ((b + i) % w) 0 m′) (suc (b + i)) S′) done turn));
     }
 
--- So far: the window has moved on by `i`, and `oldest` is the row of its oldest position.
-pub record Leaving (w E base i oldest : ℕ) (m m′ : List ℕ) : Type 0 where
-  pub within : oldest < w
-  pub here : oldest ≡ (base + i) % w
-  pub moved : Moved w E base i m m′
+-- So far: the window has moved on by `i`, and `row` is that of its oldest position.
+pub record Leaving (w E oldest i row : ℕ) (m m′ : List ℕ) : Type 0 where
+  pub within : row < w
+  pub here : row ≡ (oldest + i) % w
+  pub moved : Moved w E oldest i m m′
 
-pub leaving-none : (w E base : ℕ) (m : List ℕ) → base < w → Leaving w E base 0 base m m
-leaving-none w E base m h = record {
+pub leaving-none : (w E oldest : ℕ) (m : List ℕ) → oldest < w → Leaving w E oldest 0 oldest m m
+leaving-none w E oldest m h = record {
   within = h;
-  here = sym (ap (λ k. k % w) (add-zero base) ∙ mod-eq-of-lt h);
-  moved = moved-none w E base m;
+  here = sym (ap (λ k. k % w) (add-zero oldest) ∙ mod-eq-of-lt h);
+  moved = moved-none w E oldest m;
 }
 
-pub leaving-more : (w E base i oldest next : ℕ) (m m₁ m₂ : List ℕ) → Fits w E m → Leaving w E base i oldest m m₁
-    → m₂ ≡ flagged w E oldest 0 m₁ → (next ≡ (oldest + 1) % w) × (next < w) → Leaving w E base (i + 1) next m m₂
-leaving-more w E base i oldest next m m₁ m₂ fits f e n = record {
+pub leaving-more : (w E oldest i row next : ℕ) (m m₁ m₂ : List ℕ) → Fits w E m → Leaving w E oldest i row m m₁
+    → m₂ ≡ flagged w E row 0 m₁ → (next ≡ (row + 1) % w) × (next < w) → Leaving w E oldest (i + 1) next m m₂
+leaving-more w E oldest i row next m m₁ m₂ fits f e n = record {
   within = n .1;
-  here = n .0 ∙ ap (λ k. (k + 1) % w) (f .here) ∙ mod-add-mod (base + i) w 1 ∙ ap (λ k. k % w) (add-assoc base i 1);
+  here = n .0 ∙ ap (λ k. (k + 1) % w) (f .here) ∙ mod-add-mod (oldest + i) w 1 ∙ ap (λ k. k % w) (add-assoc oldest i 1);
   moved =
-      subst (λ x. Moved w E base (i + 1) m x) (ap (λ k. flagged w E k 0 m₁) (sym (f .here)) ∙ sym e)
-      (moved-more w E base i m m₁ (fits-kept fits (f .moved .kept)) (f .moved));
+      subst (λ x. Moved w E oldest (i + 1) m x) (ap (λ k. flagged w E k 0 m₁) (sym (f .here)) ∙ sym e)
+      (moved-more w E oldest i m m₁ (fits-kept fits (f .moved .kept)) (f .moved));
 }
 
 -- Each row has its position in the window.
@@ -172,8 +172,8 @@ window-anywhere w E b c m pos h =
     let (q, g, k, e) = position w b r l in
     unused-flag w E (row w E r m) (ap (λ x. inUse w E (row w E x m)) (sym e) ∙ empty-view (table w E m) w b q (h .reads) g k))
 
-pub moved-past : (w E base rise : ℕ) (m m′ : List ℕ) → 0 < w → w ≤ rise → Moved w E base w m m′ → Moved w E base rise m m′
-moved-past w E base rise m m′ pos g f = record {
+pub moved-past : (w E oldest rise : ℕ) (m m′ : List ℕ) → 0 < w → w ≤ rise → Moved w E oldest w m m′ → Moved w E oldest rise m m′
+moved-past w E oldest rise m m′ pos g f = record {
   kept = f .kept;
   moves = λ b S e h.
       subst (λ S′. Window w E m′ (b + rise) S′) (sym (advance-by-empty rise S g))

@@ -21,7 +21,7 @@ use Rattle.decoder.specs.TableSteps.{Places, add-line}
 use Rattle.decoder.proofs.Bytes.{laws, byte-zero}
 use Rattle.decoder.proofs.Stretch.{line-add, line-same}
 use Rattle.decoder.proofs.Refine.{add-line-zero}
-use Rattle.table.specs.Window.{stride, place, row, flag, inUse, line, table, Flagged, Flags, Fits, Kept}
+use Rattle.table.specs.Window.{stride, rowOffset, row, flag, inUse, line, table, Flagged, Flags, Fits, Kept}
 use Rattle.table.specs.RowSteps.{one-if-known, known-flag, known-flags, Marked, Changed, ClearedRow, FirstWith, Stored, Settled, flagged}
 use Rattle.table.proofs.Rows.{row-store, row-other, kept-store, kept-refl, kept-trans, fits-kept}
 use Rattle.table.proofs.Flags.{flag-at, unused, used, unused-flag, not-known, flags-changed, count-changed}
@@ -34,22 +34,22 @@ unfolding splice
 front-at x l i h = List·getD-append x _ 0 i h
 
 -- A store at the front of a row.
-module _ (w E r : ℕ) (x m : List ℕ) (room : place w E w ≤ length m) (h : r < w) (n : length x ≤ w + E + 1) where
+module _ (w E r : ℕ) (x m : List ℕ) (room : rowOffset w E w ≤ length m) (h : r < w) (n : length x ≤ w + E + 1) where
   abbrev fronted : List ℕ
-  fronted = splice (place w E r) x m
+  fronted = splice (rowOffset w E r) x m
 
   front-row : row w E r fronted ≡ splice 0 x (row w E r m)
-  front-row = subst (λ a. row w E r (splice a x m) ≡ splice 0 x (row w E r m)) (add-zero (place w E r)) (row-store w E r 0 x m room h (omega arith))
+  front-row = subst (λ a. row w E r (splice a x m) ≡ splice 0 x (row w E r m)) (add-zero (rowOffset w E r)) (row-store w E r 0 x m room h (omega arith))
 
   front-other : (q : ℕ) → q < w → q ≢ r → row w E q fronted ≡ row w E q m
-  front-other q g d = subst (λ a. row w E q (splice a x m) ≡ row w E q m) (add-zero (place w E r)) (row-other w E r 0 x m room h (omega arith) q g d)
+  front-other q g d = subst (λ a. row w E q (splice a x m) ≡ row w E q m) (add-zero (rowOffset w E r)) (row-other w E r 0 x m room h (omega arith) q g d)
 
   front-kept : Kept w E m fronted
-  front-kept = subst (λ a. Kept w E m (splice a x m)) (add-zero (place w E r)) (kept-store w E r 0 x m room h (omega arith))
+  front-kept = subst (λ a. Kept w E m (splice a x m)) (add-zero (rowOffset w E r)) (kept-store w E r 0 x m room h (omega arith))
 
 -- The first `w + E` bytes of the row `r` have become `x`, and then its flag has been set.
 module _ (w E r n : ℕ) (x m m₁ m′ : List ℕ) (fits : Fits w E m) (h : r < w) (size : length x ≡ w + E)
-    (e : m₁ ≡ splice (place w E r) x m) (t : Marked w E r n m₁ m′) where
+    (e : m₁ ≡ splice (rowOffset w E r) x m) (t : Marked w E r n m₁ m′) where
   short : length x ≤ w + E + 1
   short = omega arith
 
@@ -108,7 +108,7 @@ module _ (w E r n : ℕ) (x m m₁ m′ : List ℕ) (fits : Fits w E m) (h : r <
       }
 
 -- The code copies the working row from `at` on.
-pub stored-copy : (w E r n at : ℕ) (l m m₁ m′ : List ℕ) → Fits w E m → r < w → length l ≡ w + E → at ≡ place w E r
+pub stored-copy : (w E r n at : ℕ) (l m m₁ m′ : List ℕ) → Fits w E m → r < w → length l ≡ w + E → at ≡ rowOffset w E r
     → m₁ ≡ splice at (part 0 (w + E) l) m → Marked w E r n m₁ m′ → Stored w E r n l m m′
 stored-copy w E r n at l m m₁ m′ fits h size here e t =
     stored w E r n l m m₁ m′ fits h size (e ∙ ap (λ x. splice at x m) (whole (w + E) l size) ∙ ap (λ k. splice k l m) here) t
@@ -117,18 +117,18 @@ stored-copy w E r n at l m m₁ m′ fits h size here e t =
 pub record Passed (w E r from q : ℕ) (m : List ℕ) : Type 0 where
   pub least : from ≤ q
   pub most : q ≤ w
-  pub zeros : (j : ℕ) → from ≤ j → j < q → getD m (place w E j + r) 0 ≡ 0
+  pub zeros : (j : ℕ) → from ≤ j → j < q → getD m (rowOffset w E j + r) 0 ≡ 0
 
 module _ {w E r from : ℕ} {m : List ℕ} where
   pub passed-none : from ≤ w → Passed w E r from from m
   passed-none h = record { least = omega arith; most = h; zeros = λ j a b. absurd (omega arith) }
 
-  module _ (q at : ℕ) (f : Passed w E r from q m) (h : q < w) (here : at ≡ place w E q) where
+  module _ (q at : ℕ) (f : Passed w E r from q m) (h : q < w) (here : at ≡ rowOffset w E q) where
     pub passed-more : getD m (at + r) 0 ≡ 0 → Passed w E r from (q + 1) m
     passed-more z = record { least = omega (arith, f .least); most = omega arith; zeros = λ j a b. next j a b (ℕ-discrete j q) }
       where
-        next : (j : ℕ) → from ≤ j → j < q + 1 → Dec (j ≡ q) → getD m (place w E j + r) 0 ≡ 0
-        next j a b (yes e) = ap (λ x. getD m (place w E x + r) 0) e ∙ ap (λ x. getD m (x + r) 0) (sym here) ∙ z
+        next : (j : ℕ) → from ≤ j → j < q + 1 → Dec (j ≡ q) → getD m (rowOffset w E j + r) 0 ≡ 0
+        next j a b (yes e) = ap (λ x. getD m (rowOffset w E x + r) 0) e ∙ ap (λ x. getD m (x + r) 0) (sym here) ∙ z
         next j a b (no e) = f .zeros j a (omega arith)
 
     pub passed-here : getD m (at + r) 0 ≢ 0 → FirstWith w E r from q m
@@ -149,11 +149,11 @@ module _ (w E r q : ℕ) (l m : List ℕ) where
     flags = λ _ f. (f, zero-add (known-flag w E m q));
   }
 
-  module _ (at : ℕ) (here : at ≡ place w E q) where
+  module _ (at : ℕ) (here : at ≡ rowOffset w E q) where
     pub cleared-zero : 0 < E → r < w → getD m (at + r) 0 ≡ 0 → ClearedRow w E r q 0 l m m
     cleared-zero pos h z =
         idle (λ _. sym (add-line-zero (laws E pos) (byte (getD (row w E q m) r 0)) (line w E l) (line w E (row w E q m))
-        (byte-zero (getD (row w E q m) r 0) (getD-part (place w E q) (stride w E) r m (omega arith) ∙ ap (λ a. getD m (a + r) 0) (sym here) ∙ z))))
+        (byte-zero (getD (row w E q m) r 0) (getD-part (rowOffset w E q) (stride w E) r m (omega arith) ∙ ap (λ a. getD m (a + r) 0) (sym here) ∙ z))))
 
     pub cleared-unused : getD m (at + (w + E)) 0 ≡ 0 → ClearedRow w E r q 0 l m m
     cleared-unused z =
@@ -161,42 +161,42 @@ module _ (w E r q : ℕ) (l m : List ℕ) where
 
 -- The row `q` has been added to, and marked.
 module _ (w E r q n : ℕ) (l m m₁ m′ : List ℕ) (fits : Fits w E m) (c : r < w) (h : q < w) (size : length l ≡ w + E) (f : Bytes m) (g : Bytes l)
-    (at : ℕ) (here : at ≡ place w E q) (k : getD m (at + r) 0 ≢ 0) (u : getD m (at + (w + E)) 0 ≢ 0)
+    (at : ℕ) (here : at ≡ rowOffset w E q) (k : getD m (at + r) 0 ≢ 0) (u : getD m (at + (w + E)) 0 ≢ 0)
     (e : m₁ ≡ splice at (addScaled (getD m (at + r) 0) (part at (w + E) m) (part 0 (w + E) l)) m) (t : Marked w E q n m₁ m′) where
   abbrev coefficient : ℕ
   coefficient = getD (row w E q m) r 0
 
   same : getD m (at + r) 0 ≡ coefficient
-  same = ap (λ a. getD m (a + r) 0) here ∙ sym (getD-part (place w E q) (stride w E) r m (omega arith))
+  same = ap (λ a. getD m (a + r) 0) here ∙ sym (getD-part (rowOffset w E q) (stride w E) r m (omega arith))
 
   abbrev added : List ℕ
-  added = addScaled coefficient (part (place w E q) (w + E) m) (part 0 (w + E) l)
+  added = addScaled coefficient (part (rowOffset w E q) (w + E) m) (part 0 (w + E) l)
 
-  within : place w E q + stride w E ≤ length m
+  within : rowOffset w E q + stride w E ≤ length m
   within = omega (arith, fits .room, row-fits w (stride w E) q h)
 
   length-added : length added ≡ w + E
   length-added =
-      length-addScaled coefficient (part (place w E q) (w + E) m) (part 0 (w + E) l) ∙ length-part (place w E q) (w + E) m (omega (arith, within))
+      length-addScaled coefficient (part (rowOffset w E q) (w + E) m) (part 0 (w + E) l) ∙ length-part (rowOffset w E q) (w + E) m (omega (arith, within))
 
-  bytes : m₁ ≡ splice (place w E q) added m
+  bytes : m₁ ≡ splice (rowOffset w E q) added m
   bytes =
       e ∙ ap (λ b. splice at (addScaled b (part at (w + E) m) (part 0 (w + E) l)) m) same
       ∙ ap (λ a. splice a (addScaled coefficient (part a (w + E) m) (part 0 (w + E) l)) m) here
 
   element : (j : ℕ) → j < w + E → getD added j 0 ≡ bitXor (getD (row w E q m) j 0) (product coefficient (getD l j 0))
   element j b =
-      let o : getD (part (place w E q) (w + E) m) j 0 ≡ getD (row w E q m) j 0 =
-      getD-part (place w E q) (w + E) j m b ∙ sym (getD-part (place w E q) (stride w E) j m (omega arith)) in
+      let o : getD (part (rowOffset w E q) (w + E) m) j 0 ≡ getD (row w E q m) j 0 =
+      getD-part (rowOffset w E q) (w + E) j m b ∙ sym (getD-part (rowOffset w E q) (stride w E) j m (omega arith)) in
       let y : getD (part 0 (w + E) l) j 0 ≡ getD l j 0 = ap (λ z. getD z j 0) (whole (w + E) l size) in
-      getD-addScaled coefficient (part (place w E q) (w + E) m) (part 0 (w + E) l) j
-      (omega (arith, length-part (place w E q) (w + E) m (omega (arith, within))))
+      getD-addScaled coefficient (part (rowOffset w E q) (w + E) m) (part 0 (w + E) l) j
+      (omega (arith, length-part (rowOffset w E q) (w + E) m (omega (arith, within))))
       (omega (arith, ap length (whole (w + E) l size)))
       ∙ ap₂ (λ a b. bitXor a (product coefficient b)) o y
 
   sum-line : line w E added ≡ add-line (byte coefficient) (line w E l) (line w E (row w E q m))
   sum-line =
-      let z = bytes-part (place w E q) (stride w E) m f in
+      let z = bytes-part (rowOffset w E q) (stride w E) m f in
       line-add w E (fits .some-width) coefficient (row w E q m) l added z g (z r) element
 
   done : Stored w E q n added m m′
@@ -269,11 +269,11 @@ module _ (w E r : ℕ) (l m : List ℕ) where
       one q b u (no e) = ap (line w E) (g .changed .rest q (omega arith) e) ∙ f .sum q (omega arith) u
 
   -- Rows without a coefficient there are passed over.
-  skip : (d i n : ℕ) (m₁ : List ℕ) → 0 < E → r < w → i + d ≤ w → ((j : ℕ) → i ≤ j → j < i + d → getD m₁ (place w E j + r) 0 ≡ 0)
+  skip : (d i n : ℕ) (m₁ : List ℕ) → 0 < E → r < w → i + d ≤ w → ((j : ℕ) → i ≤ j → j < i + d → getD m₁ (rowOffset w E j + r) 0 ≡ 0)
       → Cleared w E r i n l m m₁ → Cleared w E r (i + d) n l m m₁
   skip zero i n m₁ pos h k z f = subst (λ x. Cleared w E r x n l m m₁) (sym (add-zero i)) f
   skip (suc d) i n m₁ pos h k z f =
-      let turn = cleared-zero w E r i l m₁ (place w E i) refl pos h (z i (omega arith) (omega arith)) in
+      let turn = cleared-zero w E r i l m₁ (rowOffset w E i) refl pos h (z i (omega arith) (omega arith)) in
       let more = subst (λ x. Cleared w E r (i + 1) x l m m₁) (add-zero n) (cleared-more i n 0 m₁ m₁ (omega arith) f turn) in
       let e : i + 1 + d ≡ i + suc d = omega arith in
       subst (λ x. Cleared w E r x n l m m₁) e (skip d (i + 1) n m₁ pos h (omega arith) (λ j a b. z j (omega arith) (omega arith)) more)

@@ -25,7 +25,7 @@ use Rattle.decoder.proofs.Stretch.{bytes-of-symbol}
 use Rattle.decoder.proofs.Counting.{count-all}
 use Rattle.decoder.proofs.Gaining.{total-rows}
 use Rattle.decoder.proofs.Steps.{known-row, known-open, known-free}
-use Rattle.table.specs.Window.{stride, place, row, flag, inUse, line, table, Window, Fits}
+use Rattle.table.specs.Window.{stride, rowOffset, row, flag, inUse, line, table, Window, Fits}
 use Rattle.placing.specs.Place.{Known}
 use Rattle.table.specs.RowSteps.{one-if-known, known-flag, known-flags}
 use Rattle.table.proofs.Zero.{else-zero}
@@ -67,7 +67,7 @@ module _ (w E r : ℕ) (m : List ℕ) (fits : Fits w E m) (h : r < w) (f : Bytes
         let cells : table w E m .line (b + i) .cells p ≡ byte (getD (row w E r m) j 0) =
         ap (λ q. byte (getD (row w E q m) (p % w) 0)) e ∙ ap (λ q. byte (getD (row w E r m) q 0)) y in
         let full : table w E m .line (b + i) .cells p ≢ Coded E .𝟘 =
-        (λ s. byte-nonzero (getD (row w E r m) j 0) (bytes-part (place w E r) (stride w E) m f j) z (sym cells ∙ s)) in
+        (λ s. byte-nonzero (getD (row w E r m) j 0) (bytes-part (rowOffset w E r) (stride w E) m f j) z (sym cells ∙ s)) in
         let late : b + i < p = after p g k y d full (decLt p (b + i)) in
         held (known-open (laws E positive) (table w E m) i w b (b + i) (w - suc i) refl left (marked x) p late k full)
       where
@@ -91,11 +91,11 @@ module _ (w E r : ℕ) (m : List ℕ) (fits : Fits w E m) (h : r < w) (f : Bytes
   flag-known false e = λ b i S l p v. not-two b i S l p v (eqb-false (flag w E (row w E r m)) 2 e)
 
 -- The bytes of a row's symbol, where they lie.
-pub symbol-bytes : (w E r : ℕ) (m : List ℕ) → Fits w E m → r < w → Bytes m → bytes-of E (line w E (row w E r m) .sym) ≡ part (place w E r + w) E m
+pub symbol-bytes : (w E r : ℕ) (m : List ℕ) → Fits w E m → r < w → Bytes m → bytes-of E (line w E (row w E r m) .sym) ≡ part (rowOffset w E r + w) E m
 unfolding part
 symbol-bytes w E r m fits h f =
-    bytes-of-symbol E w (row w E r m) (bytes-part (place w E r) (stride w E) m f) (omega (arith, length-row w E m fits r h))
-    ∙ part-part (place w E r) (stride w E) w E m (omega arith)
+    bytes-of-symbol E w (row w E r m) (bytes-part (rowOffset w E r) (stride w E) m f) (omega (arith, length-row w E m fits r h))
+    ∙ part-part (rowOffset w E r) (stride w E) w E m (omega arith)
 
 -- ---- counting
 

@@ -4,7 +4,7 @@ ghost use mathlib.Core.Path.{_≡_};
 ghost use mathlib.Core.Logic.{_≢_};
 ghost use Prim.Native.Nat.{_+_, _≤_, _<_};
 ghost use lib.ListN.{length, getD};
-ghost use Rattle.table.specs.Window.{place, Fits};
+ghost use Rattle.table.specs.Window.{rowOffset, Fits};
 ghost use Rattle.placing.specs.Place.{Emptied, Moved, Known, Committed};
 ghost use Rattle.table.specs.Packet.{Works};
 ghost use Rattle.table.specs.RowSteps.{flagged, Tested, Marked, ClearedRow, FirstWith, Stored, Settled, KeptRow, PlacedKept, Joined};
@@ -16,7 +16,7 @@ fn set_flag(mem: &mut [u8], shape: Shape, r: usize, v: u8)
     requires { ⌜ Fits (shape .width) (shape .size) (now mem) × (r < shape .width) ⌝ }
     ensures { λ _. ⌜ now (mem .exit) ≡ flagged (shape .width) (shape .size) r v (now (mem .entry)) ⌝ }
 {
-    let at = table::start_of(shape, r);
+    let at = table::row_offset(shape, r);
     let n = shape.width + shape.size;
     mem[at + n] = v;
 }
@@ -34,11 +34,11 @@ pub fn clear(mem: &mut [u8], shape: Shape)
 
 // The window moves on by `rise` positions: the rows of those that leave are no longer in use.
 pub fn move_on(mem: &mut [u8], shape: Shape, rise: usize)
-    requires { ⌜ Fits (shape .width) (shape .size) (now mem) × (shape .base < shape .width) ⌝ }
-    ensures { λ _. ⌜ Moved (shape .width) (shape .size) (shape .base) rise (now (mem .entry)) (now (mem .exit)) ⌝ }
+    requires { ⌜ Fits (shape .width) (shape .size) (now mem) × (shape .oldest < shape .width) ⌝ }
+    ensures { λ _. ⌜ Moved (shape .width) (shape .size) (shape .oldest) rise (now (mem .entry)) (now (mem .exit)) ⌝ }
 {
     let w = shape.width;
-    let mut oldest = shape.base;
+    let mut oldest = shape.oldest;
     for i in 0..w {
         if i == rise {
             return;
@@ -53,7 +53,7 @@ pub fn is_known(mem: &[u8], shape: Shape, r: usize) -> bool
     requires { ⌜ Fits (shape .width) (shape .size) (now mem) × (r < shape .width) ⌝ }
     ensures { λ t. ⌜ Known (shape .width) (shape .size) r t (now (mem .entry)) ⌝ }
 {
-    let at = table::start_of(shape, r);
+    let at = table::row_offset(shape, r);
     let n = shape.width + shape.size;
     mem[at + n] == 2
 }
@@ -63,7 +63,7 @@ fn is_alone(mem: &[u8], shape: Shape, r: usize) -> u8
     requires { ⌜ Fits (shape .width) (shape .size) (now mem) × (r < shape .width) ⌝ }
     ensures { λ n. ⌜ Tested (shape .width) (shape .size) r n (now (mem .entry)) ⌝ }
 {
-    let at = table::start_of(shape, r);
+    let at = table::row_offset(shape, r);
     let before = table::or_all(mem, at, at + r);
     let after = table::or_all(mem, at + (r + 1), at + shape.width);
     if before | after == 0 { 1 } else { 0 }
@@ -83,10 +83,10 @@ fn mark(mem: &mut [u8], shape: Shape, r: usize) -> usize
 // has become known, else zero.
 fn clear_coefficient(mem: &mut [u8], row: &[u8], shape: Shape, r: usize, q: usize) -> usize
     requires { ⌜ Fits (shape .width) (shape .size) (now mem) × (length (now row) ≡ shape .width + shape .size) × (r < shape .width) × (q < shape .width)
-        × (getD (now mem) (place (shape .width) (shape .size) q + r) 0 ≢ 0) ⌝ }
+        × (getD (now mem) (rowOffset (shape .width) (shape .size) q + r) 0 ≢ 0) ⌝ }
     ensures { λ n. ⌜ ClearedRow (shape .width) (shape .size) r q n (now (row .entry)) (now (mem .entry)) (now (mem .exit)) ⌝ }
 {
-    let at = table::start_of(shape, q);
+    let at = table::row_offset(shape, q);
     let n = shape.width + shape.size;
     if mem[at + n] == 0 {
         return 0;
@@ -103,7 +103,7 @@ fn next_with(mem: &[u8], shape: Shape, r: usize, from: usize) -> usize
 {
     let w = shape.width;
     for q in from..w {
-        let at = table::start_of(shape, q);
+        let at = table::row_offset(shape, q);
         if mem[at + r] != 0 {
             return q;
         }
@@ -116,7 +116,7 @@ fn store_row(mem: &mut [u8], row: &[u8], shape: Shape, r: usize) -> usize
     requires { ⌜ Fits (shape .width) (shape .size) (now mem) × (length (now row) ≡ shape .width + shape .size) × (r < shape .width) ⌝ }
     ensures { λ n. ⌜ Stored (shape .width) (shape .size) r n (now (row .entry)) (now (mem .entry)) (now (mem .exit)) ⌝ }
 {
-    let at = table::start_of(shape, r);
+    let at = table::row_offset(shape, r);
     let n = shape.width + shape.size;
     memory::copy_part(mem, at, row, 0, n);
     mark(mem, shape, r)
@@ -142,7 +142,7 @@ fn place_kept(mem: &mut [u8], work: &[u8], shape: Shape, k: usize) -> usize
     requires { ⌜ Fits (shape .width) (shape .size) (now mem) × KeptRow (shape .width) (shape .size) k (now work) ⌝ }
     ensures { λ n. ⌜ PlacedKept (shape .width) (shape .size) k n (now (work .entry)) (now (mem .entry)) (now (mem .exit)) ⌝ }
 {
-    let at = table::start_of(shape, k);
+    let at = table::row_offset(shape, k);
     let n = shape.width + shape.size;
     let r = work[at + n] as usize;
     place(mem, memory::part(work, at, n), shape, r)
@@ -162,8 +162,8 @@ fn place_all(mem: &mut [u8], work: &[u8], shape: Shape, kept: usize) -> usize
 
 // The window moves on by `rise` positions, and the packet's rows in working memory join its rows. Gives how many positions have become known.
 pub fn commit(mem: &mut [u8], work: &[u8], shape: Shape, rise: usize, kept: usize) -> usize
-    requires { ⌜ Fits (shape .width) (shape .size) (now mem) × (shape .base < shape .width) × Works (shape .width) (shape .size) kept (now work) ⌝ }
-    ensures { λ n. ⌜ Committed (shape .width) (shape .size) (shape .base) rise kept n (now (work .entry)) (now (mem .entry)) (now (mem .exit)) ⌝ }
+    requires { ⌜ Fits (shape .width) (shape .size) (now mem) × (shape .oldest < shape .width) × Works (shape .width) (shape .size) kept (now work) ⌝ }
+    ensures { λ n. ⌜ Committed (shape .width) (shape .size) (shape .oldest) rise kept n (now (work .entry)) (now (mem .entry)) (now (mem .exit)) ⌝ }
 {
     move_on(mem, shape, rise);
     place_all(mem, work, shape, kept)

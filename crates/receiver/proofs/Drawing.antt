@@ -9,7 +9,7 @@ use Rattle.wire.specs.declared.Refusal.{Refusal}
 use Rattle.receiver.specs.declared.Answer.the-variants.{Done, Refused}
 use Rattle.receiver.specs.declared.PacketAnswer.the-variants as answers
 use Rattle.holding.specs.declared.Header.{Header}
-use Rattle.admission.specs.declared.packet.PacketPlace.{PacketPlace}
+use Rattle.admission.specs.declared.packet.Location.{Location}
 use Rattle.admission.specs.declared.packet.Gathered.{Gathered}
 use Rattle.admission.specs.declared.packet.Gathered.the-variants.{All}
 use Rattle.history.specs.History.{Call}
@@ -24,7 +24,7 @@ module _ {c : Call} {m m′ v v′ : List ℕ} where
   answered-refused p = record { received = p; draws = tt }
 
   -- A packet was accepted.
-  pub answered-done : (h g : Header) (at : PacketPlace) (w E : ℕ) (r : Gathered) (kept own n d : ℕ) → headerIn m ≡ some h → r ≡ All kept → WorksOn w E v′ r
+  pub answered-done : (h g : Header) (at : Location) (w E : ℕ) (r : Gathered) (kept own n d : ℕ) → headerIn m ≡ some h → r ≡ All kept → WorksOn w E v′ r
       → Accepted g at kept own n v′ m m′ → d ≡ drawsFor (h .setting) c → d ≤ 69360 → Received receiverLayout c m m′ v v′ (Done n)
       → PacketAnswered receiverLayout c m m′ v v′ (answers.Accepted n d)
   answered-done h g at w E r kept own n d has all works done is few p =

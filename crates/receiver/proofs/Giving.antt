@@ -19,7 +19,7 @@ use Rattle.starts.specs.Starts.{Starts, seen}
 use Rattle.marks.specs.Marks as marks
 use Rattle.handing.specs.Contracts.{HandedOut}
 use Rattle.holding.specs.declared.Header.{Header}
-use Rattle.history.specs.History.{placeOf, refusal}
+use Rattle.history.specs.History.{sideOf, refusal}
 use Rattle.history.specs.Model.{Joined, aduAt}
 use Rattle.holding.specs.Header.{headerIn}
 use Rattle.receiver.specs.Promises.{handedSaid, AduAnswered}
@@ -55,11 +55,11 @@ module _ (m out : List ℕ) (e : ℕ) (h : Header) (k : headerIn m ≡ some h) (
   open Setting (h .setting) using (width, size)
 
   abbrev d : ℕ
-  d = distanceOf e (h .base .0)
+  d = distanceOf e (h .esi .0)
 
   -- Refused, where the place alone says so.
   refused : (x : Refusal) → numberOf x ≢ 3
-      → ((t : Joined (h .setting)) (M : Starts) → h .base .0 ≡ t .base % 2 ^ 32
+      → ((t : Joined (h .setting)) (M : Starts) → h .esi .0 ≡ t .base % 2 ^ 32
       → aduAt (h .setting) (some t) M (length out) e ≡ withholds (numberOf x))
       → AduAnswered receiverLayout m e out out (Withheld x)
   refused x n f = record {
@@ -71,21 +71,21 @@ module _ (m out : List ℕ) (e : ℕ) (h : Header) (k : headerIn m ≡ some h) (
   }
 
   pub adu-behind : 2 ^ 31 ≤ d → AduAnswered receiverLayout m e out out (Withheld Behind)
-  unfolding aduAt placeOf
+  unfolding aduAt sideOf
   adu-behind l = refused Behind (λ z. absurd (omega (arith, z))) (λ t M b. rw (← b, le-ltb d (2 ^ 31) l))
 
   pub adu-past : d < 2 ^ 31 → width ≤ d → AduAnswered receiverLayout m e out out (Withheld Unknown)
-  unfolding aduAt placeOf need
+  unfolding aduAt sideOf need
   adu-past n l = refused Unknown (λ z. absurd (omega (arith, z))) (λ t M b. rw (← b, lt-ltb d (2 ^ 31) n, le-ltb d width l))
 
   -- In the window the call is that of the window's d-th position.
   module _ (x : ℕ) (q : x ≡ d) (near : x < 2 ^ 31) (inside : x < width) where
-    inner : (t : Joined (h .setting)) (M : Starts) → h .base .0 ≡ t .base % 2 ^ 32
+    inner : (t : Joined (h .setting)) (M : Starts) → h .esi .0 ≡ t .base % 2 ^ 32
         → aduAt (h .setting) (some t) M (length out) e ≡ handing size width (length out) M (seen size width (t .window)) x
-    unfolding aduAt placeOf need
+    unfolding aduAt sideOf need
     inner t M b = rw (← b, ← q, lt-ltb x (2 ^ 31) near, lt-ltb x width inside)
 
-    pub adu-inside : (out′ : List ℕ) (r : Handed) → HandedOut width size (h .row) x m out out′ r → AduAnswered receiverLayout m e out out′ r
+    pub adu-inside : (out′ : List ℕ) (r : Handed) → HandedOut width size (h .oldest) x m out out′ r → AduAnswered receiverLayout m e out out′ r
     adu-inside out′ r g = record {
       unopened = ((λ z. absurd (not-three r (g .opened) z)), (λ z. absurd (Option·none-ne-some h (sym z ∙ k))));
       leaves = g .leaves;

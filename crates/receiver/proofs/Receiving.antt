@@ -16,7 +16,7 @@ use Rattle.decoder.specs.Bytes.{Coded}
 use Rattle.decoder.specs.Model as model
 use Rattle.decoder.specs.Receiver as decoder
 use Rattle.decoder.specs.Packets as packets
-use Rattle.table.specs.Window.{place, Fits}
+use Rattle.table.specs.Window.{rowOffset, Fits}
 use Rattle.table.specs.Packet as packet
 use Rattle.starts.specs.Starts.{Starts, owning, moved, pass, seen}
 use Rattle.starts.proofs.Settling.{unseen-settled}
@@ -24,11 +24,11 @@ use Rattle.marks.proofs.Gaining.{unseen-empty}
 use Rattle.receiver.specs.declared.Answer.{Answer}
 use Rattle.receiver.specs.declared.Answer.the-variants.{Done, Refused}
 use Rattle.holding.specs.declared.Header.{Header}
-use Rattle.admission.specs.declared.packet.PacketPlace.{PacketPlace}
-use Rattle.admission.specs.declared.packet.PlaceFound.the-variants.{PlaceIs, Out}
+use Rattle.admission.specs.declared.packet.Location.{Location}
+use Rattle.admission.specs.declared.packet.LocationFound.the-variants.{LocationIs, Out}
 use Rattle.admission.specs.declared.packet.Gathered.{Gathered}
 use Rattle.admission.specs.declared.packet.Gathered.the-variants.{All, Contradiction}
-use Rattle.history.specs.History.{Located, source, repair, first, named, placeOf, placed, Call, esiOf, Reading, fails, located, check, memorySize, workingSize, reading}
+use Rattle.history.specs.History.{Located, source, repair, first, named, sideOf, fromSide, Call, esiOf, Reading, fails, located, check, memorySize, workingSize, reading}
 use Rattle.history.specs.History.{value}
 use Rattle.history.specs.Model.{Joined, State, foundBy, Outcome, packetOf, added, responds, answering, stateAfter, naming, startsAfter, marking}
 use Rattle.holding.specs.Header.{headerIn}
@@ -37,11 +37,11 @@ use Rattle.holding.specs.Contained.{Contained}
 use Rattle.holding.specs.Layout.{headerFrom, headerOf, Stands, Holds, MarksFrom, Marks}
 use Rattle.receiver.specs.Layout.{receiverLayout}
 use Rattle.admission.specs.Joining.{headerFor, Based}
-use Rattle.admission.specs.Steps.{placeAt, placeFound, Comes, WorksOn, firsts, Lies, Gathers, PlacedBy, Accepted}
+use Rattle.admission.specs.Steps.{locationAt, locationFound, Comes, WorksOn, firsts, Lies, Gathers, LocatedBy, Accepted}
 use Rattle.history.proofs.Cases.{IsRefusal, numeral}
 use Rattle.holding.proofs.Headers.{header-fits, setting-held}
 use Rattle.admission.proofs.Joining.{based-fits, found-header, found-stands}
-use Rattle.admission.proofs.Locating.{distance, found-at, at-placed, out-placed, out-other}
+use Rattle.admission.proofs.Locating.{distance, found-at, at-side, out-side, out-other}
 use Rattle.admission.proofs.Gathering.{contained-none}
 
 pub received-unopened : (c : Call) (m v : List ℕ) → headerIn m ≡ none → Received receiverLayout c m m v v (Refused refusals.Unopened)
@@ -68,23 +68,23 @@ found-marks m s (some t) e M k = k
 
 -- ---- What a place asks of the memories
 
-pub record Ready (at : PacketPlace) (m v : List ℕ) : Type 0 where
+pub record Ready (at : Location) (m v : List ℕ) : Type 0 where
   pub fits : Fits (at .shape .width) (at .shape .size) m
   pub works : packet.Works (at .shape .width) (at .shape .size) 0 v
-  pub base : at .shape .base < at .shape .width
+  pub base : at .shape .oldest < at .shape .width
   pub first : at .first < at .shape .width
-  pub small : at .shape .base < 65535
+  pub small : at .shape .oldest < 65535
   pub rise : at .rise ≤ 65536
 
-module _ (h : Header) (e n : ℕ) (at : PacketPlace) (q : PlaceIs at ≡ placeFound h e n) where
-  pub place-is : at ≡ placeAt h (distance h e n) n
-  place-is = found-at h e n at q .at
+module _ (h : Header) (e n : ℕ) (at : Location) (q : LocationIs at ≡ locationFound h e n) where
+  pub location-is : at ≡ locationAt h (distance h e n) n
+  location-is = found-at h e n at q .at
 
-  pub place-width : at .shape .width ≡ h .setting .width
-  place-width = ap (λ p. p .shape .width) place-is
+  pub location-width : at .shape .width ≡ h .setting .width
+  location-width = ap (λ p. p .shape .width) location-is
 
-  pub place-size : at .shape .size ≡ h .setting .size
-  place-size = ap (λ p. p .shape .size) place-is
+  pub location-size : at .shape .size ≡ h .setting .size
+  location-size = ap (λ p. p .shape .size) location-is
 
   module _ (m v : List ℕ) (has : Based m h) (room : workingSize (h .setting) ≤ length v) where
     pub ready : Ready at m v
@@ -92,7 +92,7 @@ module _ (h : Header) (e n : ℕ) (at : PacketPlace) (q : PlaceIs at ≡ placeFo
         let f = found-at h e n at q in
         let g = based-fits m h has in
         let d : ℕ = distance h e n in
-        let b = mod-lt (h .row + (d + n - h .setting .width)) (g .some-width) in
+        let b = mod-lt (h .oldest + (d + n - h .setting .width)) (g .some-width) in
         subst (λ x. Ready x m v) (sym (f .at))
         (record {
           fits = g;
@@ -106,24 +106,24 @@ module _ (h : Header) (e n : ℕ) (at : PacketPlace) (q : PlaceIs at ≡ placeFo
             columns = λ k l. absurd (omega arith);
           };
           base = b;
-          first = mod-lt (h .row + d) (g .some-width);
+          first = mod-lt (h .oldest + d) (g .some-width);
           small = omega (arith, b, g .wide);
           rise = omega (arith, f .fits);
         })
 
-    placed-by : (own : ℕ) → own ≤ n → n ≤ h .setting .width → PlacedBy h at own
+    placed-by : (own : ℕ) → own ≤ n → n ≤ h .setting .width → LocatedBy h at own
     placed-by own l f =
         let d : ℕ = distance h e n in
-        subst (λ x. PlacedBy h x own) (sym place-is) (record { width = refl; size = refl; base = refl; room = omega arith })
+        subst (λ x. LocatedBy h x own) (sym location-is) (record { width = refl; size = refl; base = refl; room = omega arith })
 
     -- What accepting asks, once the equations are gathered.
     pub accept-asks : (v′ : List ℕ) (r : Gathered) (kept own : ℕ) → r ≡ All kept
         → WorksOn (at .shape .width) (at .shape .size) v′ r → own ≤ n → n ≤ h .setting .width
-        → Based m h × packet.Works (h .setting .width) (h .setting .size) kept v′ × (at .shape .base < 65535) × (at .rise ≤ 65536)
-        × PlacedBy h at own
+        → Based m h × packet.Works (h .setting .width) (h .setting .size) kept v′ × (at .shape .oldest < 65535) × (at .rise ≤ 65536)
+        × LocatedBy h at own
     accept-asks v′ r kept own z g l f =
         let k = subst (WorksOn (at .shape .width) (at .shape .size) v′) z g in
-        let works = subst (λ (p : PacketPlace). packet.Works (p .shape .width) (p .shape .size) kept v′) place-is k in
+        let works = subst (λ (p : Location). packet.Works (p .shape .width) (p .shape .size) kept v′) location-is k in
         (has, works, ready .small, ready .rise, placed-by own l f)
 
 -- ---- The model's answer
@@ -154,7 +154,7 @@ received-by s t p rise e o f =
 
 -- By the state's base, the place is where the packet lies in the window.
 lies-at : (s : Setting) (t : Joined s) (d n : ℕ) → 0 < n → n ≤ s .width
-    → Lies (placeAt (headerFrom s t) d n) (placeAt (headerFrom s t) d n .first) n (t .base) (d - (d + n - s .width))
+    → Lies (locationAt (headerFrom s t) d n) (locationAt (headerFrom s t) d n .first) n (t .base) (d - (d + n - s .width))
 lies-at s t d n pos fits =
     let w : ℕ = s .width in
     let e : t .base + (d + n - w) + (d - (d + n - w)) ≡ t .base + d = omega arith in
@@ -209,46 +209,46 @@ module _ (c : Call) (m v : List ℕ) (h : Header) (has : headerIn m ≡ some h) 
     header-found s t k = subst (λ x. headerFor h e ≡ headerFrom s (foundBy s t x)) begins (found-header m h s t e has k)
 
     -- So it has the header's setting, and a base with its ESI.
-    reads : (x : ℕ → Reading) → ((b : ℕ) → b % 2 ^ 32 ≡ g .base .0 → reading (h .setting) b (length v) c ≡ x b)
+    reads : (x : ℕ → Reading) → ((b : ℕ) → b % 2 ^ 32 ≡ g .esi .0 → reading (h .setting) b (length v) c ≡ x b)
         → (s : Setting) (j : Joined s) → g ≡ headerFrom s j → reading s (j .base) (length v) c ≡ x (j .base)
     reads x f s j q =
-        subst (λ (y : Header). reading (y .setting) (j .base) (length v) c ≡ x (j .base)) q (f (j .base) (sym (ap (λ (y : Header). y .base .0) q)))
+        subst (λ (y : Header). reading (y .setting) (j .base) (length v) c ≡ x (j .base)) q (f (j .base) (sym (ap (λ (y : Header). y .esi .0) q)))
 
     -- A check fails, by the place of the base.
     pub received-stopped : (r : Refusal) → numberOf r ≢ 3
-        → ((b : ℕ) → b % 2 ^ 32 ≡ g .base .0 → reading (h .setting) b (length v) c ≡ fails (numberOf r)) → Received receiverLayout c m m v v (Refused r)
+        → ((b : ℕ) → b % 2 ^ 32 ≡ g .esi .0 → reading (h .setting) b (length v) c ≡ fails (numberOf r)) → Received receiverLayout c m m v v (Refused r)
     received-stopped r other says =
         refused-by r other (λ s t k. reads (λ b. fails (numberOf r)) says s (foundBy s t (esiOf c)) (header-found s t k))
 
     -- The checks before the packet's place have passed.
-    module _ (n : ℕ) (next : ℕ → ℕ → Reading) (says : (b : ℕ) → reading (h .setting) b (length v) c ≡ placed n (placeOf b e) (next b)) where
-      pub received-out : (r : Refusal) → Out r ≡ placeFound g e n → Received receiverLayout c m m v v (Refused r)
-      received-out r q = received-stopped r (out-other g e n r q) (λ b esi. says b ∙ out-placed g e n b esi (next b) r q)
+    module _ (n : ℕ) (next : ℕ → ℕ → Reading) (says : (b : ℕ) → reading (h .setting) b (length v) c ≡ fromSide n (sideOf b e) (next b)) where
+      pub received-out : (r : Refusal) → Out r ≡ locationFound g e n → Received receiverLayout c m m v v (Refused r)
+      received-out r q = received-stopped r (out-other g e n r q) (λ b esi. says b ∙ out-side g e n b esi (next b) r q)
 
-      pub reading-at : (at : PacketPlace) → PlaceIs at ≡ placeFound g e n → (b : ℕ) → b % 2 ^ 32 ≡ g .base .0
+      pub reading-at : (at : Location) → LocationIs at ≡ locationFound g e n → (b : ℕ) → b % 2 ^ 32 ≡ g .esi .0
           → reading (h .setting) b (length v) c ≡ next b (distance g e n)
-      reading-at at q b esi = says b ∙ at-placed g e n b esi (next b) at (found-at g e n at q)
+      reading-at at q b esi = says b ∙ at-side g e n b esi (next b) at (found-at g e n at q)
 
     -- All checks have passed: the packet is q p, where p is its first position, and its equations `rows` have been gathered at its place.
-    module _ (n d count : ℕ) (at : PacketPlace) (is : at ≡ placeAt g d n) (pos : 0 < n) (fits : n ≤ h .setting .width) (q : ℕ → Located)
+    module _ (n d count : ℕ) (at : Location) (is : at ≡ locationAt g d n) (pos : 0 < n) (fits : n ≤ h .setting .width) (q : ℕ → Located)
         (from : (p : ℕ) → first (q p) ≡ p) (names : (p : ℕ) → named (q p) ≡ n)
-        (says : (b : ℕ) → b % 2 ^ 32 ≡ g .base .0 → reading (h .setting) b (length v) c ≡ located (q (b + d)))
+        (says : (b : ℕ) → b % 2 ^ 32 ≡ g .esi .0 → reading (h .setting) b (length v) c ≡ located (q (b + d)))
         (rows : (w E : ℕ) → ℕ → ℕ → model.Row (Coded E) w)
         (spell : (b i : ℕ) → decoder.over (Coded (h .setting .size)) (h .setting .width) b (packetOf (h .setting .size) (q (b + i)))
         ≡ firsts (rows (h .setting .width) (h .setting .size) i) count)
         (v′ : List ℕ) (r : Gathered) (f : Gathers at n (rows (at .shape .width) (at .shape .size)) count r m v v′) where
       work-kept : Contained (workingSize (h .setting)) v v′
-      work-kept = subst (λ (p : PacketPlace). Contained (place (p .shape .width) (p .shape .size) (p .shape .width + 1)) v v′) is (f .contained)
+      work-kept = subst (λ (p : Location). Contained (rowOffset (p .shape .width) (p .shape .size) (p .shape .width + 1)) v v′) is (f .contained)
 
       module _ (s : Setting) (t : Joined s) (is-header : g ≡ headerFrom s t) (k : Stands m s t) where
-        here : at ≡ placeAt (headerFrom s t) d n
-        here = is ∙ ap (λ x. placeAt x d n) is-header
+        here : at ≡ locationAt (headerFrom s t) d n
+        here = is ∙ ap (λ x. locationAt x d n) is-header
 
         -- The model's packet, and what its equations come to.
         abbrev p : decoder.Packet (Coded (s .size))
         p = packetOf (s .size) (q (t .base + d))
 
-        abbrev ComesAt : PacketPlace → Type 0
+        abbrev ComesAt : Location → Type 0
         ComesAt at =
             Comes (s .width) (s .size) (t .base + at .rise) (decoder.advance-by (at .rise) (t .window)) v′
             (decoder.over (Coded (s .size)) (s .width) (t .base + at .rise) p) r
@@ -261,7 +261,7 @@ module _ (c : Call) (m v : List ℕ) (h : Header) (has : headerIn m ≡ some h) 
             let x : b + (d - i) ≡ t .base + d = omega (arith, w) in
             let spelt = subst (λ (y : Header). (b i : ℕ) → decoder.over (Coded (y .setting .size)) (y .setting .width) b (packetOf (y .setting .size) (q (b + i)))
             ≡ firsts (rows (y .setting .width) (y .setting .size) i) count) is-header spell in
-            let f′ = subst (λ (y : PacketPlace). Gathers y n (rows (y .shape .width) (y .shape .size)) count r m v v′) here f in
+            let f′ = subst (λ (y : Location). Gathers y n (rows (y .shape .width) (y .shape .size)) count r m v v′) here f in
             subst ComesAt (sym here)
             (subst (λ es. Comes (s .width) (s .size) b (decoder.advance-by i (t .window)) v′ es r)
             (sym (spelt b (d - i)) ∙ ap (λ (y : ℕ). decoder.over (Coded (s .size)) (s .width) b (packetOf (s .size) (q y))) x)
@@ -305,8 +305,8 @@ module _ (c : Call) (m v : List ℕ) (h : Header) (has : headerIn m ≡ some h) 
             (sym (owns (moved (s .width) (at .rise) M))
             ∙ ap (λ x. naming s (t .base + at .rise) (q (t .base + d)) (moved (s .width) x M)) (sym rose))
 
-        row-is : at .shape .base ≡ (t .base + at .rise) % s .width
-        row-is = subst (λ (y : PacketPlace). y .shape .base ≡ (t .base + y .rise) % s .width) (sym here) (mod-add-mod (t .base) (s .width) (d + n - s .width))
+        row-is : at .shape .oldest ≡ (t .base + at .rise) % s .width
+        row-is = subst (λ (y : Location). y .shape .oldest ≡ (t .base + y .rise) % s .width) (sym here) (mod-add-mod (t .base) (s .width) (d + n - s .width))
 
       -- The rows of the receiver as the packet finds it.
       stands-found : (s : Setting) (t : State s) → Holds m s t → Stands m s (foundBy s t (esiOf c))

@@ -26,22 +26,22 @@ use Rattle.table.specs.Window.{Fits}
 use Rattle.table.specs.Packet.{Works}
 use Rattle.receiver.specs.declared.Answer.the-variants.{Done, Refused}
 use Rattle.holding.specs.declared.Header.{Header}
-use Rattle.admission.specs.declared.packet.PacketPlace.{PacketPlace}
+use Rattle.admission.specs.declared.packet.Location.{Location}
 use Rattle.admission.specs.declared.packet.Gathered.{Gathered}
 use Rattle.admission.specs.declared.packet.Gathered.the-variants.{All, Contradiction}
-use Rattle.admission.specs.declared.packet.PlaceFound.the-variants.{PlaceIs, Out}
-use Rattle.history.specs.History.{Located, repair, named, Call, repair-call, esiOf, Reading, located, check, placeOf, placed, workingSize, readRepair, reading}
+use Rattle.admission.specs.declared.packet.LocationFound.the-variants.{LocationIs, Out}
+use Rattle.history.specs.History.{Located, repair, named, Call, repair-call, esiOf, Reading, located, check, sideOf, fromSide, workingSize, readRepair, reading}
 use Rattle.history.specs.Model.{packetOf}
 use Rattle.holding.specs.Header.{headerIn}
 use Rattle.receiver.specs.Promises.{drawsFor, Received}
 use Rattle.receiver.specs.Layout.{receiverLayout}
 use Rattle.admission.specs.Joining.{headerFor}
-use Rattle.admission.specs.Steps.{placeFound, firsts, Gathers, Accepted}
+use Rattle.admission.specs.Steps.{locationFound, firsts, Gathers, Accepted}
 use Rattle.admission.specs.RepairSteps.{equationAt}
 use Rattle.admission.proofs.Joining.{based}
 use Rattle.admission.proofs.Locating.{distance}
 use Rattle.admission.proofs.Repairing.{repair-equations}
-use Rattle.receiver.proofs.Receiving.{place-is, place-width, place-size, ready, received-refused, received-stopped, received-out, reading-at, received-contradiction, received-done}
+use Rattle.receiver.proofs.Receiving.{location-is, location-width, location-size, ready, received-refused, received-stopped, received-out, reading-at, received-contradiction, received-done}
 
 -- ---- What reading the packet found
 
@@ -117,7 +117,7 @@ module _ (p m v : List ℕ) (h : Header) (has : headerIn m ≡ some h) (lent : w
     call-range e = received-refused c m v h has refusals.Range (λ z. omega arith) (λ b. rw (enough, formed E p f read, rw is at e))
 
     module _ (fits : within 1 width (f .nss) ≡ true) where
-      says : (b : ℕ) → reading (h .setting) b (length v) c ≡ placed (f .nss) (placeOf b (f .first .0)) (next b)
+      says : (b : ℕ) → reading (h .setting) b (length v) c ≡ fromSide (f .nss) (sideOf b (f .first .0)) (next b)
       unfolding reading check readRepair
       says b = rw is (rw (enough, formed E p f read, rw is at fits))
 
@@ -128,26 +128,26 @@ module _ (p m v : List ℕ) (h : Header) (has : headerIn m ≡ some h) (lent : w
       begins : f .first .0 ≡ esiOf c
       begins = ap (λ y. y .first .0) is
 
-      pub call-out : (r : Refusal) → Out r ≡ placeFound g (f .first .0) (f .nss) → Received receiverLayout c m m v v (Refused r)
+      pub call-out : (r : Refusal) → Out r ≡ locationFound g (f .first .0) (f .nss) → Received receiverLayout c m m v v (Refused r)
       call-out r q = received-out c m v h has (f .first .0) begins (f .nss) next says r q
 
-      module _ (at : PacketPlace) (found : PlaceIs at ≡ placeFound g (f .first .0) (f .nss)) where
+      module _ (at : Location) (found : LocationIs at ≡ locationFound g (f .first .0) (f .nss)) where
         -- What gathering asks.
         pub gather-asks : (lists : List ℕ) → f .count * f .nss ≤ length lists
-            → Fits (at .shape .width) (at .shape .size) m × Works (at .shape .width) (at .shape .size) 0 v × (at .shape .base < at .shape .width)
+            → Fits (at .shape .width) (at .shape .size) m × Works (at .shape .width) (at .shape .size) 0 v × (at .shape .oldest < at .shape .width)
             × (at .first < at .shape .width) × (f .nss ≤ at .shape .width) × (f .count * f .nss ≤ length lists)
             × (8 + f .count * at .shape .size ≤ length p) × (f .count ≤ 16)
         gather-asks lists room =
             let k = ready g (f .first .0) (f .nss) at found m v (based m h (f .first .0) has) lent in
-            let n : f .nss ≤ at .shape .width = rw (place-width g (f .first .0) (f .nss) at found) (within-bounds 1 width (f .nss) fits .1) in
+            let n : f .nss ≤ at .shape .width = rw (location-width g (f .first .0) (f .nss) at found) (within-bounds 1 width (f .nss) fits .1) in
             let l : 8 + f .count * at .shape .size ≤ length p =
-            rw (place-size g (f .first .0) (f .nss) at found, sized E p f read .1) (omega arith) in
+            rw (location-size g (f .first .0) (f .nss) at found, sized E p f read .1) (omega arith) in
             (k .fits, k .works, k .base, k .first, n, room, l, sized E p f read .0)
 
         abbrev d : ℕ
         d = distance g (f .first .0) (f .nss)
 
-        drawn-next : (b : ℕ) → b % 2 ^ 32 ≡ g .base .0 → reading (h .setting) b (length v) c ≡ next b d
+        drawn-next : (b : ℕ) → b % 2 ^ 32 ≡ g .esi .0 → reading (h .setting) b (length v) c ≡ next b d
         drawn-next = reading-at c m v h has (f .first .0) begins (f .nss) next says at found
 
         ok-of : (t : Bool) → allOk scheme (f .dt) (f .nss) (keys (f .key .0) (f .count)) ≡ t
@@ -160,7 +160,7 @@ module _ (p m v : List ℕ) (h : Header) (has : headerIn m ≡ some h) (lent : w
         call-draws e = received-stopped c m v h has (f .first .0) begins refusals.Draws (λ z. omega arith) (λ b q. drawn-next b q ∙ rw (ok-of false e))
 
         module _ (drawn : allOk scheme (f .dt) (f .nss) (keys (f .key .0) (f .count)) ≡ true) where
-          located-next : (b : ℕ) → b % 2 ^ 32 ≡ g .base .0 → reading (h .setting) b (length v) c ≡ located (packetAt (b + d))
+          located-next : (b : ℕ) → b % 2 ^ 32 ≡ g .esi .0 → reading (h .setting) b (length v) c ≡ located (packetAt (b + d))
           unfolding check
           located-next b q = drawn-next b q ∙ rw (ok-of true drawn)
 
@@ -189,13 +189,13 @@ module _ (p m v : List ℕ) (h : Header) (has : headerIn m ≡ some h) (lent : w
 
             pub call-contradicts : r ≡ Contradiction → Received receiverLayout c m m v v′ (Refused refusals.Contradiction)
             call-contradicts =
-                received-contradiction c m v h has (f .first .0) begins (f .nss) d (f .count) at (place-is g (f .first .0) (f .nss) at found)
+                received-contradiction c m v h has (f .first .0) begins (f .nss) d (f .count) at (location-is g (f .first .0) (f .nss) at found)
                 (within-bounds 1 width (f .nss) fits .0) (within-bounds 1 width (f .nss) fits .1) (packetAt) (λ x. refl) named-nss
                 located-next (λ w E. equationAt w E (f .nss) lists p) spelt v′ r gathered
 
             pub call-done : (kept known : ℕ) (m′ : List ℕ) → r ≡ All kept → Accepted g at kept 0 known v′ m m′
                 → Received receiverLayout c m m′ v v′ (Done known)
             call-done =
-                received-done c m v h has (f .first .0) begins (f .nss) d (f .count) at (place-is g (f .first .0) (f .nss) at found)
+                received-done c m v h has (f .first .0) begins (f .nss) d (f .count) at (location-is g (f .first .0) (f .nss) at found)
                 (within-bounds 1 width (f .nss) fits .0) (within-bounds 1 width (f .nss) fits .1) (packetAt) (λ x. refl) named-nss
                 located-next (λ w E. equationAt w E (f .nss) lists p) spelt v′ r gathered 0 (λ s b N. refl)

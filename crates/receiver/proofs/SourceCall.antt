@@ -25,22 +25,22 @@ use Rattle.decoder.specs.Receiver as decoder
 use Rattle.starts.specs.Starts.{Starts, also, owning}
 use Rattle.receiver.specs.declared.Answer.the-variants.{Done, Refused}
 use Rattle.holding.specs.declared.Header.{Header}
-use Rattle.admission.specs.declared.packet.PacketPlace.{PacketPlace}
-use Rattle.admission.specs.declared.packet.PlaceFound.the-variants.{PlaceIs, Out}
+use Rattle.admission.specs.declared.packet.Location.{Location}
+use Rattle.admission.specs.declared.packet.LocationFound.the-variants.{LocationIs, Out}
 use Rattle.admission.specs.declared.packet.Gathered.{Gathered}
 use Rattle.admission.specs.declared.packet.Gathered.the-variants.{All, Contradiction}
-use Rattle.history.specs.History.{Located, source, Call, source-call, located, check, placeOf, placed, workingSize, readSource, reading}
+use Rattle.history.specs.History.{Located, source, Call, source-call, located, check, sideOf, fromSide, workingSize, readSource, reading}
 use Rattle.history.specs.Model.{packetOf, naming}
 use Rattle.holding.specs.Header.{headerIn}
 use Rattle.receiver.specs.Promises.{Received}
 use Rattle.receiver.specs.Layout.{receiverLayout}
 use Rattle.admission.specs.Joining.{headerFor}
-use Rattle.admission.specs.Steps.{placeFound, firsts, Gathers, Accepted}
+use Rattle.admission.specs.Steps.{locationFound, firsts, Gathers, Accepted}
 use Rattle.admission.specs.SourceSteps.{equationOf}
 use Rattle.holding.proofs.Headers.{headed}
 use Rattle.admission.proofs.Locating.{distance}
 use Rattle.admission.proofs.Sourcing.{source-equations}
-use Rattle.receiver.proofs.Receiving.{place-is, place-size, received-refused, received-out, reading-at, received-contradiction, received-done}
+use Rattle.receiver.proofs.Receiving.{location-is, location-size, received-refused, received-out, reading-at, received-contradiction, received-done}
 
 symbols-some : (E L : ℕ) → 0 < E → 0 < symbolCount E L
 symbols-some E L pos = go (symbolCount E L) (adui.room E L pos)
@@ -130,12 +130,12 @@ module _ (flow : ℕ) (p m v : List ℕ) (h : Header) (has : headerIn m ≡ some
         abbrev q : ℕ → Located
         q x = source x (sourceSymbols flow (sourceAdu p) E)
 
-        says : (b : ℕ) → reading (h .setting) b (length v) c ≡ placed count (placeOf b (f .first .0)) (λ d. located (q (b + d)))
+        says : (b : ℕ) → reading (h .setting) b (length v) c ≡ fromSide count (sideOf b (f .first .0)) (λ d. located (q (b + d)))
         unfolding reading check readSource
         says b =
             rw (enough, reads .form, short-adu, le-leb n width (omega (arith, counted)))
-            (ap (λ (k : ℕ). placed k (placeOf b (sourceEsi p)) (λ d. located (q (b + d)))) counted
-            ∙ ap (λ (x : ℕ). placed count (placeOf b x) (λ d. located (q (b + d)))) (sym (reads .esi)))
+            (ap (λ (k : ℕ). fromSide k (sideOf b (sourceEsi p)) (λ d. located (q (b + d)))) counted
+            ∙ ap (λ (x : ℕ). fromSide count (sideOf b x) (λ d. located (q (b + d)))) (sym (reads .esi)))
 
         spelt : (b i : ℕ) → decoder.over (Coded E) width b (packetOf E (q (b + i))) ≡ firsts (equationOf width E flow (sourceAdu p) i) count
         spelt b i = source-equations width E b i flow (sourceAdu p) ∙ ap (firsts (equationOf width E flow (sourceAdu p) i)) counted
@@ -144,18 +144,18 @@ module _ (flow : ℕ) (p m v : List ℕ) (h : Header) (has : headerIn m ≡ some
         abbrev g : Header
         g = headerFor h (f .first .0)
 
-        pub call-out : (r : Refusal) → Out r ≡ placeFound g (f .first .0) count → Received receiverLayout c m m v v (Refused r)
+        pub call-out : (r : Refusal) → Out r ≡ locationFound g (f .first .0) count → Received receiverLayout c m m v v (Refused r)
         call-out r o = received-out c m v h has (f .first .0) (reads .esi) count (λ b d. located (q (b + d))) says r o
 
-        module _ (at : PacketPlace) (found : PlaceIs at ≡ placeFound g (f .first .0) count) (adu v′ : List ℕ) (is : adu ≡ part 0 (f .len) p) (r : Gathered)
+        module _ (at : Location) (found : LocationIs at ≡ locationFound g (f .first .0) count) (adu v′ : List ℕ) (is : adu ≡ part 0 (f .len) p) (r : Gathered)
             (gathered : Gathers at (symbolCount (at .shape .size) (length adu)) (equationOf (at .shape .width) (at .shape .size) flow adu) count r m v v′) where
-          abbrev packet-is : PacketPlace → List ℕ → ℕ → Type 0
+          abbrev packet-is : Location → List ℕ → ℕ → Type 0
           packet-is y x k = Gathers y k (equationOf (y .shape .width) (y .shape .size) flow x) count r m v v′
 
           -- The equations are those of the packet's ADU, as many as it has symbols.
           all-gathered : packet-is at (sourceAdu p) count
           all-gathered =
-              subst (packet-is at (sourceAdu p)) (ap (λ (x : ℕ). symbolCount x (length (sourceAdu p))) (place-size g (f .first .0) count at found) ∙ counted)
+              subst (packet-is at (sourceAdu p)) (ap (λ (x : ℕ). symbolCount x (length (sourceAdu p))) (location-size g (f .first .0) count at found) ∙ counted)
               (subst (λ (x : List ℕ). packet-is at x (symbolCount (at .shape .size) (length x))) (is ∙ reads .adu) gathered)
 
           some-symbol : 0 < count
@@ -164,7 +164,7 @@ module _ (flow : ℕ) (p m v : List ℕ) (h : Header) (has : headerIn m ≡ some
           pub call-contradicts : r ≡ Contradiction → Received receiverLayout c m m v v′ (Refused refusals.Contradiction)
           call-contradicts =
               received-contradiction c m v h has (f .first .0) (reads .esi) count (distance g (f .first .0) count) count at
-              (place-is g (f .first .0) count at found) some-symbol fits q
+              (location-is g (f .first .0) count at found) some-symbol fits q
               (λ x. refl) (λ x. adui.symbols-count flow (sourceAdu p) E ∙ counted)
               (reading-at c m v h has (f .first .0) (reads .esi) count (λ b d. located (q (b + d))) says at found)
               (λ w E. equationOf w E flow (sourceAdu p)) spelt v′ r all-gathered
@@ -174,7 +174,7 @@ module _ (flow : ℕ) (p m v : List ℕ) (h : Header) (has : headerIn m ≡ some
           owns s b N =
               let d : ℕ = distance g (f .first .0) count in
               let l : length (sourceSymbols flow (sourceAdu p) E) ≡ count = adui.symbols-count flow (sourceAdu p) E ∙ counted in
-              let i = place-is g (f .first .0) count at found in
+              let i = location-is g (f .first .0) count at found in
               let o : at .offset ≡ d - (d + count - width) = ap (λ y. y .offset) i in
               let z : at .rise ≡ d + count - width = ap (λ y. y .rise) i in
               let x : b + d - (b + at .rise) ≡ at .offset = omega (arith, z, o) in
@@ -185,7 +185,7 @@ module _ (flow : ℕ) (p m v : List ℕ) (h : Header) (has : headerIn m ≡ some
               → Received receiverLayout c m m′ v v′ (Done known)
           call-done =
               received-done c m v h has (f .first .0) (reads .esi) count (distance g (f .first .0) count) count at
-              (place-is g (f .first .0) count at found) some-symbol fits q
+              (location-is g (f .first .0) count at found) some-symbol fits q
               (λ x. refl) (λ x. adui.symbols-count flow (sourceAdu p) E ∙ counted)
               (reading-at c m v h has (f .first .0) (reads .esi) count (λ b d. located (q (b + d))) says at found)
               (λ w E. equationOf w E flow (sourceAdu p)) spelt v′ r all-gathered count owns

@@ -4,7 +4,7 @@ ghost use Rattle.history.specs.History.{source-call, repair-call};
 ghost use Rattle.receiver.specs.Layout.{receiverLayout};
 use admission::packet;
 use admission::packet::Gathered;
-use admission::packet::PlaceFound;
+use admission::packet::LocationFound;
 use admission::repair;
 use admission::source;
 use coefficients::Filled;
@@ -48,7 +48,7 @@ pub fn open(mem: &mut [u8], scheme: usize, size: usize, width: usize) -> Answer
     let shape = Shape {
         width: setting.width,
         size: setting.size,
-        base: 0,
+        oldest: 0,
     };
     placing::clear(mem, shape);
     marks::clear(mem, shape);
@@ -96,7 +96,7 @@ pub fn adu(mem: &[u8], esi: Esi, out: &mut [u8]) -> Handed
         return Handed::Withheld(Refusal::Unknown);
     }
     let width = header.setting.width;
-    let d = esi.distance(header.base) as usize;
+    let d = esi.distance(header.esi) as usize;
     if d >= 2147483648 {
         return Handed::Withheld(Refusal::Behind);
     }
@@ -106,7 +106,7 @@ pub fn adu(mem: &[u8], esi: Esi, out: &mut [u8]) -> Handed
     let shape = Shape {
         width,
         size: header.setting.size,
-        base: header.row,
+        oldest: header.oldest,
     };
     handing::hand_out(mem, shape, d, out)
 }
@@ -135,15 +135,15 @@ pub fn receive_source(mem: &mut [u8], work: &mut [u8], flow: u8, packet: &[u8]) 
         return PacketAnswer::NotAccepted(Refusal::Long);
     }
     let based = packet::join(header, fields.first);
-    let place = match packet::locate(based, fields.first, count) {
-        PlaceFound::PlaceIs(at) => at,
-        PlaceFound::Out(refusal) => return PacketAnswer::NotAccepted(refusal),
+    let location = match packet::locate(based, fields.first, count) {
+        LocationFound::LocationIs(at) => at,
+        LocationFound::Out(refusal) => return PacketAnswer::NotAccepted(refusal),
     };
     let adu = memory::part(packet, 0, fields.len);
-    let Gathered::All(kept) = source::gather_source(mem, work, place, flow, adu, count) else {
+    let Gathered::All(kept) = source::gather_source(mem, work, location, flow, adu, count) else {
         return PacketAnswer::NotAccepted(Refusal::Contradiction);
     };
-    PacketAnswer::Accepted(packet::accept(mem, work, based, place, kept, count), 0)
+    PacketAnswer::Accepted(packet::accept(mem, work, based, location, kept, count), 0)
 }
 
 // Receives a repair packet. The state is only read until all its symbols are known to agree with it. Gives how many positions of the window
@@ -168,9 +168,9 @@ pub fn receive_repair(mem: &mut [u8], work: &mut [u8], packet: &[u8]) -> PacketA
         return PacketAnswer::NotAccepted(Refusal::Range);
     }
     let based = packet::join(header, fields.first);
-    let place = match packet::locate(based, fields.first, n) {
-        PlaceFound::PlaceIs(at) => at,
-        PlaceFound::Out(refusal) => return PacketAnswer::NotAccepted(refusal),
+    let location = match packet::locate(based, fields.first, n) {
+        LocationFound::LocationIs(at) => at,
+        LocationFound::Out(refusal) => return PacketAnswer::NotAccepted(refusal),
     };
     let mut lists = coefficients::room_for_lists();
     let scheme = setting.scheme;
@@ -184,9 +184,9 @@ pub fn receive_repair(mem: &mut [u8], work: &mut [u8], packet: &[u8]) -> PacketA
     ) else {
         return PacketAnswer::NotAccepted(Refusal::Draws);
     };
-    let Gathered::All(kept) = repair::gather_repair(mem, work, &lists, packet, place, n, count)
+    let Gathered::All(kept) = repair::gather_repair(mem, work, &lists, packet, location, n, count)
     else {
         return PacketAnswer::NotAccepted(Refusal::Contradiction);
     };
-    PacketAnswer::Accepted(packet::accept(mem, work, based, place, kept, 0), draws)
+    PacketAnswer::Accepted(packet::accept(mem, work, based, location, kept, 0), draws)
 }

@@ -9,7 +9,7 @@ use native.Mathlib.Omega.{arith}
 use lib.Dec.{eqb}
 use borrow.Author.Tests.{ne-eqb}
 use Rattle.wire.specs.declared.Setting.{Setting}
-use Rattle.history.specs.History.{Call, source-call, repair-call, OfBytes, esiOf, Place, behind, ahead, Reading, fails, located, check, placed}
+use Rattle.history.specs.History.{Call, source-call, repair-call, OfBytes, esiOf, Side, behind, ahead, Reading, fails, located, check, fromSide}
 use Rattle.history.specs.History.{readSource, readRepair, reading, Located, Log, Said, value, refusal, readAfter, logged, Judged}
 use Rattle.decoder.specs.Receiver as decoder
 use Rattle.history.specs.Model.{packetOf, Joined, State, foundBy, saidOf, stateAfter, added, responds, answering, receiving}
@@ -35,18 +35,18 @@ unfolding check
 checked true n r h k = k
 checked false n r h k = h
 
-placed-numbered : (n : ℕ) (p : Place) (next : ℕ → Reading) → ((d : ℕ) → Numbered (next d)) → Numbered (placed n p next)
-unfolding placed
-placed-numbered n behind next h = omega arith
-placed-numbered n (ahead d) next h = checked _ 9 (next d) (omega arith) (h d)
+side-numbered : (n : ℕ) (p : Side) (next : ℕ → Reading) → ((d : ℕ) → Numbered (next d)) → Numbered (fromSide n p next)
+unfolding fromSide
+side-numbered n behind next h = omega arith
+side-numbered n (ahead d) next h = checked _ 9 (next d) (omega arith) (h d)
 
 numbered : (s : Setting) (base b : ℕ) (c : Call) → Numbered (reading s base b c)
 unfolding reading readSource readRepair
 numbered s base b (source-call flow p) =
-    checked _ 2 _ (omega arith) (checked _ 5 _ (omega arith) (checked _ 4 _ (omega arith) (placed-numbered _ _ _ (λ d. tt))))
+    checked _ 2 _ (omega arith) (checked _ 5 _ (omega arith) (checked _ 4 _ (omega arith) (side-numbered _ _ _ (λ d. tt))))
 numbered s base b (repair-call p) =
     checked _ 2 _ (omega arith)
-    (checked _ 5 _ (omega arith) (checked _ 6 _ (omega arith) (placed-numbered _ _ _ (λ d. checked _ 10 _ (omega arith) tt))))
+    (checked _ 5 _ (omega arith) (checked _ 6 _ (omega arith) (side-numbered _ _ _ (λ d. checked _ 10 _ (omega arith) tt))))
 
 abbrev Positive : Said → Type 0
 Positive (value n) = Unit {0}

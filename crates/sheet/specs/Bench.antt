@@ -25,7 +25,7 @@ use Rattle.sender.specs.Calls.{Outcome, refused, done, opening, adding, repairi
 use Rattle.starts.specs.Adu.{joint, Handing, hands, withholds, need, handing}
 use Rattle.starts.specs.Starts.{Starts, nowhere, pass}
 use Rattle.history.specs.Symbol.{bytesOf}
-use Rattle.history.specs.History.{Call, source-call, repair-call, esiOf, placeOf, check, placed, readSource, readRepair, reading, workingSize}
+use Rattle.history.specs.History.{Call, source-call, repair-call, esiOf, sideOf, check, fromSide, readSource, readRepair, reading, workingSize}
 use Rattle.history.specs.History.{Said, value, refusal as refuses}
 use Rattle.history.specs.Model as receiver
 use Rattle.receiver.specs.Promises.{drawsFor}
@@ -337,7 +337,7 @@ unfolding
     symbolCount adui sourceSymbols sourcePacket sourceForm sourceAdu sourceEsi
     repairHeader repairPacket repairCount repairForm repairKey densityThreshold protectedCount firstEsi repairSymbols
     inRange settingOf field part settingIn headerIn repairSymbol opening adding repairing
-    placeOf check placed readSource readRepair reading answering finding
+    sideOf check fromSide readSource readRepair reading answering finding
     packets.source packets.source-rows packets.row packets.only packets.repair
     decoder.empty decoder.receive decoder.rise decoder.newly decoder.count-new decoder.is-new
     decoder.embed decoder.advance-by decoder.insert-all

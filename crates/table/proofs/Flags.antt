@@ -13,7 +13,7 @@ use Rattle.memory.specs.Part.{splice}
 use Rattle.memory.proofs.Parts.{length-part, getD-part, row-fits}
 use Rattle.decoder.specs.TableSteps.{total}
 use Rattle.decoder.proofs.Stretch.{line-same}
-use Rattle.table.specs.Window.{stride, place, row, flag, inUse, line, Flagged, Flags, Fits, Kept}
+use Rattle.table.specs.Window.{stride, rowOffset, row, flag, inUse, line, Flagged, Flags, Fits, Kept}
 use Rattle.table.specs.RowSteps.{one-if-known, known-flag, flagged}
 use Rattle.table.proofs.Rows.{row-store, row-other, kept-store}
 use Rattle.table.proofs.Holding.{getD-before}
@@ -26,11 +26,11 @@ stored-at (x ∷ l) zero v h = refl
 stored-at (x ∷ l) (suc i) v h = stored-at l i v (omega arith)
 
 pub length-row : (w E : ℕ) (m : List ℕ) → Fits w E m → (r : ℕ) → r < w → length (row w E r m) ≡ stride w E
-length-row w E m fits r h = length-part (place w E r) (stride w E) m (omega (arith, fits .room, row-fits w (stride w E) r h))
+length-row w E m fits r h = length-part (rowOffset w E r) (stride w E) m (omega (arith, fits .room, row-fits w (stride w E) r h))
 
 -- Where the flag lies in the memory.
-pub flag-at : (w E r : ℕ) (m : List ℕ) → flag w E (row w E r m) ≡ getD m (place w E r + (w + E)) 0
-flag-at w E r m = getD-part (place w E r) (stride w E) (w + E) m (omega arith)
+pub flag-at : (w E r : ℕ) (m : List ℕ) → flag w E (row w E r m) ≡ getD m (rowOffset w E r + (w + E)) 0
+flag-at w E r m = getD-part (rowOffset w E r) (stride w E) (w + E) m (omega arith)
 
 pub unused : (w E : ℕ) (l : List ℕ) → flag w E l ≡ 0 → inUse w E l ≡ false
 unused w E l z = ap (ltb 0) z

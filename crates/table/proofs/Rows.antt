@@ -9,14 +9,14 @@ use native.Mathlib.Omega.{arith}
 use lib.ListN.{length, getD, set}
 use Rattle.memory.specs.Part.{part, splice}
 use Rattle.memory.proofs.Parts.{length-part, length-splice, take-splice, past-splice, part-before, part-past, part-splice, splice-within, getD-part, getD-past, row-fits}
-use Rattle.table.specs.Window.{stride, place, row, Fits, Kept}
+use Rattle.table.specs.Window.{stride, rowOffset, row, Fits, Kept}
 
 -- No row begins later than the last of the widest window and the longest symbols.
-pub small-row : (w E r : ℕ) → r ≤ w → (w ≤ 255) × (E ≤ 1500) → place w E r ≤ place 255 1500 255
+pub small-row : (w E r : ℕ) → r ≤ w → (w ≤ 255) × (E ≤ 1500) → rowOffset w E r ≤ rowOffset 255 1500 255
 small-row w E r h k = let l : r ≤ 255 = omega arith in omega (arith, mul-le-mul-right (stride w E) l)
 
 -- A row ends within the rows.
-pub row-end : (w E r : ℕ) → r < w → place w E r + stride w E ≤ place w E w
+pub row-end : (w E r : ℕ) → r < w → rowOffset w E r + stride w E ≤ rowOffset w E w
 row-end w E r h = omega (arith, row-fits w (stride w E) r h)
 
 -- One byte stored.
@@ -47,11 +47,11 @@ fits-kept f k = record {
 }
 
 -- `x` stored from byte `b` of row `r` on, and no further than the first flag.
-module _ (w E r b : ℕ) (x m : List ℕ) (room : place w E w ≤ length m) (h : r < w) (l : b + length x ≤ w + E + 1) where
-  pub row-store : row w E r (splice (place w E r + b) x m) ≡ splice b x (row w E r m)
+module _ (w E r b : ℕ) (x m : List ℕ) (room : rowOffset w E w ≤ length m) (h : r < w) (l : b + length x ≤ w + E + 1) where
+  pub row-store : row w E r (splice (rowOffset w E r + b) x m) ≡ splice b x (row w E r m)
   row-store =
       let f = row-fits w (stride w E) r h in
-      let a = place w E r in
+      let a = rowOffset w E r in
       let p = part a (stride w E) m in
       let n : length p ≡ stride w E = length-part a (stride w E) m (omega arith) in
       let k : length (splice b x p) ≡ stride w E = length-splice b x p (omega arith) ∙ n in
@@ -59,34 +59,34 @@ module _ (w E r b : ℕ) (x m : List ℕ) (room : place w E w ≤ length m) (h :
       let s = part-splice a (splice b x p) m (omega arith) in
       cc
 
-  pub row-other : (q : ℕ) → q < w → q ≢ r → row w E q (splice (place w E r + b) x m) ≡ row w E q m
+  pub row-other : (q : ℕ) → q < w → q ≢ r → row w E q (splice (rowOffset w E r + b) x m) ≡ row w E q m
   row-other q g n = go (decLt q r)
     where
       f : r * stride w E + stride w E ≤ w * stride w E
       f = row-fits w (stride w E) r h
 
-      go : Dec (q < r) → row w E q (splice (place w E r + b) x m) ≡ row w E q m
-      go (yes d) = part-before (place w E q) (stride w E) (place w E r + b) x m (omega (arith, row-fits r (stride w E) q d)) (omega (arith, f))
-      go (no d) = part-past (place w E q) (stride w E) (place w E r + b) x m (omega (arith, row-fits q (stride w E) r (omega arith))) (omega (arith, f))
+      go : Dec (q < r) → row w E q (splice (rowOffset w E r + b) x m) ≡ row w E q m
+      go (yes d) = part-before (rowOffset w E q) (stride w E) (rowOffset w E r + b) x m (omega (arith, row-fits r (stride w E) q d)) (omega (arith, f))
+      go (no d) = part-past (rowOffset w E q) (stride w E) (rowOffset w E r + b) x m (omega (arith, row-fits q (stride w E) r (omega arith))) (omega (arith, f))
 
   flag : (q k : ℕ) → q < w → w + E < k → k < stride w E → Dec (q ≡ r)
-      → getD (row w E q (splice (place w E r + b) x m)) k 0 ≡ getD (row w E q m) k 0
+      → getD (row w E q (splice (rowOffset w E r + b) x m)) k 0 ≡ getD (row w E q m) k 0
   flag q k g c d (yes e) =
       let f = row-fits w (stride w E) r h in
-      ap (λ y. getD (row w E y (splice (place w E r + b) x m)) k 0) e
+      ap (λ y. getD (row w E y (splice (rowOffset w E r + b) x m)) k 0) e
       ∙ ap (λ y. getD y k 0) row-store
-      ∙ getD-past k b x (row w E r m) (omega arith) (omega (arith, length-part (place w E r) (stride w E) m (omega arith)))
+      ∙ getD-past k b x (row w E r m) (omega arith) (omega (arith, length-part (rowOffset w E r) (stride w E) m (omega arith)))
       ∙ ap (λ y. getD (row w E y m) k 0) (sym e)
   flag q k g c d (no e) = ap (λ y. getD y k 0) (row-other q g e)
 
-  pub kept-store : Kept w E m (splice (place w E r + b) x m)
+  pub kept-store : Kept w E m (splice (rowOffset w E r + b) x m)
   kept-store =
       let f = row-fits w (stride w E) r h in
       record {
-        size = length-splice (place w E r + b) x m (omega arith);
-        header = take-splice 64 (place w E r + b) x m (omega arith) (omega arith);
-        past = past-splice (place w E w) (place w E r + b) x m (omega arith) (omega arith);
+        size = length-splice (rowOffset w E r + b) x m (omega arith);
+        header = take-splice 64 (rowOffset w E r + b) x m (omega arith) (omega arith);
+        past = past-splice (rowOffset w E w) (rowOffset w E r + b) x m (omega arith) (omega arith);
         flags = λ q k g c d.
-            sym (getD-part (place w E q) (stride w E) k (splice (place w E r + b) x m) d) ∙ flag q k g c d (ℕ-discrete q r)
-            ∙ getD-part (place w E q) (stride w E) k m d;
+            sym (getD-part (rowOffset w E q) (stride w E) k (splice (rowOffset w E r + b) x m) d) ∙ flag q k g c d (ℕ-discrete q r)
+            ∙ getD-part (rowOffset w E q) (stride w E) k m d;
       }

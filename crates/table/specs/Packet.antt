@@ -10,7 +10,7 @@ use Rattle.decoder.specs.Model.{Row, State}
 use Rattle.decoder.specs.Receiver.{insert-all}
 use Rattle.decoder.specs.TableSteps.{Leads}
 use Rattle.decoder.specs.Chain.{Chain, place-rows}
-use Rattle.table.specs.Window.{place, row, line, equation}
+use Rattle.table.specs.Window.{rowOffset, row, line, equation}
 
 -- Sizes for which working memory has room. Each of its first `kept` rows has a column of the window in its flag.
 pub record Works (w E kept : ℕ) (work : List ℕ) : Type 0 where
@@ -18,7 +18,7 @@ pub record Works (w E kept : ℕ) (work : List ℕ) : Type 0 where
   pub wide : w ≤ 255
   pub some-symbol : 4 ≤ E
   pub long : E ≤ 1500
-  pub room : place w E (w + 1) ≤ length work
+  pub room : rowOffset w E (w + 1) ≤ length work
   pub within : kept ≤ w
   pub columns : (k : ℕ) → k < kept → getD (row w E k work) (w + E) 0 < w
 

@@ -11,14 +11,14 @@ use Rattle.decoder.specs.Bytes.{byte, Coded}
 use Rattle.decoder.specs.Model.{State}
 use Rattle.decoder.specs.TableSteps.{add-line, total}
 use Rattle.decoder.specs.Chain.{Chain, place-rows}
-use Rattle.table.specs.Window.{stride, place, row, flag, inUse, line, Alone, Flagged, Flags, Window, Kept}
+use Rattle.table.specs.Window.{stride, rowOffset, row, flag, inUse, line, Alone, Flagged, Flags, Window, Kept}
 use Rattle.table.specs.Packet.{spelled, PivotMarked}
 
 -- The row `r` of `w + 1` begins at `at`.
 pub record RowAt (w E r at : ℕ) : Type 0 where
-  pub start : at ≡ place w E r
-  pub end : at + stride w E ≤ place w E (w + 1)
-  pub small : at ≤ place 255 1500 255
+  pub start : at ≡ rowOffset w E r
+  pub end : at + stride w E ≤ rowOffset w E (w + 1)
+  pub small : at ≤ rowOffset 255 1500 255
 
 -- Every byte from `a` on and before `z` is zero.
 abbrev pub Zero-from : (a z : ℕ) → List ℕ → Type 0
@@ -39,7 +39,7 @@ known-flags w E m = total (known-flag w E m) w
 
 -- The memory with `v` for the first flag of the row `r`.
 abbrev pub flagged : (w E r v : ℕ) → List ℕ → List ℕ
-flagged w E r v m = splice (place w E r + (w + E)) (v ∷ []) m
+flagged w E r v m = splice (rowOffset w E r + (w + E)) (v ∷ []) m
 
 -- Whether the row `r` has no coefficient but its own: `n` is 1, else 0.
 pub record Tested (w E r n : ℕ) (m : List ℕ) : Type 0 where
@@ -70,8 +70,8 @@ pub record ClearedRow (w E r q n : ℕ) (l m m′ : List ℕ) : Type 0 where
 pub record FirstWith (w E r from q : ℕ) (m : List ℕ) : Type 0 where
   pub least : from ≤ q
   pub most : q ≤ w
-  pub zeros : (j : ℕ) → from ≤ j → j < q → getD m (place w E j + r) 0 ≡ 0
-  pub here : q < w → getD m (place w E q + r) 0 ≢ 0
+  pub zeros : (j : ℕ) → from ≤ j → j < q → getD m (rowOffset w E j + r) 0 ≡ 0
+  pub here : q < w → getD m (rowOffset w E q + r) 0 ≢ 0
 
 -- The working row `l` has become the row `r`, in use.
 pub record Stored (w E r n : ℕ) (l m m′ : List ℕ) : Type 0 where
@@ -93,7 +93,7 @@ pub record Settled (w E r n : ℕ) (l m m′ : List ℕ) : Type 0 where
 
 -- Working memory has the row `k`, and a column of the window in its first flag.
 pub record KeptRow (w E k : ℕ) (work : List ℕ) : Type 0 where
-  pub room : place w E w ≤ length work
+  pub room : rowOffset w E w ≤ length work
   pub within : k < w
   pub column : flag w E (row w E k work) < w
 

@@ -17,12 +17,12 @@ use Rattle.decoder.specs.Stretch.{line-of}
 abbrev pub stride : ℕ → ℕ → ℕ
 stride w E = w + E + 4
 
-abbrev pub place : ℕ → ℕ → ℕ → ℕ
-place w E r = 64 + r * stride w E
+abbrev pub rowOffset : ℕ → ℕ → ℕ → ℕ
+rowOffset w E r = 64 + r * stride w E
 
 -- The bytes of row `r`.
 abbrev pub row : ℕ → ℕ → ℕ → List ℕ → List ℕ
-row w E r m = part (place w E r) (stride w E) m
+row w E r m = part (rowOffset w E r) (stride w E) m
 
 -- What the bytes of a row say: its first flag, whether it is in use, and its coefficients and symbol.
 abbrev pub flag : ℕ → ℕ → List ℕ → ℕ
@@ -65,11 +65,11 @@ pub record Fits (w E : ℕ) (m : List ℕ) : Type 0 where
   pub wide : w ≤ 255
   pub some-symbol : 4 ≤ E
   pub long : E ≤ 1500
-  pub room : place w E w ≤ length m
+  pub room : rowOffset w E w ≤ length m
 
 -- Nothing but the rows has changed, and of their flags only the first.
 pub record Kept (w E : ℕ) (m m′ : List ℕ) : Type 0 where
   pub size : length m′ ≡ length m
   pub header : take 64 m′ ≡ take 64 m
-  pub past : drop (place w E w) m′ ≡ drop (place w E w) m
-  pub flags : (r k : ℕ) → r < w → w + E < k → k < stride w E → getD m′ (place w E r + k) 0 ≡ getD m (place w E r + k) 0
+  pub past : drop (rowOffset w E w) m′ ≡ drop (rowOffset w E w) m
+  pub flags : (r k : ℕ) → r < w → w + E < k → k < stride w E → getD m′ (rowOffset w E r + k) 0 ≡ getD m (rowOffset w E r + k) 0

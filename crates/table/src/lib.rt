@@ -10,11 +10,11 @@ ghost use Rattle.table.specs.RowSteps.{RowAt, Zero-from};
 pub struct Shape {
     pub width: usize,
     pub size: usize,
-    pub base: usize,
+    pub oldest: usize,
 }
 
 // Where the row `r` begins.
-pub fn start_of(shape: Shape, r: usize) -> usize
+pub fn row_offset(shape: Shape, r: usize) -> usize
     requires { ⌜ (r ≤ shape .width) × (shape .width ≤ 255) × (shape .size ≤ 1500) ⌝ }
     ensures { λ at. ⌜ RowAt (shape .width) (shape .size) r at ⌝ }
 {

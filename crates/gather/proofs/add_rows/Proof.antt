@@ -11,14 +11,14 @@ use Rattle.gather.proofs.add_rows.Statement.{statement}
 use Rattle.gather.proofs.add_rows.Tie as tie
 use Rattle.gather.proofs.add_rows.Reads as reads
 use Rattle.gather.proofs.add_rows.Lts as lts
-use Rattle.table.proofs.start_of.Reads as start-of-reads
+use Rattle.table.proofs.row_offset.Reads as row-offset-reads
 use Rattle.rows.proofs.combination.add_combination.Reads as add-combination-reads
 
 add-n : tie.Need-add-n
 add-n c = search needs
 
-start-of-requires : tie.Need-start-of-requires
-start-of-requires c κs = search needs
+row-offset-requires : tie.Need-row-offset-requires
+row-offset-requires c κs = search needs
 
 add-add-combination : tie.Need-add-add-combination
 add-add-combination c = search needs
@@ -44,7 +44,7 @@ add-combination-requires : tie.Need-add-combination-requires
 add-combination-requires c κs =
     let start = c .before .before .before .before .before .before .before in
     let a = start .args in (
-      omega (arith, length-lent (c .before .before .start-of .result) (a .shape .width + a .shape .size) (a .work .now) (omega arith)),
+      omega (arith, length-lent (c .before .before .row-offset .result) (a .shape .width + a .shape .size) (a .work .now) (omega arith)),
       subst (λ k. 64 + k * stride (a .shape .width) (a .shape .size) ≤ length (a .mem .now)) (sym (length-take-le (a .shape .width) (a .multipliers .now) (omega arith))) (start .pre .0 .room),
     )
 
@@ -55,7 +55,7 @@ returns : tie.Need-returns
 returns c =
     let start = c .before .before .before .before .before .before .before .before .before .before in
     let a = start .args in
-    let at = c .before .before .before .before .before .start-of in
+    let at = c .before .before .before .before .before .row-offset in
     rows-added (a .shape .width) (a .shape .size) (a .k) (at .result) (a .mem .now) (a .work .now) (a .multipliers .now) (c .before .before .add-combination .last .0) (at .ensures .start) (omega arith) (omega arith)
     (c .before .before .add-combination .ensures) (c .before .before .add-combination .kept .0)
 
@@ -64,7 +64,7 @@ add-rows-spec =
     tie.close
     (tie.spec
     add-n
-    start-of-requires
+    row-offset-requires
     add-add-combination
     sub-add-combination
     part-add-combination-start

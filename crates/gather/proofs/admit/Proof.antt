@@ -40,7 +40,7 @@ returns : tie.Need-returns
 returns c =
     let start = c .before .before .before .before .before .before .before .before .before .before .before .before .before .before .before in
     let a = start .args in
-    admitted (a .shape .width) (a .shape .size) (a .shape .base) (a .stay) (a .kept) (a .first) (a .count) (c .before .before .before .before .before .before .before .before .before .before .before .before .staying .result) (c .before .before .settle .result) (a .mem .now) (a .work .now)
+    admitted (a .shape .width) (a .shape .size) (a .shape .oldest) (a .stay) (a .kept) (a .first) (a .count) (c .before .before .before .before .before .before .before .before .before .before .before .before .staying .result) (c .before .before .settle .result) (a .mem .now) (a .work .now)
     (c .before .before .before .before .before .before .before .before .before .before .reduce .last .1 .0) (c .before .before .before .before .before .before .reduce-within .last .0) (c .before .before .settle .last .0) (start .pre .0) (λ i. c .before .before .before .before .before .before .before .before .before .before .before .before .before .before .shared-slice-known .given i .fits) (start .pre .1) (λ i. c .before .before .before .before .before .before .before .before .before .before .before .before .before .slice-known .given i .fits)
     (c .before .before .before .before .before .before .before .before .before .before .before .before .staying .ensures) (c .before .before .before .before .before .before .before .before .before .before .reduce .ensures) (c .before .before .before .before .before .before .reduce-within .ensures) (c .before .before .settle .ensures)
 

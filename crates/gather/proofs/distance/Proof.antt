@@ -21,14 +21,14 @@ sub-result c = search needs
 returns : tie.Need-returns
 returns c =
     let a = c .before .before .before .args in
-    let e : a .shape .base + (a .c - a .shape .base) ≡ a .c = omega arith in
+    let e : a .shape .oldest + (a .c - a .shape .oldest) ≡ a .c = omega arith in
     (search needs, ap (λ k. k % a .shape .width) e ∙ mod-eq-of-lt (omega arith))
 
 -- src/gather.rt:233:1
 returns-2 : tie.Need-returns-2
 returns-2 c =
     let a = c .before .before .before .before .args in
-    let e : a .shape .base + (a .c + a .shape .width - a .shape .base) ≡ a .c + a .shape .width = omega arith in
+    let e : a .shape .oldest + (a .c + a .shape .width - a .shape .oldest) ≡ a .c + a .shape .width = omega arith in
     (search needs, ap (λ k. k % a .shape .width) e ∙ add-mod-right (a .c) (a .shape .width) ∙ mod-eq-of-lt (omega arith))
 
 pub distance-spec : {M : Type 1} → statement M

@@ -12,7 +12,7 @@ use Rattle.gather.proofs.find_pivot.Tie as tie
 use Rattle.gather.proofs.find_pivot.Reads as reads
 use Rattle.gather.proofs.find_pivot.Lts as lts
 use Rattle.memory.proofs.next.Reads as next-reads
-use Rattle.table.proofs.start_of.Reads as start-of-reads
+use Rattle.table.proofs.row_offset.Reads as row-offset-reads
 
 abbrev Inv-loop : tie.InvT-loop
 Inv-loop work shape first from to w r at i₀ c₀ i c = (i ≤ w) × (w ≡ shape .width) × (c ≡ (first + i) % w) × (c < w) × Blank w first i (row w (shape .size) r work)
@@ -31,8 +31,8 @@ rows-holds c =
     let a = c .before .args in
     (search needs, search needs, refl, rows-none (a .shape .width) (a .shape .size) (a .first) (a .from) (a .from) (a .work .now) refl)
 
-start-of-requires : tie.Need-start-of-requires Inv-loop μ-loop Inv-rows μ-rows
-start-of-requires c κs = search needs
+row-offset-requires : tie.Need-row-offset-requires Inv-loop μ-loop Inv-rows μ-rows
+row-offset-requires c κs = search needs
 
 loop-holds : tie.Need-loop-holds Inv-loop μ-loop Inv-rows μ-rows
 loop-holds c =
@@ -59,7 +59,7 @@ loop-again c =
     let a = c .before .before .before .before .before .before .before .before .before .args in
     let turn = c .before .before .before .before .loop in
     let r = c .before .before .before .before .before .before .before .rows .r in
-    let zero = ap (λ k. lib.ListN.getD (row (a .shape .width) (a .shape .size) r (a .work .now)) k 0) (sym (turn .inv .2)) ∙ sym (read-cell (a .shape .width) (a .shape .size) r (c .before .before .before .before .before .start-of .result) (turn .c) (a .work .now) (c .before .before .before .before .before .start-of .ensures .start) (turn .inv .3)) ∙ c .before .if2 .left in (
+    let zero = ap (λ k. lib.ListN.getD (row (a .shape .width) (a .shape .size) r (a .work .now)) k 0) (sym (turn .inv .2)) ∙ sym (read-cell (a .shape .width) (a .shape .size) r (c .before .before .before .before .before .row-offset .result) (turn .c) (a .work .now) (c .before .before .before .before .before .row-offset .ensures .start) (turn .inv .3)) ∙ c .before .if2 .left in (
       search needs,
       refl,
       c .next .ensures .0 ∙ next-column (a .shape .width) (a .first) (turn .i) (turn .c) (turn .inv .2),
@@ -104,7 +104,7 @@ returns-2 c =
       omega arith,
       outer .inv .3,
       leading-here (a .shape .width) (a .first) (turn .i) (turn .c) l (omega arith) (turn .inv .2)
-          (λ z. c .if2 .taken (read-cell (a .shape .width) (a .shape .size) (outer .r) (c .before .before .before .before .start-of .result) (turn .c) (a .work .now) (c .before .before .before .before .start-of .ensures .start) (turn .inv .3) ∙ z)) (turn .inv .4),
+          (λ z. c .if2 .taken (read-cell (a .shape .width) (a .shape .size) (outer .r) (c .before .before .before .before .row-offset .result) (turn .c) (a .work .now) (c .before .before .before .before .row-offset .ensures .start) (turn .inv .3) ∙ z)) (turn .inv .4),
     )
 
 pub find-pivot-spec : {M : Type 1} → statement M
@@ -116,7 +116,7 @@ find-pivot-spec =
     Inv-rows
     μ-rows
     rows-holds
-    start-of-requires
+    row-offset-requires
     loop-holds
     add-if2
     shared-slice-read-if2

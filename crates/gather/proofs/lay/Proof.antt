@@ -6,12 +6,12 @@ use Rattle.gather.proofs.lay.Statement.{statement}
 use Rattle.gather.proofs.lay.Tie as tie
 use Rattle.gather.proofs.lay.Reads as reads
 use Rattle.gather.proofs.lay.Lts as lts
-use Rattle.table.proofs.start_of.Reads as start-of-reads
+use Rattle.table.proofs.row_offset.Reads as row-offset-reads
 use Rattle.memory.proofs.copy_part.Reads as copy-part-reads
 use Rattle.memory.proofs.fill_part.Reads as fill-part-reads
 
-start-of-requires : tie.Need-start-of-requires
-start-of-requires c κs = search needs
+row-offset-requires : tie.Need-row-offset-requires
+row-offset-requires c κs = search needs
 
 sub-end : tie.Need-sub-end
 sub-end c = search needs
@@ -32,7 +32,7 @@ returns : tie.Need-returns
 returns c =
     let start = c .before .before .before .before .before .before .before .before .before .before .before .before in
     let a = start .args in
-    let at = c .before .before .before .before .before .before .before .before .before .start-of in
+    let at = c .before .before .before .before .before .before .before .before .before .row-offset in
     laid-short (a .shape .width) (a .shape .size) (a .k) (a .first) (a .coefficients .now) (a .work .now) (start .pre .0) (omega arith) (omega arith) (at .result) (at .ensures .start)
     (omega arith) (c .before .before .before .before .before .before .before .fill-part .last .0) (c .before .before .copy-part .last .0) (c .before .before .before .before .before .before .before .fill-part .ensures) (c .before .before .copy-part .ensures)
 
@@ -55,7 +55,7 @@ returns-2 : tie.Need-returns-2
 returns-2 c =
     let start = c .before .before .before .before .before .before .before .before .before .before .before .before .before .before .before .before in
     let a = start .args in
-    let at = c .before .before .before .before .before .before .before .before .before .before .before .before .before .start-of in
+    let at = c .before .before .before .before .before .before .before .before .before .before .before .before .before .row-offset in
     laid-long (a .shape .width) (a .shape .size) (a .k) (a .first) (a .coefficients .now) (a .work .now) (start .pre .0) (omega arith) (omega arith) (at .result) (at .ensures .start)
     (omega arith) (c .before .before .before .before .before .before .before .before .before .before .before .fill-part .last .0) (c .before .before .before .before .before .before .copy-part2 .last .0) (c .before .before .copy-part3 .last .0) (c .before .before .before .before .before .before .before .before .before .before .before .fill-part .ensures) (c .before .before .before .before .before .before .copy-part2 .ensures) (c .before .before .copy-part3 .ensures)
 
@@ -63,7 +63,7 @@ pub lay-spec : {M : Type 1} → statement M
 lay-spec =
     tie.close
     (tie.spec
-    start-of-requires
+    row-offset-requires
     sub-end
     fill-part-requires
     add-copy-part

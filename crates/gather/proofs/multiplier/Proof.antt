@@ -13,15 +13,15 @@ use Rattle.gather.proofs.multiplier.Statement.{statement}
 use Rattle.gather.proofs.multiplier.Tie as tie
 use Rattle.gather.proofs.multiplier.Reads as reads
 use Rattle.gather.proofs.multiplier.Lts as lts
-use Rattle.table.proofs.start_of.Reads as start-of-reads
+use Rattle.table.proofs.row_offset.Reads as row-offset-reads
 
 returns : tie.Need-returns
 returns c =
     let a = c .before .before .args in
     used-zero (inUse (a .shape .width) (a .shape .size) (row (a .shape .width) (a .shape .size) (a .c) (a .mem .now))) (a .k) (omega arith)
 
-start-of-requires : tie.Need-start-of-requires
-start-of-requires c κs = search needs
+row-offset-requires : tie.Need-row-offset-requires
+row-offset-requires c κs = search needs
 
 add-if2 : tie.Need-add-if2
 add-if2 c = search needs
@@ -38,13 +38,13 @@ shared-slice-read-if2 c =
 returns-2 : tie.Need-returns-2
 returns-2 c =
     let a = c .before .before .before .before .before .before .args in
-    let at = c .before .before .before .start-of in
+    let at = c .before .before .before .row-offset in
     ap (λ t. if-used t (a .k)) (sym (unused (a .shape .width) (a .shape .size) (row (a .shape .width) (a .shape .size) (a .c) (a .mem .now)) (flag-at (a .shape .width) (a .shape .size) (a .c) (a .mem .now) ∙ ap (λ x. getD (a .mem .now) (x + (a .shape .width + a .shape .size)) 0) (sym (at .ensures .start)) ∙ c .if2 .taken)))
 
 returns-3 : tie.Need-returns-3
 returns-3 c =
     let a = c .before .before .before .before .before .before .args in
-    let at = c .before .before .before .start-of in
+    let at = c .before .before .before .row-offset in
     ap (λ t. if-used t (a .k)) (sym (used (a .shape .width) (a .shape .size) (row (a .shape .width) (a .shape .size) (a .c) (a .mem .now)) (λ z. c .if2 .left (ap (λ x. getD (a .mem .now) (x + (a .shape .width + a .shape .size)) 0) (at .ensures .start) ∙ sym (flag-at (a .shape .width) (a .shape .size) (a .c) (a .mem .now)) ∙ z))))
 
 pub multiplier-spec : {M : Type 1} → statement M
@@ -52,7 +52,7 @@ multiplier-spec =
     tie.close
     (tie.spec
     returns
-    start-of-requires
+    row-offset-requires
     add-if2
     add-if2-2
     shared-slice-read-if2

@@ -7,15 +7,15 @@ use Rattle.gather.proofs.normalise.Statement.{statement}
 use Rattle.gather.proofs.normalise.Tie as tie
 use Rattle.gather.proofs.normalise.Reads as reads
 use Rattle.gather.proofs.normalise.Lts as lts
-use Rattle.table.proofs.start_of.Reads as start-of-reads
+use Rattle.table.proofs.row_offset.Reads as row-offset-reads
 use Rattle.field.proofs.Gf256.inverse.Reads as inverse-reads
 use Rattle.rows.proofs.scale_part.Reads as scale-part-reads
 
 add-n : tie.Need-add-n
 add-n c = search needs
 
-start-of-requires : tie.Need-start-of-requires
-start-of-requires c κs = search needs
+row-offset-requires : tie.Need-row-offset-requires
+row-offset-requires c κs = search needs
 
 add-work : tie.Need-add-work
 add-work c = search needs
@@ -45,7 +45,7 @@ returns : tie.Need-returns
 returns c =
     let start = c .before .before .before .before .before .before .before .before .before in
     let a = start .args in
-    let at = c .before .before .before .before .before .before .start-of in
+    let at = c .before .before .before .before .before .before .row-offset in
     let divided = c .before .before .scale-part in
     normalised (a .shape .width) (a .shape .size) (a .k) (a .c) (at .result) (a .work .now) (divided .last .0) _ (start .pre .0) (omega arith)
     (λ i. c .before .before .before .before .before .before .before .before .slice-known .given i .fits) (at .ensures .start)
@@ -56,7 +56,7 @@ normalise-spec =
     tie.close
     (tie.spec
     add-n
-    start-of-requires
+    row-offset-requires
     add-work
     slice-read-work
     inverse-requires

@@ -12,10 +12,10 @@ use Rattle.gather.proofs.reduce.Reads as reads
 use Rattle.gather.proofs.reduce.Lts as lts
 use Rattle.gather.proofs.add_rows.Reads as add-rows-reads
 use Rattle.gather.proofs.collect.Reads as collect-reads
-use Rattle.table.proofs.start_of.Reads as start-of-reads
+use Rattle.table.proofs.row_offset.Reads as row-offset-reads
 
-start-of-requires : tie.Need-start-of-requires
-start-of-requires c κs = search needs
+row-offset-requires : tie.Need-row-offset-requires
+row-offset-requires c κs = search needs
 
 add-collect : tie.Need-add-collect
 add-collect c = search needs
@@ -36,7 +36,7 @@ collect-requires : tie.Need-collect-requires
 collect-requires c κs =
     let start = c .before .before .before .before .before .before in
     let a = start .args in
-    (start .pre .0, length-lent (c .before .before .before .start-of .result) (a .shape .width) (a .work .now) (omega arith), search needs, search needs, search needs)
+    (start .pre .0, length-lent (c .before .before .before .row-offset .result) (a .shape .width) (a .work .now) (omega arith), search needs, search needs, search needs)
 
 same-length : tie.Need-same-length
 same-length c = search needs
@@ -45,7 +45,7 @@ returns : tie.Need-returns
 returns c =
     let start = c .before .before .before .before .before .before .before .before .before in
     let a = start .args in
-    let at = c .before .before .before .before .before .before .start-of in
+    let at = c .before .before .before .before .before .before .row-offset in
     let found = c .before .before .collect in
     let read = subst (λ l. Collected (a .shape .width) (a .shape .size) (a .first) (a .n) (found .result) (a .mem .now) l (replicate 255 0) (found .last .1 .1 .0)) (cut (at .result) (a .shape .width) (a .work .now)) (found .ensures) in
     state-none (a .shape .width) (a .shape .size) (a .k) (a .first) (a .n) (at .result) (found .result) (a .mem .now) (a .work .now) (replicate 255 0) (found .last .1 .1 .0) (at .ensures .start) (start .pre .1) (zeros 255) read (omega arith)
@@ -65,7 +65,7 @@ returns-2 : tie.Need-returns-2
 returns-2 c =
     let start = c .before .before .before .before .before .before .before .before .before .before .before .before .before .before in
     let a = start .args in
-    let at = c .before .before .before .before .before .before .before .before .before .before .before .start-of in
+    let at = c .before .before .before .before .before .before .before .before .before .before .before .row-offset in
     let found = c .before .before .before .before .before .before .before .collect in
     let read = subst (λ l. Collected (a .shape .width) (a .shape .size) (a .first) (a .n) (found .result) (a .mem .now) l (replicate 255 0) (found .last .1 .1 .0)) (cut (at .result) (a .shape .width) (a .work .now)) (found .ensures) in
     state-some (a .shape .width) (a .shape .size) (a .k) (a .first) (a .n) (at .result) (found .result) (a .mem .now) (a .work .now) (replicate 255 0) (found .last .1 .1 .0) (at .ensures .start) (start .pre .1) (zeros 255) read (c .before .before .add-rows .last .1 .0) (c .before .before .add-rows .ensures)
@@ -74,7 +74,7 @@ pub reduce-spec : {M : Type 1} → statement M
 reduce-spec =
     tie.close
     (tie.spec
-    start-of-requires
+    row-offset-requires
     add-collect
     sub-collect
     part-collect-start

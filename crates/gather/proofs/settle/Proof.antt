@@ -16,7 +16,7 @@ use Rattle.table.proofs.or_all.Reads as or-all-reads
 use Rattle.gather.proofs.find_pivot.Reads as find-pivot-reads
 use Rattle.memory.proofs.least.Reads as least-reads
 use Rattle.gather.proofs.normalise.Reads as normalise-reads
-use Rattle.table.proofs.start_of.Reads as start-of-reads
+use Rattle.table.proofs.row_offset.Reads as row-offset-reads
 
 add-least : tie.Need-add-least
 add-least c = search needs
@@ -61,8 +61,8 @@ returns c =
 enum-told : tie.Need-enum-told
 enum-told c = search needs
 
-start-of-requires : tie.Need-start-of-requires
-start-of-requires c κs = search needs
+row-offset-requires : tie.Need-row-offset-requires
+row-offset-requires c κs = search needs
 
 add-symbol : tie.Need-add-symbol
 add-symbol c = search needs
@@ -82,8 +82,8 @@ returns-2 c =
     let a = start .args in
     let found = subst (λ p. Searched (a .shape .width) (a .shape .size) (a .first) (a .k) (c .before .before .before .before .before .before .before .before .least .result) p (a .work .now)) (c .before .before .before .before .before .enum-told .given .1) (c .before .before .before .before .before .before .before .find-pivot .ensures) in
     let least = c .before .before .before .before .before .before .before .before .least in
-    settled-implied (a .shape .width) (a .shape .size) (a .first) (a .k) (a .work .now) (start .pre .0) (λ i. c .before .before .before .before .before .before .before .before .before .before .slice-known .given i .fits) (c .before .before .before .before .start-of .result + a .shape .width)
-    (ap (λ x. x + a .shape .width) (c .before .before .before .before .start-of .ensures .start)) (λ h. found (a .k) (omega arith) (omega (arith, least .ensures)))
+    settled-implied (a .shape .width) (a .shape .size) (a .first) (a .k) (a .work .now) (start .pre .0) (λ i. c .before .before .before .before .before .before .before .before .before .before .slice-known .given i .fits) (c .before .before .before .before .row-offset .result + a .shape .width)
+    (ap (λ x. x + a .shape .width) (c .before .before .before .before .row-offset .ensures .start)) (λ h. found (a .k) (omega arith) (omega (arith, least .ensures)))
     (c .before .or-all .ensures .0 (c .if1 .taken))
 
 same-length-3 : tie.Need-same-length-3
@@ -95,8 +95,8 @@ returns-3 c =
     let a = start .args in
     let found = subst (λ p. Searched (a .shape .width) (a .shape .size) (a .first) (a .k) (c .before .before .before .before .before .before .before .before .least .result) p (a .work .now)) (c .before .before .before .before .before .enum-told .given .1) (c .before .before .before .before .before .before .before .find-pivot .ensures) in
     let least = c .before .before .before .before .before .before .before .before .least in
-    settled-contradiction (a .shape .width) (a .shape .size) (a .first) (a .k) (a .work .now) (start .pre .0) (λ i. c .before .before .before .before .before .before .before .before .before .before .slice-known .given i .fits) (c .before .before .before .before .start-of .result + a .shape .width)
-    (ap (λ x. x + a .shape .width) (c .before .before .before .before .start-of .ensures .start)) (λ h. found (a .k) (omega arith) (omega (arith, least .ensures)))
+    settled-contradiction (a .shape .width) (a .shape .size) (a .first) (a .k) (a .work .now) (start .pre .0) (λ i. c .before .before .before .before .before .before .before .before .before .before .slice-known .given i .fits) (c .before .before .before .before .row-offset .result + a .shape .width)
+    (ap (λ x. x + a .shape .width) (c .before .before .before .before .row-offset .ensures .start)) (λ h. found (a .k) (omega arith) (omega (arith, least .ensures)))
     (λ z. c .if1 .left (c .before .or-all .ensures .1 z))
 
 pub settle-spec : {M : Type 1} → statement M
@@ -111,7 +111,7 @@ settle-spec =
     same-length
     returns
     enum-told
-    start-of-requires
+    row-offset-requires
     add-symbol
     add-or-all
     or-all-requires

@@ -9,7 +9,7 @@ use Rattle.handing.proofs.all_known.Statement.{statement}
 use Rattle.handing.proofs.all_known.Tie as tie
 
 abbrev Inv-loop : tie.InvT-loop
-Inv-loop mem shape d n i₀ i = (i ≤ n) × KnownFrom (shape .width) (shape .size) (shape .base) mem d i
+Inv-loop mem shape d n i₀ i = (i ≤ n) × KnownFrom (shape .width) (shape .size) (shape .oldest) mem d i
 
 abbrev μ-loop : tie.MeasureT-loop
 μ-loop mem shape d n i₀ i = n - i
@@ -23,7 +23,7 @@ loop-holds : tie.Need-loop-holds Inv-loop μ-loop
 loop-holds c =
     let a = c .before .before .before .args in
     let s = a .shape in
-    (search needs, known-none (s .width) (s .size) (s .base) (a .mem .now) (a .d))
+    (search needs, known-none (s .width) (s .size) (s .oldest) (a .mem .now) (a .d))
 
 returns-2 : tie.Need-returns-2 Inv-loop μ-loop
 returns-2 c =
@@ -41,7 +41,7 @@ loop-again c =
     let loop = c .before .before .before .before .loop in
     let known = c .before .is-known in (
       search needs,
-      known-more (s .width) (s .size) (s .base) (a .mem .now) (a .d) (loop .i) (loop .inv .1)
+      known-more (s .width) (s .size) (s .oldest) (a .mem .now) (a .d) (loop .i) (loop .inv .1)
           (known-is _ _ _ _ (a .d + loop .i) _ _ true (c .before .before .row-of .ensures .0) (not-false (known .result) (c .if2 .left)) (known .ensures)),
     )
 

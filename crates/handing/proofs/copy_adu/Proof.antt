@@ -11,7 +11,7 @@ use Rattle.handing.proofs.copy_adu.Tie as tie
 
 abbrev Inv-loop : tie.InvT-loop
 Inv-loop mem shape d n len out₀ at₀ skip₀ i₀ out at skip i =
-    (i ≤ n) × Copied (shape .size) n len i at skip (text (shape .width) (shape .size) (shape .base) mem d n) out₀ out
+    (i ≤ n) × Copied (shape .size) n len i at skip (text (shape .width) (shape .size) (shape .oldest) mem d n) out₀ out
 
 abbrev μ-loop : tie.MeasureT-loop
 μ-loop mem shape d n len out₀ at₀ skip₀ i₀ out at skip i = n - i

@@ -15,11 +15,11 @@ use Rattle.handing.proofs.hand_out.Tie as tie
 abbrev start : tie.After-symbol-count → tie.Start
 start p = p .before .before .before .before .before .before .before .before .before .before
 
-abbrev Of : ((w E base d : ℕ) (m : List ℕ) (at L n : ℕ) → Type 0) → tie.After-symbol-count → Type 0
+abbrev Of : ((w E oldest d : ℕ) (m : List ℕ) (at L n : ℕ) → Type 0) → tie.After-symbol-count → Type 0
 Of R p =
     let a = start p .args in
     let s = a .shape in
-    R (s .width) (s .size) (s .base) (a .d) (a .mem .now) (p .before .before .symbol-of .result) (p .before .load-u16 .result) (p .symbol-count .result)
+    R (s .width) (s .size) (s .oldest) (a .d) (a .mem .now) (p .before .before .symbol-of .result) (p .before .load-u16 .result) (p .symbol-count .result)
 
 read : (p : tie.After-symbol-count) → Of Read p
 read p =

@@ -10,7 +10,7 @@ use Rattle.marks.proofs.drop_first.Statement.{statement}
 use Rattle.marks.proofs.drop_first.Tie as tie
 
 abbrev Inv-loop : tie.InvT-loop
-Inv-loop mem₀ shape n i₀ mem i = (i ≤ n) × Dropped (shape .width) (shape .size) (shape .base) i mem₀ mem
+Inv-loop mem₀ shape n i₀ mem i = (i ≤ n) × Dropped (shape .width) (shape .size) (shape .oldest) i mem₀ mem
 
 abbrev μ-loop : tie.MeasureT-loop
 μ-loop mem₀ shape n i₀ mem i = n - i

@@ -8,7 +8,7 @@ use Rattle.marks.proofs.known_among.Statement.{statement}
 use Rattle.marks.proofs.known_among.Tie as tie
 
 abbrev Inv-loop : tie.InvT-loop
-Inv-loop mem shape first n count₀ i₀ count i = (i ≤ n) × Tallied (shape .width) (shape .size) (shape .base) first i count mem
+Inv-loop mem shape first n count₀ i₀ count i = (i ≤ n) × Tallied (shape .width) (shape .size) (shape .oldest) first i count mem
 
 abbrev μ-loop : tie.MeasureT-loop
 μ-loop mem shape first n count₀ i₀ count i = n - i

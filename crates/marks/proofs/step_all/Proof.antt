@@ -8,7 +8,7 @@ use Rattle.marks.proofs.step_all.Statement.{statement}
 use Rattle.marks.proofs.step_all.Tie as tie
 
 abbrev Inv-loop : tie.InvT-loop
-Inv-loop mem₀ shape w i₀ mem i = (i ≤ w) × Passing (shape .width) (shape .size) (shape .base) i mem₀ mem
+Inv-loop mem₀ shape w i₀ mem i = (i ≤ w) × Passing (shape .width) (shape .size) (shape .oldest) i mem₀ mem
 
 abbrev μ-loop : tie.MeasureT-loop
 μ-loop mem₀ shape w i₀ mem i = w - i

@@ -17,8 +17,8 @@ set-own-requires : tie.Need-set-own-requires
 set-own-requires c κs =
     let p3 = c .before .before .before in
     let p6 = p3 .before .before .before in
-    let base = subst (λ x. x < p6 .args .shape .width) (sym (p6 .pre .2)) (mod-lt _ (p6 .pre .0 .some-width)) in
-    (only-fits (p6 .pre .0) (p3 .move-on .ensures .only), base, p6 .pre .3)
+    let oldest = subst (λ x. x < p6 .args .shape .width) (sym (p6 .pre .2)) (mod-lt _ (p6 .pre .0 .some-width)) in
+    (only-fits (p6 .pre .0) (p3 .move-on .ensures .only), oldest, p6 .pre .3)
 
 -- src/marks.rt:252:5
 reach-requires : tie.Need-reach-requires
@@ -26,8 +26,8 @@ reach-requires c κs =
     let p3 = c .before .before .before in
     let p7 = p3 .before .before .before .before in
     let p10 = p7 .before .before .before in
-    let base = subst (λ x. x < p10 .args .shape .width) (sym (p10 .pre .2)) (mod-lt _ (p10 .pre .0 .some-width)) in
-    (only-fits (p10 .pre .0) (only-trans (p7 .move-on .ensures .only) (p3 .set-own .ensures .only)), base, p10 .pre .3)
+    let oldest = subst (λ x. x < p10 .args .shape .width) (sym (p10 .pre .2)) (mod-lt _ (p10 .pre .0 .some-width)) in
+    (only-fits (p10 .pre .0) (only-trans (p7 .move-on .ensures .only) (p3 .set-own .ensures .only)), oldest, p10 .pre .3)
 
 -- src/marks.rt:232:1
 same-length : tie.Need-same-length

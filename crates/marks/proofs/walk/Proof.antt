@@ -7,7 +7,7 @@ use Rattle.marks.proofs.walk.Statement.{statement}
 use Rattle.marks.proofs.walk.Tie as tie
 
 abbrev Inv-loop : tie.InvT-loop
-Inv-loop mem₀ shape from w i₀ mem i = Walking (shape .width) (shape .size) (shape .base) from i mem₀ mem
+Inv-loop mem₀ shape from w i₀ mem i = Walking (shape .width) (shape .size) (shape .oldest) from i mem₀ mem
 
 abbrev μ-loop : tie.MeasureT-loop
 μ-loop mem₀ shape from w i₀ mem i = w - i

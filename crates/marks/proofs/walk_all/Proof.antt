@@ -9,7 +9,7 @@ use Rattle.marks.proofs.walk_all.Statement.{statement}
 use Rattle.marks.proofs.walk_all.Tie as tie
 
 abbrev Inv-loop : tie.InvT-loop
-Inv-loop mem₀ shape first n i₀ mem i = (i ≤ n) × Followed (shape .width) (shape .size) (shape .base) (λ k. (first ≤ k) × (k < first + i)) mem₀ mem
+Inv-loop mem₀ shape first n i₀ mem i = (i ≤ n) × Followed (shape .width) (shape .size) (shape .oldest) (λ k. (first ≤ k) × (k < first + i)) mem₀ mem
 
 abbrev μ-loop : tie.MeasureT-loop
 μ-loop mem₀ shape first n i₀ mem i = n - i

@@ -6,8 +6,8 @@ use Rattle.placing.proofs.clear_coefficient.Statement.{statement}
 use Rattle.placing.proofs.clear_coefficient.Tie as tie
 
 -- src/place.rt:88:9
-start-of-requires : tie.Need-start-of-requires
-start-of-requires c κs = search needs
+row-offset-requires : tie.Need-row-offset-requires
+row-offset-requires c κs = search needs
 
 -- src/place.rt:89:13
 add-n : tie.Need-add-n
@@ -27,7 +27,7 @@ slice-read-if1 c =
 returns : tie.Need-returns
 returns c =
     let a = c .before .before .before .before .before .before .args in
-    let at = c .before .before .before .start-of in
+    let at = c .before .before .before .row-offset in
     cleared-unused (a .shape .width) (a .shape .size) (a .r) (a .q) (a .row .now) (a .mem .now) (at .result) (at .ensures .start) (c .if1 .taken)
 
 -- src/place.rt:93:17
@@ -59,7 +59,7 @@ returns-2 : tie.Need-returns-2
 returns-2 c =
     let start = c .before .before .before .before .before .before .before .before .before .before .before .before .before .before .before in
     let a = start .args in
-    let at = c .before .before .before .before .before .before .before .before .before .before .before .before .start-of in
+    let at = c .before .before .before .before .before .before .before .before .before .before .before .before .row-offset in
     let added = c .before .before .before .before .before .before .add-part in
     cleared-row (a .shape .width) (a .shape .size) (a .r) (a .q) _ (a .row .now) (a .mem .now) (added .last .0) _
     (start .pre .0) (omega arith) (omega arith) (omega arith)
@@ -74,7 +74,7 @@ pub clear-coefficient-spec : {M : Type 1} → statement M
 clear-coefficient-spec =
     tie.close
     (tie.spec
-    start-of-requires
+    row-offset-requires
     add-n
     add-if1
     slice-read-if1

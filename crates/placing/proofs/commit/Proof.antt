@@ -29,7 +29,7 @@ returns c =
     let a = start .args in
     let moved = c .before .before .before .before .before .before .move-on in
     let joined = c .before .before .place-all in
-    committed (a .shape .width) (a .shape .size) (a .shape .base) (a .rise) (a .kept) (joined .result)
+    committed (a .shape .width) (a .shape .size) (a .shape .oldest) (a .rise) (a .kept) (joined .result)
     (a .work .now) (a .mem .now) (moved .last .0) (joined .last .0) (start .pre .0)
     (λ i. c .before .before .before .before .slice-known2 .given i .fits) (λ i. c .slice-known3 .given i .fits) (moved .ensures) (joined .ensures)
 

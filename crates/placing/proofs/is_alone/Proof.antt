@@ -7,11 +7,11 @@ use Rattle.placing.proofs.is_alone.Tie as tie
 use Rattle.placing.proofs.is_alone.Reads as reads
 use Rattle.placing.proofs.is_alone.Lts as lts
 use Rattle.table.proofs.or_all.Reads as or-all-reads
-use Rattle.table.proofs.start_of.Reads as start-of-reads
+use Rattle.table.proofs.row_offset.Reads as row-offset-reads
 
 -- src/place.rt:77:9
-start-of-requires : tie.Need-start-of-requires
-start-of-requires c κs = search needs
+row-offset-requires : tie.Need-row-offset-requires
+row-offset-requires c κs = search needs
 
 -- src/place.rt:78:34
 add-or-all : tie.Need-add-or-all
@@ -51,7 +51,7 @@ or-all-requires-2 c κs =
 returns : tie.Need-returns
 returns c =
     let a = c .before .before .before .before .before .before .args in
-    let at = c .before .before .before .before .start-of in
+    let at = c .before .before .before .before .row-offset in
     let before = c .before .before .before .or-all in
     let after = c .before .or-all2 in
     tested-alone (a .shape .width) (a .shape .size) (a .r) (a .mem .now) (omega arith) (at .result) (at .ensures .start)
@@ -61,7 +61,7 @@ returns c =
 returns-2 : tie.Need-returns-2
 returns-2 c =
     let a = c .before .before .before .before .before .before .args in
-    let at = c .before .before .before .before .start-of in
+    let at = c .before .before .before .before .row-offset in
     let before = c .before .before .before .or-all in
     let after = c .before .or-all2 in
     tested-other (a .shape .width) (a .shape .size) (a .r) (a .mem .now) (omega arith) (at .result) (at .ensures .start)
@@ -71,7 +71,7 @@ pub is-alone-spec : {M : Type 1} → statement M
 is-alone-spec =
     tie.close
     (tie.spec
-    start-of-requires
+    row-offset-requires
     add-or-all
     or-all-requires
     add-or-all-2

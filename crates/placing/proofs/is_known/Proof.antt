@@ -13,8 +13,8 @@ use Rattle.placing.proofs.is_known.Tie as tie
 use Rattle.placing.proofs.is_known.Reads as reads
 use Rattle.placing.proofs.is_known.Lts as lts
 
-start-of-requires : tie.Need-start-of-requires
-start-of-requires c κs = search needs
+row-offset-requires : tie.Need-row-offset-requires
+row-offset-requires c κs = search needs
 
 add-n : tie.Need-add-n
 add-n c = search needs
@@ -35,10 +35,10 @@ returns c =
     let a = start .args in
     let w = a .shape .width in
     let E = a .shape .size in
-    let at = c .before .before .start-of in
+    let at = c .before .before .row-offset in
     flag-known w E (a .r) (a .mem .now) (start .pre .0) (omega arith) (λ i. c .before .before .before .shared-slice-known .given i .fits) _
     (ap (λ f. eqb f 2) (flag-at w E (a .r) (a .mem .now)) ∙ ap (λ k. eqb (getD (a .mem .now) (k + (w + E)) 0) 2) (sym (at .ensures .start)))
 
 pub is-known-spec : {M : Type 1} → statement M
 is-known-spec =
-    tie.close (tie.spec start-of-requires add-n add-result shared-slice-read-result returns)
+    tie.close (tie.spec row-offset-requires add-n add-result shared-slice-read-result returns)

@@ -13,7 +13,7 @@ use Rattle.memory.proofs.next.Reads as next-reads
 use Rattle.placing.proofs.set_flag.Reads as set-flag-reads
 
 abbrev Inv-loop : tie.InvT-loop
-Inv-loop mem₀ shape rise w oldest₀ i₀ mem oldest i = (i ≤ w) × (i ≤ rise) × Leaving (shape .width) (shape .size) (shape .base) i oldest mem₀ mem
+Inv-loop mem₀ shape rise w oldest₀ i₀ mem oldest i = (i ≤ w) × (i ≤ rise) × Leaving (shape .width) (shape .size) (shape .oldest) i oldest mem₀ mem
 
 abbrev μ-loop : tie.MeasureT-loop
 μ-loop mem₀ shape rise w oldest₀ i₀ mem oldest i = w - i
@@ -56,7 +56,7 @@ loop-again c =
     let turn = c .before .before .before .before .before .before .before .loop in
     let freed = c .before .before .before .set-flag in
     let more =
-    leaving-more (a .shape .width) (a .shape .size) (a .shape .base) (turn .i) (turn .oldest) (c .next .result) (a .mem .now) (turn .mem) (freed .last .0)
+    leaving-more (a .shape .width) (a .shape .size) (a .shape .oldest) (turn .i) (turn .oldest) (c .next .result) (a .mem .now) (turn .mem) (freed .last .0)
     (start .pre .0) (turn .inv .2) (freed .ensures) (c .next .ensures) in
     (search needs, search needs, more)
 

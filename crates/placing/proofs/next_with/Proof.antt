@@ -18,8 +18,8 @@ loop-holds : tie.Need-loop-holds Inv-loop μ-loop
 loop-holds c = passed-none (omega arith)
 
 -- src/place.rt:105:13
-start-of-requires : tie.Need-start-of-requires Inv-loop μ-loop
-start-of-requires c κs = search needs
+row-offset-requires : tie.Need-row-offset-requires Inv-loop μ-loop
+row-offset-requires c κs = search needs
 
 -- src/place.rt:106:16
 add-if1 : tie.Need-add-if1 Inv-loop μ-loop
@@ -35,7 +35,7 @@ shared-slice-read-if1 c =
 
 -- src/place.rt:107:13
 returns : tie.Need-returns Inv-loop μ-loop
-returns c = passed-here _ _ (c .before .before .before .before .loop .inv) (omega arith) (c .before .before .start-of .ensures .start) (c .if1 .taken)
+returns c = passed-here _ _ (c .before .before .before .before .loop .inv) (omega arith) (c .before .before .row-offset .ensures .start) (c .if1 .taken)
 
 -- src/place.rt:104:9
 add-q : tie.Need-add-q Inv-loop μ-loop
@@ -47,7 +47,7 @@ loop-less c = search needs
 
 -- src/place.rt:104:5
 loop-again : tie.Need-loop-again Inv-loop μ-loop
-loop-again c = passed-more _ _ (c .before .before .before .before .loop .inv) (omega arith) (c .before .before .start-of .ensures .start) (c .if1 .left)
+loop-again c = passed-more _ _ (c .before .before .before .before .loop .inv) (omega arith) (c .before .before .row-offset .ensures .start) (c .if1 .left)
 
 -- src/place.rt:99:1
 returns-2 : tie.Need-returns-2 Inv-loop μ-loop
@@ -60,7 +60,7 @@ next-with-spec =
     Inv-loop
     μ-loop
     loop-holds
-    start-of-requires
+    row-offset-requires
     add-if1
     shared-slice-read-if1
     returns

@@ -5,7 +5,7 @@ use Prim.Native.Nat.{_+_, _≤_, _<_, _-_}
 use native.Mathlib.Omega.{arith}
 use lib.ListN.{getD}
 use borrow.Author.Needs.{needs}
-use Rattle.table.specs.Window.{place}
+use Rattle.table.specs.Window.{rowOffset}
 use Rattle.table.proofs.Rows.{fits-kept}
 use Rattle.placing.proofs.Placing.{Cleared, cleared-none, cleared-more, cleared-skip, settled}
 use Rattle.placing.proofs.place.Statement.{statement}
@@ -13,7 +13,7 @@ use Rattle.placing.proofs.place.Tie as tie
 
 abbrev Inv-loop : tie.InvT-loop
 Inv-loop mem₀ row shape r w count₀ q₀ mem count q =
-    (q ≤ w) × Cleared (shape .width) (shape .size) r q count row mem₀ mem × (q < w → getD mem (place (shape .width) (shape .size) q + r) 0 ≢ 0)
+    (q ≤ w) × Cleared (shape .width) (shape .size) r q count row mem₀ mem × (q < w → getD mem (rowOffset (shape .width) (shape .size) q + r) 0 ≢ 0)
 
 abbrev μ-loop : tie.MeasureT-loop
 μ-loop mem₀ row shape r w count₀ q₀ mem count q = w - q

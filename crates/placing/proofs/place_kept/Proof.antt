@@ -14,12 +14,12 @@ use Rattle.placing.proofs.place_kept.Tie as tie
 use Rattle.placing.proofs.place_kept.Reads as reads
 use Rattle.placing.proofs.place_kept.Lts as lts
 use Rattle.placing.proofs.place.Reads as place-reads
-use Rattle.table.proofs.start_of.Reads as start-of-reads
+use Rattle.table.proofs.row_offset.Reads as row-offset-reads
 use Rattle.memory.proofs.part.Reads as part-reads
 
 -- src/place.rt:141:9
-start-of-requires : tie.Need-start-of-requires
-start-of-requires c κs = search needs
+row-offset-requires : tie.Need-row-offset-requires
+row-offset-requires c κs = search needs
 
 -- src/place.rt:142:13
 add-n : tie.Need-add-n
@@ -41,7 +41,7 @@ shared-slice-read-r c =
 cast-r : tie.Need-cast-r
 cast-r c =
     let a = c .before .before .before .before .before .args in
-    omega (arith, c .shared-slice-known2 .given (c .before .before .start-of .result + (a .shape .width + a .shape .size)))
+    omega (arith, c .shared-slice-known2 .given (c .before .before .row-offset .result + (a .shape .width + a .shape .size)))
 
 -- src/place.rt:144:16
 part-requires : tie.Need-part-requires
@@ -56,7 +56,7 @@ place-requires c κs =
     let a = start .args in
     let w = a .shape .width in
     let E = a .shape .size in
-    let at = c .before .before .before .before .start-of in
+    let at = c .before .before .before .before .row-offset in
     let column = flag-at w E (a .k) (a .work .now) ∙ ap (λ k. getD (a .work .now) (k + (w + E)) 0) (sym (at .ensures .start)) in (
       start .pre .0,
       ap length (c .part .ensures .bytes) ∙ length-part (at .result) (w + E) (a .work .now) (omega (arith, row-end w E (a .k) (omega arith))),
@@ -74,7 +74,7 @@ returns c =
     let a = start .args in
     let w = a .shape .width in
     let E = a .shape .size in
-    let at = c .before .before .before .before .before .before .before .start-of in
+    let at = c .before .before .before .before .before .before .before .row-offset in
     let done = c .before .before .place in
     let column = flag-at w E (a .k) (a .work .now) ∙ ap (λ k. getD (a .work .now) (k + (w + E)) 0) (sym (at .ensures .start)) in
     subst (λ f. Settled w E f (done .result) (row w E (a .k) (a .work .now)) (a .mem .now) (done .last .0)) (sym column)
@@ -85,7 +85,7 @@ pub place-kept-spec : {M : Type 1} → statement M
 place-kept-spec =
     tie.close
     (tie.spec
-    start-of-requires
+    row-offset-requires
     add-n
     add-r
     shared-slice-read-r

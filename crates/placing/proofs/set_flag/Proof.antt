@@ -11,8 +11,8 @@ use Rattle.placing.proofs.set_flag.Tie as tie
 use Rattle.placing.proofs.set_flag.Reads as reads
 use Rattle.placing.proofs.set_flag.Lts as lts
 
-start-of-requires : tie.Need-start-of-requires
-start-of-requires c κs = search needs
+row-offset-requires : tie.Need-row-offset-requires
+row-offset-requires c κs = search needs
 
 add-n : tie.Need-add-n
 add-n c = search needs
@@ -34,10 +34,10 @@ returns : tie.Need-returns
 returns c =
     let a = c .before .before .before .args in
     let n = a .shape .width + a .shape .size in
-    let at = c .before .start-of in
+    let at = c .before .row-offset in
     let inside = row-end (a .shape .width) (a .shape .size) (a .r) (omega arith) in
     set-splice (a .mem .now) (at .result + n) (a .v) (omega (arith, inside)) ∙ ap (λ k. splice (k + n) (a .v ∷ []) (a .mem .now)) (at .ensures .start)
 
 pub set-flag-spec : {M : Type 1} → statement M
 set-flag-spec =
-    tie.close (tie.spec start-of-requires add-n add-mem slice-write-mem same-length returns)
+    tie.close (tie.spec row-offset-requires add-n add-mem slice-write-mem same-length returns)

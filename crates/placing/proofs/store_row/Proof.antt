@@ -7,12 +7,12 @@ use Rattle.placing.proofs.store_row.Tie as tie
 use Rattle.placing.proofs.store_row.Reads as reads
 use Rattle.placing.proofs.store_row.Lts as lts
 use Rattle.placing.proofs.mark.Reads as mark-reads
-use Rattle.table.proofs.start_of.Reads as start-of-reads
+use Rattle.table.proofs.row_offset.Reads as row-offset-reads
 use Rattle.memory.proofs.copy_part.Reads as copy-part-reads
 
 -- src/place.rt:116:9
-start-of-requires : tie.Need-start-of-requires
-start-of-requires c κs = search needs
+row-offset-requires : tie.Need-row-offset-requires
+row-offset-requires c κs = search needs
 
 -- src/place.rt:117:13
 add-n : tie.Need-add-n
@@ -37,7 +37,7 @@ returns : tie.Need-returns
 returns c =
     let start = c .before .before .before .before .before .before .before .before .before .before .before .before in
     let a = start .args in
-    let at = c .before .before .before .before .before .before .before .before .before .start-of in
+    let at = c .before .before .before .before .before .before .before .before .before .row-offset in
     let copied = c .before .before .before .before .before .before .copy-part in
     let marked = c .before .before .mark in
     stored-copy (a .shape .width) (a .shape .size) (a .r) (marked .result) (at .result) (a .row .now) (a .mem .now) (copied .last .0) (marked .last .0)
@@ -46,4 +46,4 @@ returns c =
 pub store-row-spec : {M : Type 1} → statement M
 store-row-spec =
     tie.close
-    (tie.spec start-of-requires add-n copy-part-requires mark-requires same-length returns)
+    (tie.spec row-offset-requires add-n copy-part-requires mark-requires same-length returns)

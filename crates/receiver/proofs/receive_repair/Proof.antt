@@ -16,12 +16,12 @@ use Rattle.coefficients.specs.Coefficients.{keys}
 use Rattle.coefficients.proofs.Lists.{length-keys, packet-draws-most}
 use Rattle.coefficients.proofs.Fills.{lists-were-done, lists-were-refused}
 use Rattle.holding.specs.declared.Header.{Header}
-use Rattle.admission.specs.declared.packet.PacketPlace.{PacketPlace}
-use Rattle.admission.specs.declared.packet.PlaceFound.the-variants.{PlaceIs}
+use Rattle.admission.specs.declared.packet.Location.{Location}
+use Rattle.admission.specs.declared.packet.LocationFound.the-variants.{LocationIs}
 use Rattle.history.specs.History.{workingSize}
 use Rattle.holding.specs.Header.{headerIn}
 use Rattle.admission.specs.Joining.{headerFor, Based}
-use Rattle.admission.specs.Steps.{placeFound}
+use Rattle.admission.specs.Steps.{locationFound}
 use Rattle.holding.proofs.Headers.{header-is, header-none, headed}
 use Rattle.admission.proofs.Joining.{based}
 use Rattle.receiver.proofs.Receiving.{received-unopened, received-short, accept-asks}
@@ -59,9 +59,9 @@ few p =
 lists-fit : (p : tie.Else2) → fields (p .before .before .before) .count * fields (p .before .before .before) .nss ≤ 4080
 lists-fit p = mul-le-mul (sized _ _ (fields (p .before .before .before)) (read (p .before .before .before)) .0) (few p)
 
--- The packet's place, and what was read before it.
-abbrev place : tie.After-at → PacketPlace
-place p = p .at .given .0 .0
+-- The packet's location, and what was read before it.
+abbrev location : tie.After-at → Location
+location p = p .at .given .0 .0
 
 abbrev ranged : tie.After-at → tie.Else2
 ranged p = p .before .before .before .before
@@ -82,14 +82,14 @@ base p = headerFor (header (read-header p)) (fields (read-fields p) .first .0)
 bases : (p : tie.After-at) → Based (read-header p .before .before .before .before .before .before .before .args .mem .now) (base p)
 bases p = based _ (header (read-header p)) (fields (read-fields p) .first .0) (has (read-header p))
 
-found : (p : tie.After-at) → PlaceIs (place p) ≡ placeFound (base p) (fields (read-fields p) .first .0) (fields (read-fields p) .nss)
+found : (p : tie.After-at) → LocationIs (location p) ≡ locationFound (base p) (fields (read-fields p) .first .0) (fields (read-fields p) .nss)
 found p =
     sym (p .at .given .1) ∙ p .before .before .locate .ensures
-    ∙ ap (λ (x : Header). placeFound x (fields (read-fields p) .first .0) (fields (read-fields p) .nss)) (p .before .before .before .join .ensures)
+    ∙ ap (λ (x : Header). locationFound x (fields (read-fields p) .first .0) (fields (read-fields p) .nss)) (p .before .before .before .join .ensures)
 
--- The lists that were drawn, at that place.
-abbrev place-of : tie.After-draws → tie.After-at
-place-of p = p .before .before .before .before .before .before .before
+-- The lists that were drawn, at that location.
+abbrev location-of : tie.After-draws → tie.After-at
+location-of p = p .before .before .before .before .before .before .before
 
 abbrev drawn : tie.After-draws → tie.After-fill-lists
 drawn p = p .before .before .before
@@ -138,7 +138,7 @@ returns-5 c =
     let q = p .before .before .before in
     answered-refused
     (call-out _ _ _ (header h) (has h) (lent (p .before .before .before .before .before .before)) (fields q) (read q) (fits p) _
-    (sym (c .before .refusal .given .1) ∙ c .before .before .before .locate .ensures ∙ ap (λ (x : Header). placeFound x (fields q .first .0) (fields q .nss)) (joined .join .ensures)))
+    (sym (c .before .refusal .given .1) ∙ c .before .before .before .locate .ensures ∙ ap (λ (x : Header). locationFound x (fields q .first .0) (fields q .nss)) (joined .join .ensures)))
 
 fill-lists-requires : tie.Need-fill-lists-requires
 fill-lists-requires c κs =
@@ -152,36 +152,36 @@ returns-6 c =
     let h = read-header p in
     let q = read-fields p in
     answered-refused
-    (call-draws _ _ _ (header h) (has h) (lent (roomy p)) (fields q) (read q) (fits (ranged p)) (place p) (found p)
+    (call-draws _ _ _ (header h) (has h) (lent (roomy p)) (fields q) (read q) (fits (ranged p)) (location p) (found p)
     (lists-were-refused (c .before .before .before .fill-lists .ensures) (c .enum-told3 .given .1)))
 
 gather-repair-requires : tie.Need-gather-repair-requires
 gather-repair-requires c κs =
     let d = c .before .before .before .before in
-    let p = place-of d in
+    let p = location-of d in
     let h = read-header p in
     let q = read-fields p in
-    gather-asks _ _ _ (header h) (has h) (lent (roomy p)) (fields q) (read q) (fits (ranged p)) (place p) (found p) (drawn d .fill-lists .last .0)
+    gather-asks _ _ _ (header h) (has h) (lent (roomy p)) (fields q) (read q) (fits (ranged p)) (location p) (found p) (drawn d .fill-lists .last .0)
     (omega (arith, lists-fit (ranged p), drawn d .fill-lists .kept .0, drawn d .before .before .room-for-lists .ensures))
 
 returns-7 : tie.Need-returns-7
 returns-7 c =
     let d = c .before .before .before .before .before .before .before .before .before in
-    let p = place-of d in
+    let p = location-of d in
     let h = read-header p in
     let q = read-fields p in
     let done = lists-were-done (drawn d .fill-lists .ensures) (d .draws .given .1) in
     answered-refused
-    (call-contradicts _ _ _ (header h) (has h) (lent (roomy p)) (fields q) (read q) (fits (ranged p)) (place p) (found p) (done .0) _ _
+    (call-contradicts _ _ _ (header h) (has h) (lent (roomy p)) (fields q) (read q) (fits (ranged p)) (location p) (found p) (done .0) _ _
     (drawn d .fill-lists .ensures .bytes _ (d .draws .given .1)) _ _ (c .before .before .before .before .gather-repair .ensures) (c .enum-told4 .given .1))
 
 accept-requires : tie.Need-accept-requires
 accept-requires c κs =
     let gathered = c .before .before .before .before .before .before .before .gather-repair in
-    let p = place-of (c .before .before .before .before .before .before .before .before .before .before .before .before) in
+    let p = location-of (c .before .before .before .before .before .before .before .before .before .before .before .before) in
     let h = read-header p in
     rw (p .before .before .before .join .ensures)
-    (accept-asks (base p) _ _ (place p) (found p) _ (h .before .before .before .before .before .before .before .args .work .now) (bases p) (lent (roomy p))
+    (accept-asks (base p) _ _ (location p) (found p) _ (h .before .before .before .before .before .before .before .args .work .now) (bases p) (lent (roomy p))
     _ (gathered .result) _ _ (c .before .before .before .kept .given .1) (gathered .ensures .works) (omega arith)
     (within-bounds 1 (header h .setting .width) (fields (read-fields p) .nss) (fits (ranged p)) .1))
 
@@ -190,7 +190,7 @@ returns-8 c =
     let kept = c .before .before .before .before .before .before .kept .given .1 in
     let gathered = c .before .before .before .before .before .before .before .before .before .before .gather-repair in
     let d = c .before .before .before .before .before .before .before .before .before .before .before .before .before .before .before in
-    let p = place-of d in
+    let p = location-of d in
     let h = read-header p in
     let f = fields (read-fields p) in
     let r = read (read-fields p) in
@@ -200,7 +200,7 @@ returns-8 c =
     answered-done (header h) (base p) _ _ _ (gathered .result) _ _ _ _ (has h) kept (gathered .ensures .works) accepted
     (done .1 ∙ draws-are _ _ (h .before .before .before .before .before .before .before .args .work .now) (header h) (has h) (lent (roomy p)) f r)
     (rw (done .1) (packet-draws-most (header h .setting .scheme) (f .dt) (f .nss) (few (ranged p)) (keys (f .key .0) (f .count)) lists))
-    (call-done _ _ _ (header h) (has h) (lent (roomy p)) f r (fits (ranged p)) (place p) (found p) (done .0) _ _
+    (call-done _ _ _ (header h) (has h) (lent (roomy p)) f r (fits (ranged p)) (location p) (found p) (done .0) _ _
     (drawn d .fill-lists .ensures .bytes _ (d .draws .given .1)) _ _ (gathered .ensures) _ _ _ kept accepted)
 
 pub receive-repair-spec : {M : Type 1} → statement M

@@ -7,15 +7,15 @@ use lib.ListN.{length}
 use Rattle.wire.specs.declared.SourceFields.{SourceFields}
 use Rattle.wire.specs.Packets.{symbolCount}
 use Rattle.holding.specs.declared.Header.{Header}
-use Rattle.admission.specs.declared.packet.PacketPlace.{PacketPlace}
-use Rattle.admission.specs.declared.packet.PlaceFound.the-variants.{PlaceIs}
+use Rattle.admission.specs.declared.packet.Location.{Location}
+use Rattle.admission.specs.declared.packet.LocationFound.the-variants.{LocationIs}
 use Rattle.history.specs.History.{workingSize}
 use Rattle.holding.specs.Header.{headerIn}
 use Rattle.admission.specs.Joining.{headerFor, Based}
-use Rattle.admission.specs.Steps.{placeFound}
+use Rattle.admission.specs.Steps.{locationFound}
 use Rattle.holding.proofs.Headers.{header-is, header-none, Headed, headed}
 use Rattle.admission.proofs.Joining.{based}
-use Rattle.receiver.proofs.Receiving.{received-unopened, received-short, place-width, place-size, ready, accept-asks}
+use Rattle.receiver.proofs.Receiving.{received-unopened, received-short, location-width, location-size, ready, accept-asks}
 use Rattle.receiver.proofs.Drawing.{answered-refused, answered-done}
 use Rattle.receiver.proofs.SourceCall.{Fields, source-fields, adu-length, source-none}
 use Rattle.receiver.proofs.SourceCall.{call-form, call-long, call-many, call-out, call-contradicts, call-done}
@@ -44,9 +44,9 @@ fields p = p .fields .given .0 .0
 reads : (p : tie.After-fields) → Fields (p .before .before .before .before .before .before .before .before .before .before .before .before .before .before .args .packet .now) (fields p)
 reads p = source-fields _ (fields p) (p .before .before .read-source .result) (p .before .before .read-source .ensures) (p .fields .given .1)
 
--- the packet's place, and what was read before it
-abbrev place : tie.After-at → PacketPlace
-place p = p .at .given .0 .0
+-- the packet's location, and what was read before it
+abbrev location : tie.After-at → Location
+location p = p .at .given .0 .0
 
 abbrev read-header : tie.After-at → tie.After-header
 read-header p = p .before .before .before .before .before .before .before .before .before .before .before .before .before .before .before .before .before
@@ -64,10 +64,10 @@ base p = headerFor (header (read-header p)) (fields (read-fields p) .first .0)
 bases : (p : tie.After-at) → Based (read-header p .before .before .before .before .before .before .before .args .mem .now) (base p)
 bases p = based _ (header (read-header p)) (fields (read-fields p) .first .0) (has (read-header p))
 
-found : (p : tie.After-at) → PlaceIs (place p) ≡ placeFound (base p) (fields (read-fields p) .first .0) (p .before .before .before .before .before .before .symbol-count .result)
+found : (p : tie.After-at) → LocationIs (location p) ≡ locationFound (base p) (fields (read-fields p) .first .0) (p .before .before .before .before .before .before .symbol-count .result)
 found p =
     sym (p .at .given .1) ∙ p .before .before .locate .ensures
-    ∙ ap (λ (x : Header). placeFound x (fields (read-fields p) .first .0) (p .before .before .before .before .before .before .symbol-count .result)) (p .before .before .before .join .ensures)
+    ∙ ap (λ (x : Header). locationFound x (fields (read-fields p) .first .0) (p .before .before .before .before .before .before .symbol-count .result)) (p .before .before .before .join .ensures)
 
 returns : tie.Need-returns
 returns c = answered-refused (received-unopened _ _ _ (header-none _ (c .before .before .read-header .ensures) (c .enum-told .given .1)))
@@ -121,7 +121,7 @@ returns-6 c =
     answered-refused
     (call-out _ _ _ _ (header p) (has p) (room (q .before .before .before)) (fields q) (reads q) (j .before .before .before .before .if2 .left) _ (j .before .before .before .symbol-count .ensures)
     (j .before .if3 .left) _
-    (sym (c .before .refusal .given .1) ∙ c .before .before .before .locate .ensures ∙ ap (λ (x : Header). placeFound x (fields q .first .0) (j .before .before .before .symbol-count .result)) (j .join .ensures)))
+    (sym (c .before .refusal .given .1) ∙ c .before .before .before .locate .ensures ∙ ap (λ (x : Header). locationFound x (fields q .first .0) (j .before .before .before .symbol-count .result)) (j .join .ensures)))
 
 part-requires : tie.Need-part-requires
 part-requires c κs = omega (arith, reads (read-fields (c .before)) .within)
@@ -129,9 +129,9 @@ part-requires c κs = omega (arith, reads (read-fields (c .before)) .within)
 gather-source-requires : tie.Need-gather-source-requires
 gather-source-requires c κs =
     let p = c .before .before .before .before in
-    let g = ready _ _ _ (place p) (found p) _ _ (bases p) (long-enough p) in
+    let g = ready _ _ _ (location p) (found p) _ _ (bases p) (long-enough p) in
     let l = adu-length (reads (read-fields p)) (c .before .before .part .ensures .bytes) in
-    let size = place-size _ _ _ (place p) (found p) in (
+    let size = location-size _ _ _ (location p) (found p) in (
       g .fits,
       g .works,
       g .base,
@@ -139,7 +139,7 @@ gather-source-requires c κs =
       omega (arith, l, p .before .before .before .before .before .before .before .if2 .left),
       p .before .before .before .before .before .before .symbol-count .ensures ∙ ap (symbolCount (header (read-header p) .setting .size)) (sym l)
           ∙ ap (λ (E : ℕ). symbolCount E (length (c .before .before .part .result .now))) (sym size),
-      omega (arith, p .before .before .before .before .if3 .left, place-width _ _ _ (place p) (found p)),
+      omega (arith, p .before .before .before .before .if3 .left, location-width _ _ _ (location p) (found p)),
     )
 
 returns-7 : tie.Need-returns-7
@@ -147,7 +147,7 @@ returns-7 c =
     let p = c .before .before .before .before .before .before .before .before .before in
     let gathered = c .before .before .before .before .gather-source in
     answered-refused (call-contradicts _ _ _ _ (header (read-header p)) (has (read-header p)) (long-enough p) (fields (read-fields p)) (reads (read-fields p))
-    (p .before .before .before .before .before .before .before .if2 .left) _ (p .before .before .before .before .before .before .symbol-count .ensures) (p .before .before .before .before .if3 .left) (place p) (found p) _ _ (c .before .before .before .before .before .before .before .part .ensures .bytes)
+    (p .before .before .before .before .before .before .before .if2 .left) _ (p .before .before .before .before .before .before .symbol-count .ensures) (p .before .before .before .before .if3 .left) (location p) (found p) _ _ (c .before .before .before .before .before .before .before .part .ensures .bytes)
     (gathered .result) (gathered .ensures) (c .enum-told3 .given .1))
 
 accept-requires : tie.Need-accept-requires
@@ -156,7 +156,7 @@ accept-requires c κs =
     let start = read-header p .before .before .before .before .before .before .before in
     let gathered = c .before .before .before .before .before .before .before .gather-source in
     rw (p .before .before .before .join .ensures)
-    (accept-asks _ _ _ (place p) (found p) _ (start .args .work .now) (bases p) (long-enough p)
+    (accept-asks _ _ _ (location p) (found p) _ (start .args .work .now) (bases p) (long-enough p)
     _ (gathered .result) _ _ (c .before .before .before .kept .given .1) (gathered .ensures .works) (omega arith) (p .before .before .before .before .if3 .left))
 
 returns-8 : tie.Need-returns-8
@@ -167,7 +167,7 @@ returns-8 c =
     let accepted = rw (p .before .before .before .join .ensures) at (c .before .before .accept .ensures) in
     answered-done (header (read-header p)) (base p) _ _ _ (gathered .result) _ _ _ _ (has (read-header p)) kept (gathered .ensures .works) accepted refl (omega arith)
     (call-done _ _ _ _ (header (read-header p)) (has (read-header p)) (long-enough p) (fields (read-fields p)) (reads (read-fields p))
-    (p .before .before .before .before .before .before .before .if2 .left) _ (p .before .before .before .before .before .before .symbol-count .ensures) (p .before .before .before .before .if3 .left) (place p) (found p) _ _ (c .before .before .before .before .before .before .before .before .before .before .before .before .before .part .ensures .bytes)
+    (p .before .before .before .before .before .before .before .if2 .left) _ (p .before .before .before .before .before .before .symbol-count .ensures) (p .before .before .before .before .if3 .left) (location p) (found p) _ _ (c .before .before .before .before .before .before .before .before .before .before .before .before .before .part .ensures .bytes)
     (gathered .result) (gathered .ensures) _ _ _ kept accepted)
 
 pub receive-source-spec : {M : Type 1} → statement M

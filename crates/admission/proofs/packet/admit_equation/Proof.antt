@@ -19,9 +19,9 @@ returns c =
     let a = start .args in
     let laid = c .before .before .before .before .before .before .before .lay in
     let admitted = c .before .before .before .admit in
-    subst (λ r. EquationAdmitted (a .place) (a .kept) (a .first) (a .coefficients .now) r (a .mem .now) (a .work .now) (admitted .last .1 .0))
+    subst (λ r. EquationAdmitted (a .location) (a .kept) (a .first) (a .coefficients .now) r (a .mem .now) (a .work .now) (admitted .last .1 .0))
     (sym (c .gathered-by .ensures))
-    (equation-admitted (a .place) (a .kept) (a .first) (a .coefficients .now) (admitted .result) (a .mem .now) (a .work .now) (laid .last .0)
+    (equation-admitted (a .location) (a .kept) (a .first) (a .coefficients .now) (admitted .result) (a .mem .now) (a .work .now) (laid .last .0)
     (admitted .last .1 .0) (start .pre .1) (laid .ensures) (admitted .ensures))
 
 pub admit-equation-spec : {M : Type 1} → statement M

@@ -36,7 +36,7 @@ returns c =
     let next = c .before .before .before .before .before .before .before .before .before .plus in
     let row = c .before .before .before .before .before .before .store-u16 in
     let esi = c .before .before .store-u32 in
-    finished (a .header) (a .place) (a .kept) (committed .result) (next .result .0) (a .work .now) (a .mem .now) (committed .last .0) (esi .last .0)
+    finished (a .header) (a .location) (a .kept) (committed .result) (next .result .0) (a .work .now) (a .mem .now) (committed .last .0) (esi .last .0)
     (p .pre .0) (committed .ensures) (p .pre .2) (next .ensures) (rw (row .ensures) at (esi .ensures))
 
 pub finish-spec : {M : Type 1} → statement M

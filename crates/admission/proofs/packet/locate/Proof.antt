@@ -1,6 +1,6 @@
 -- `admission::packet::locate` meets its contract.
 use native.Mathlib.Omega.{arith}
-use Rattle.admission.proofs.Locating.{found-behind, found-ahead, found-place}
+use Rattle.admission.proofs.Locating.{found-behind, found-ahead, found-location}
 use borrow.Author.Needs.{needs}
 use Rattle.admission.proofs.packet.locate.Statement.{statement}
 use Rattle.admission.proofs.packet.locate.Tie as tie
@@ -25,7 +25,7 @@ returns-3 c =
     let a = c .before .before .before .before .before .before .before .args in
     let d = c .before .before .before .before .before .before .distance in
     rw (c .before .excess2 .ensures, c .before .before .before .excess .ensures)
-    (found-place (a .header) (a .first .0) (a .n) (d .result) (d .ensures) (c .before .before .before .before .before .if1 .left)
+    (found-location (a .header) (a .first .0) (a .n) (d .result) (d .ensures) (c .before .before .before .before .before .if1 .left)
     (c .before .before .before .before .if2 .left))
 
 pub locate-spec : {M : Type 1} → statement M

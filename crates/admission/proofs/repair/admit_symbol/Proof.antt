@@ -4,7 +4,7 @@ use Prim.Native.Nat.{_+_}
 use native.Mathlib.Omega.{arith}
 use Rattle.memory.specs.Part.{splice}
 use Rattle.memory.proofs.Parts.{whole}
-use Rattle.table.specs.Window.{place}
+use Rattle.table.specs.Window.{rowOffset}
 use Rattle.gather.proofs.Framing.{row-room}
 use Rattle.admission.proofs.Gathering.{works-stored}
 use Rattle.admission.proofs.Repairing.{symbol-admitted}
@@ -13,10 +13,10 @@ use Rattle.admission.proofs.repair.admit_symbol.Statement.{statement}
 use Rattle.admission.proofs.repair.admit_symbol.Tie as tie
 
 -- the symbol as it was stored
-stored : (p : tie.After-copy-part) → p .copy-part .last .0 ≡ splice (place (p .before .before .before .before .before .before .before .args .place .shape .width) (p .before .before .before .before .before .before .before .args .place .shape .size) (p .before .before .before .before .before .before .before .args .kept) + p .before .before .before .before .before .before .before .args .place .shape .width) (p .before .before .before .before .before .before .before .args .symbol .now) (p .before .before .before .before .before .before .before .args .work .now)
+stored : (p : tie.After-copy-part) → p .copy-part .last .0 ≡ splice (rowOffset (p .before .before .before .before .before .before .before .args .location .shape .width) (p .before .before .before .before .before .before .before .args .location .shape .size) (p .before .before .before .before .before .before .before .args .kept) + p .before .before .before .before .before .before .before .args .location .shape .width) (p .before .before .before .before .before .before .before .args .symbol .now) (p .before .before .before .before .before .before .before .args .work .now)
 stored p =
     let s = p .before .before .before .before .before .before .before in
-    rw (p .before .before .symbol-start .ensures, whole (s .args .place .shape .size) (s .args .symbol .now) (s .pre .5)) at (p .copy-part .ensures)
+    rw (p .before .before .symbol-start .ensures, whole (s .args .location .shape .size) (s .args .symbol .now) (s .pre .5)) at (p .copy-part .ensures)
 
 symbol-start-requires : tie.Need-symbol-start-requires
 symbol-start-requires c κs = let g = c .before .before .before .before .pre .1 in (g .within, g .wide, g .long)
@@ -25,7 +25,7 @@ copy-part-requires : tie.Need-copy-part-requires
 copy-part-requires c κs =
     let s = c .before .before .before .before .before .before in
     let a = s .args in
-    (omega (arith, c .before .symbol-start .ensures, row-room (a .place .shape .width) (a .place .shape .size) (a .kept) (a .work .now) (s .pre .1)), omega (arith, s .pre .5))
+    (omega (arith, c .before .symbol-start .ensures, row-room (a .location .shape .width) (a .location .shape .size) (a .kept) (a .work .now) (s .pre .1)), omega (arith, s .pre .5))
 
 admit-equation-requires : tie.Need-admit-equation-requires
 admit-equation-requires c κs =
@@ -37,7 +37,7 @@ returns : tie.Need-returns
 returns c =
     let s = c .before .before .before .before .before .before .before .before .before .before .before .before .before in
     let a = s .args in
-    symbol-admitted (a .place) (a .kept) (a .list .now) (a .symbol .now) (a .mem .now) (a .work .now) _ _ _ (s .pre .1) (s .pre .5) (stored (c .before .before .before .before .before .before))
+    symbol-admitted (a .location) (a .kept) (a .list .now) (a .symbol .now) (a .mem .now) (a .work .now) _ _ _ (s .pre .1) (s .pre .5) (stored (c .before .before .before .before .before .before))
     (c .before .before .admit-equation .ensures)
 
 pub admit-symbol-spec : {M : Type 1} → statement M

@@ -14,30 +14,30 @@ use Rattle.admission.proofs.repair.gather_repair.Statement.{statement}
 use Rattle.admission.proofs.repair.gather_repair.Tie as tie
 
 abbrev Inv-loop : tie.InvT-loop
-Inv-loop mem work₀ lists packet place n count size kept₀ i₀ work kept i =
-    (i ≤ count) × Gathers place n (equationAt (place .shape .width) (place .shape .size) n lists packet) i (All kept) mem work₀ work
+Inv-loop mem work₀ lists packet location n count size kept₀ i₀ work kept i =
+    (i ≤ count) × Gathers location n (equationAt (location .shape .width) (location .shape .size) n lists packet) i (All kept) mem work₀ work
 
 abbrev μ-loop : tie.MeasureT-loop
-μ-loop mem work₀ lists packet place n count size kept₀ i₀ work kept i = count - i
+μ-loop mem work₀ lists packet location n count size kept₀ i₀ work kept i = count - i
 
 -- list i lies in the lists, and symbol i in the packet
 within : (p : tie.In-loop Inv-loop μ-loop) → p .before .loop .i * p .before .before .before .before .before .before .args .n + p .before .before .before .before .before .before .args .n ≤ length (p .before .before .before .before .before .before .args .lists .now)
 within p = let s = p .before .before .before .before .before .before in omega (arith, row-fits (s .args .count) (s .args .n) (p .before .loop .i) (p .loop-test .taken), s .pre .5)
 
-inside : (p : tie.In-loop Inv-loop μ-loop) → 8 + p .before .loop .i * p .before .before .before .before .before .before .args .place .shape .size + p .before .before .before .before .before .before .args .place .shape .size ≤ length (p .before .before .before .before .before .before .args .packet .now)
+inside : (p : tie.In-loop Inv-loop μ-loop) → 8 + p .before .loop .i * p .before .before .before .before .before .before .args .location .shape .size + p .before .before .before .before .before .before .args .location .shape .size ≤ length (p .before .before .before .before .before .before .args .packet .now)
 inside p =
     let s = p .before .before .before .before .before .before in
-    omega (arith, row-fits (s .args .count) (s .args .place .shape .size) (p .before .loop .i) (p .loop-test .taken), s .pre .6)
+    omega (arith, row-fits (s .args .count) (s .args .location .shape .size) (p .before .loop .i) (p .loop-test .taken), s .pre .6)
 
 -- what the loop's body did, of list i and symbol i
 one : (p : tie.After-admit-symbol Inv-loop μ-loop)
-    → Admits (p .before .before .before .before .before .before .before .before .before .before .args .place) (p .before .before .before .before .before .before .before .before .before .before .args .n) (λ d. equationAt (p .before .before .before .before .before .before .before .before .before .before .args .place .shape .width) (p .before .before .before .before .before .before .before .before .before .before .args .place .shape .size) (p .before .before .before .before .before .before .before .before .before .before .args .n) (p .before .before .before .before .before .before .before .before .before .before .args .lists .now) (p .before .before .before .before .before .before .before .before .before .before .args .packet .now) d (p .before .before .before .before .before .loop .i)) (p .before .before .before .before .before .loop .kept) (p .admit-symbol .result) (p .before .before .before .before .before .before .before .before .before .before .args .mem .now) (p .before .before .before .before .before .loop .work) (p .admit-symbol .last .1 .0)
+    → Admits (p .before .before .before .before .before .before .before .before .before .before .args .location) (p .before .before .before .before .before .before .before .before .before .before .args .n) (λ d. equationAt (p .before .before .before .before .before .before .before .before .before .before .args .location .shape .width) (p .before .before .before .before .before .before .before .before .before .before .args .location .shape .size) (p .before .before .before .before .before .before .before .before .before .before .args .n) (p .before .before .before .before .before .before .before .before .before .before .args .lists .now) (p .before .before .before .before .before .before .before .before .before .before .args .packet .now) d (p .before .before .before .before .before .loop .i)) (p .before .before .before .before .before .loop .kept) (p .admit-symbol .result) (p .before .before .before .before .before .before .before .before .before .before .args .mem .now) (p .before .before .before .before .before .loop .work) (p .admit-symbol .last .1 .0)
 one p =
     let a = p .before .before .before .before .before .before .before .before .before .before .args in
     let i = p .before .before .before .before .before .loop .i in
-    let size = a .place .shape .size in
+    let size = a .location .shape .size in
     let q = p .before .before .before .before in
-    symbol-of (a .place) (p .before .before .before .before .before .loop .kept) (a .n) i _ (a .lists .now) (a .packet .now) (a .mem .now) (p .before .before .before .before .before .loop .work) _ _ (cut (i * a .n) (a .n) (a .lists .now))
+    symbol-of (a .location) (p .before .before .before .before .before .loop .kept) (a .n) i _ (a .lists .now) (a .packet .now) (a .mem .now) (p .before .before .before .before .before .loop .work) _ _ (cut (i * a .n) (a .n) (a .lists .now))
     (rw (cut (i * a .n) (a .n) (a .lists .now)) (length-part (i * a .n) (a .n) (a .lists .now) (within q))) (rw (cut (8 + i * size) size (a .packet .now)) at (p .admit-symbol .ensures))
 
 -- src/repair.rt:54:5
@@ -45,7 +45,7 @@ loop-holds : tie.Need-loop-holds Inv-loop μ-loop
 loop-holds c =
     let s = c .before .before .before .before in
     let a = s .args in
-    (omega arith, gathers-none (a .place) (a .n) (equationAt (a .place .shape .width) (a .place .shape .size) (a .n) (a .lists .now) (a .packet .now)) (a .mem .now) (a .work .now) (s .pre .1))
+    (omega arith, gathers-none (a .location) (a .n) (equationAt (a .location .shape .width) (a .location .shape .size) (a .n) (a .lists .now) (a .packet .now)) (a .mem .now) (a .work .now) (s .pre .1))
 
 -- src/repair.rt:55:20
 mul-from : tie.Need-mul-from Inv-loop μ-loop
@@ -97,7 +97,7 @@ admit-symbol-requires c κs =
     let s = c .before .before .before .before .before .before .before .before .before in
     let a = s .args in
     let l = c .before .before .before .before .loop in
-    let size = a .place .shape .size in
+    let size = a .location .shape .size in
     let p = c .before .before .before in (
       s .pre .0,
       l .inv .1 .works,

@@ -21,7 +21,7 @@ returns c =
     let row = c .before .before .before .before .before .before .before .before .before .row-after in
     let written = c .before .before .before .before .before .before .before .write-row in
     let admitted = c .before .before .admit-equation in
-    symbol-admitted (a .place) (a .kept) (a .flow) (a .i) (row .result) (a .adu .now) (a .mem .now) (a .work .now) (written .last .0)
+    symbol-admitted (a .location) (a .kept) (a .flow) (a .i) (row .result) (a .adu .now) (a .mem .now) (a .work .now) (written .last .0)
     (admitted .last .1 .0) (admitted .result) (p .1) (p .5) (row .ensures) (written .ensures) (admitted .ensures)
 
 pub admit-symbol-spec : {M : Type 1} → statement M

@@ -12,17 +12,17 @@ use Rattle.admission.proofs.source.gather_source.Statement.{statement}
 use Rattle.admission.proofs.source.gather_source.Tie as tie
 
 abbrev Inv-loop : tie.InvT-loop
-Inv-loop mem work₀ place flow adu count kept₀ i₀ work kept i =
-    (i ≤ count) × Gathers place (symbolCount (place .shape .size) (length adu)) (equationOf (place .shape .width) (place .shape .size) flow adu) i (All kept) mem work₀ work
+Inv-loop mem work₀ location flow adu count kept₀ i₀ work kept i =
+    (i ≤ count) × Gathers location (symbolCount (location .shape .size) (length adu)) (equationOf (location .shape .width) (location .shape .size) flow adu) i (All kept) mem work₀ work
 
 abbrev μ-loop : tie.MeasureT-loop
-μ-loop mem work₀ place flow adu count kept₀ i₀ work kept i = count - i
+μ-loop mem work₀ location flow adu count kept₀ i₀ work kept i = count - i
 
 loop-holds : tie.Need-loop-holds Inv-loop μ-loop
 loop-holds c =
     let start = c .before .before .before in
     let a = start .args in
-    (omega arith, gathers-none (a .place) _ _ (a .mem .now) (a .work .now) (start .pre .1))
+    (omega arith, gathers-none (a .location) _ _ (a .mem .now) (a .work .now) (start .pre .1))
 
 admit-symbol-requires : tie.Need-admit-symbol-requires Inv-loop μ-loop
 admit-symbol-requires c κs =

@@ -1,14 +1,14 @@
--- `table::start_of` meets its contract.
+-- `table::row_offset` meets its contract.
 use Prim.Native.Nat.{_+_}
 use native.Mathlib.Omega.{arith}
 use Rattle.memory.proofs.Parts.{row-fits}
 use Rattle.table.specs.Window.{stride}
 use Rattle.table.proofs.Rows.{small-row}
 use borrow.Author.Needs.{needs}
-use Rattle.table.proofs.start_of.Statement.{statement}
-use Rattle.table.proofs.start_of.Tie as tie
-use Rattle.table.proofs.start_of.Reads as reads
-use Rattle.table.proofs.start_of.Lts as lts
+use Rattle.table.proofs.row_offset.Statement.{statement}
+use Rattle.table.proofs.row_offset.Tie as tie
+use Rattle.table.proofs.row_offset.Reads as reads
+use Rattle.table.proofs.row_offset.Lts as lts
 
 add-result : tie.Need-add-result
 add-result c = search needs
@@ -32,5 +32,5 @@ returns c =
       small = omega (arith, small-row (s .width) (s .size) (a .r) (omega arith) (omega arith));
     }
 
-pub start-of-spec : {M : Type 1} → statement M
-start-of-spec = tie.close (tie.spec add-result add-result-2 mul-result add-result-3 returns)
+pub row-offset-spec : {M : Type 1} → statement M
+row-offset-spec = tie.close (tie.spec add-result add-result-2 mul-result add-result-3 returns)
