@@ -130,10 +130,6 @@ module _ (scheme : Scheme) (key dt b : ℕ) (z : 0 < b) (h : (s : List ℕ) → 
       (below-append b z (l .list) _ (list-below n) (cond-both (Below b) (c .ok) (below-one b (c .value) z (h (l .state))) (λ i. z)))
       (list-below n)
 
--- every coefficient of GF(2) is 0 or 1
-pub bits : (key dt n : ℕ) → Below 2 (coefficientsOf Gf2 key dt n .list)
-bits key dt n = list-below Gf2 key dt 2 (lit< tt) (bit-small dt) n
-
 -- every coefficient is a byte
 pub list-bytes : (scheme : Scheme) (key dt n : ℕ) → Bytes (coefficientsOf scheme key dt n .list)
 list-bytes scheme key dt n = list-below scheme key dt 256 (lit< tt) (value-lt scheme dt) n

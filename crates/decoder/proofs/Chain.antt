@@ -91,15 +91,6 @@ module _ {O : Ops} (L : Laws O) where
           go (yes p) = absurd (z p)
           go (no _) = refl
 
-  -- A reduced row that leads with one is placed as it is.
-  pub insert-reduced : {n : ℕ} (T : State O n) (g : Row O n) → Reduced T g → lead O n g ≡ 𝟙 → insert T g ≡ some (place T g)
-  unfolding normal
-  insert-reduced {n} T g r l =
-      let fixed = reduce-fixed T g r in
-      let led : lead O n (reduce T g) ≡ 𝟙 = ap (lead O n) fixed ∙ l in
-      let one : inv (lead O n (reduce T g)) ≡ 𝟙 = ap inv led ∙ sym (*-𝟙 (inv 𝟙)) ∙ *-inv 𝟙 𝟙≢𝟘 in
-      reduced-places T g (λ z. 𝟙≢𝟘 (sym led ∙ z)) ∙ ap (λ r. some (place T r)) (scale-one n _ (reduce T g) one ∙ fixed)
-
   -- Chains.
   module _ {n : ℕ} (S : State O n) (g : ℕ → Row O n) where
     pub chain-none : Chain S g 0

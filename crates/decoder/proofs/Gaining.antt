@@ -49,15 +49,6 @@ total-rows h w b f g s =
     ∙ total-same (λ i. h ((b +ₙ i) % w)) (λ i. is-new (f i) (g i)) w s
     ∙ total-new w f g
 
--- Two gains in succession, where nothing is lost.
-pub count-steps : {A : Type 0} (m : ℕ) (f g h : ℕ → Option A) → ((i : ℕ) → f i ≡ none → g i ≡ none) → ((i : ℕ) → g i ≡ none → h i ≡ none)
-    → count-new m f h ≡ count-new m g h +ₙ count-new m f g
-count-steps m f g h p q =
-    let x = count-split m f g p in
-    let y = count-split m g h q in
-    let z = count-split m f h (λ i e. q i (p i e)) in
-    omega arith
-
 module _ {O : Ops} (L : Laws O) where
   open Ops O using (𝟘, 𝟙)
 
@@ -85,20 +76,6 @@ module _ {O : Ops} (L : Laws O) where
           go (yes k) = steps.known-open L T i w b q (w - suc i) at (omega arith) t p k l z
           go (no k) = absurd (z (h .zero-before q (omega arith) (omega arith) t p c (omega arith)))
 
-      -- A row that had none there is as it was.
-      pub stays-known : q ≢ p → (T .has q ≡ true → T .line q .cells p ≡ 𝟘) → known (view T′ w b) i ≡ known (view T w b) i
-      unfolding slot known
-      stays-known n z =
-          let has = f .has-old q (omega arith) (omega arith) n in
-          steps.known-slot L T′ i w b q (w - suc i) at (omega arith) (T .has q) has
-          ∙ go _ _ (T .has q) (λ t. f .line-old q (omega arith) (omega arith) n t ∙ refine.add-line-zero L _ e (T .line q) (z t))
-          ∙ sym (steps.known-slot L T i w b q (w - suc i) at (omega arith) (T .has q) refl)
-        where
-          go : (S S′ : State O (w - suc i)) (t : Bool) → (t ≡ true → T′ .line q ≡ T .line q)
-              → known (slot t (read (T′ .line q) (w - suc i) (suc q)) S′) 0 ≡ known (slot t (read (T .line q) (w - suc i) (suc q)) S) 0
-          go S S′ true s = ap (λ x. known (slot true (read x (w - suc i) (suc q)) S) 0) (s refl)
-          go S S′ false s = refl
-
   -- A chain of rows.
   module _ {n : ℕ} (S : State O n) (g : ℕ → Row O n) (f : Rref S) where
     chain-step : (k : ℕ) → Chain S g (suc k) → (i : ℕ) → known (place-rows g (suc k) S) i ≡ none → known (place-rows g k S) i ≡ none
@@ -112,19 +89,3 @@ module _ {O : Ops} (L : Laws O) where
     unfolding place-rows
     chain-known zero c i e = e
     chain-known (suc k) c i e = chain-known k (chain-before L S g k c) i (chain-step k c i e)
-
-    -- The gains of the rows add up.
-    pub chain-gain : (k : ℕ) → Chain S g (suc k)
-        → count-new n (known (place-rows g (suc k) S)) (known S)
-        ≡ count-new n (known (place-rows g k S)) (known S) +ₙ count-new n (known (place-rows g (suc k) S)) (known (place-rows g k S))
-    chain-gain k c =
-        count-steps n (known (place-rows g (suc k) S)) (known (place-rows g k S)) (known S) (chain-step k c) (chain-known k (chain-before L S g k c))
-
-  -- The count of a call is the gain over the window moved on.
-  pub newly-gain : {w : ℕ} (b d : ℕ) (S T : State O w)
-      → newly (record { base = b; window = S }) (record { base = b +ₙ d; window = T }) ≡ count-new w (known T) (known (advance-by d S))
-  unfolding newly
-  newly-gain {w} b d S T =
-      let rise : (b +ₙ d) - b ≡ d = omega arith in
-      ap (λ k. count-new w (known T) (λ j. known S (k +ₙ j))) rise
-      ∙ count-same L w (known T) (λ j. known S (d +ₙ j)) (known (advance-by d S)) (λ j. sym (history.known-advance-by L d S j))
