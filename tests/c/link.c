@@ -1,5 +1,6 @@
 // The library as a C program links it: the bench sheet's cases C7 to C10 and C12, joining, the draws, the window of a latency budget, and the ADU
-// call's refusals, through the header alone; each answer and each byte is compared.
+// call's refusals, through the header alone; each answer and each byte is compared. With the argument `unset` the memory that is lent for a sender, a
+// receiver or their work is left as malloc gives it, so that valgrind tells if a call depends on a byte that nobody has set.
 #include "rlc8681.h"
 #include <stdio.h>
 #include <stdlib.h>
@@ -84,9 +85,18 @@ static int untouched(struct room r, size_t from) {
 }
 #define LENT(r) (r).bytes, (r).length
 
-static struct room sender_of(uint32_t size, uint32_t width) { return room((size_t)rlc_sender_memory(size, width)); }
-static struct room receiver_of(uint32_t size, uint32_t width) { return room((size_t)rlc_receiver_memory(size, width)); }
-static struct room work_of(uint32_t size, uint32_t width) { return room((size_t)rlc_working_memory(size, width)); }
+// Memory for an end or its work: filled, or but for the guard as malloc gives it.
+static int unset;
+static struct room lent(int64_t length) {
+  if (!unset) return room((size_t)length);
+  struct room r = {(size_t)length, malloc((size_t)length + GUARD)};
+  if (!r.bytes) exit(2);
+  memset(r.bytes + r.length, 0xa5, GUARD);
+  return r;
+}
+static struct room sender_of(uint32_t size, uint32_t width) { return lent(rlc_sender_memory(size, width)); }
+static struct room receiver_of(uint32_t size, uint32_t width) { return lent(rlc_receiver_memory(size, width)); }
+static struct room work_of(uint32_t size, uint32_t width) { return lent(rlc_working_memory(size, width)); }
 
 static void sizes(void) {
   SAYS(rlc_sender_memory(4, 2), 32 + 2 * 4);
@@ -151,7 +161,7 @@ static void windows(void) {
 // C7 and C8: two ADUs of one byte, their repair packet, and the second symbol from the first and the repair.
 static void seven_and_eight(void) {
   struct room sender = sender_of(4, 2), receiver = receiver_of(4, 2), work = work_of(4, 2);
-  struct room one = room(32), two = room(32), repair = room(32);
+  struct room one = room(32), two = room(32), repair = room(32), unopened = room(receiver.length);
   const uint8_t a = 0x41, b = 0x42;
   SAYS(rlc_sender_open(LENT(sender), 9, 4, 2), 0);
   SAYS(rlc_sender_make_repair(LENT(sender), 1, 15, 1, LENT(repair)), -RLC_EMPTY);
@@ -172,7 +182,7 @@ static void seven_and_eight(void) {
   check(untouched(one, 5) && untouched(two, 5) && untouched(repair, 12), "output past the packet is as it was");
   check(untouched(sender, sender.length), "the sender stays in its memory");
 
-  SAYS(rlc_receive_source(LENT(receiver), LENT(work), 1, one.bytes, 5), -RLC_UNOPENED);
+  SAYS(rlc_receive_source(LENT(unopened), LENT(work), 1, one.bytes, 5), -RLC_UNOPENED);
   SAYS(rlc_receiver_open(LENT(receiver), 9, 3, 2), -RLC_VALUES);
   SAYS(rlc_receiver_open(LENT(receiver), 65545, 4, 2), -RLC_VALUES);
   SAYS(rlc_receiver_open(receiver.bytes, receiver.length - 1, 9, 4, 2), -RLC_SHORT);
@@ -229,7 +239,7 @@ static void number(uint8_t *at, uint32_t esi) {
 // C10, after a packet at ESI 0 and after one at any other: the first packet that is accepted sets the base. Before that there is none: no packet is
 // behind or ahead, a refused one changes no byte, and no symbol is shown, whatever its ESI.
 static void ten(void) {
-  struct room receiver = receiver_of(4, 2), work = work_of(4, 2), fresh = receiver_of(4, 2);
+  struct room work = work_of(4, 2), receiver = room((size_t)rlc_receiver_memory(4, 2)), fresh = room(receiver.length);
   const uint32_t begin[] = {0, 4100000, 0x7fffffff, 0x80000000, 0xfffffffe, 0xffffffff}, half = 0x80000000;
   const struct { uint32_t ahead; int64_t says; } place[] = {
     {65535, 1}, {65536, -RLC_AHEAD}, {half - 1, -RLC_AHEAD}, {half, -RLC_BEHIND}, {0xffffffff, -RLC_BEHIND}};
@@ -349,7 +359,8 @@ static void thirteen_and_fourteen(void) {
   WITHHOLDS(narrow, 1, RLC_PADDING);
 }
 
-int main(void) {
+int main(int count, char **words) {
+  unset = count == 2 && strcmp(words[1], "unset") == 0;
   sizes();
   windows();
   seven_and_eight();
