@@ -9,7 +9,7 @@ use native.Mathlib.Omega.{arith}
 use Rattle.decoder.specs.Field.{Ops, Laws}
 use Rattle.decoder.specs.Model.{tail, ext, Filling, Row, eval, symbol, State, end, free, pivot, extend, Sat, Rref, insert, known, advance}
 use Rattle.decoder.specs.Receiver.{shift, and-then, Packet, Hold, Satisfies, Satisfies-all, embed, over}
-use Rattle.decoder.specs.Receiver.{Receiver, empty, fresh, advance-by, insert-all, rise, receive, Placed}
+use Rattle.decoder.specs.Receiver.{Receiver, empty, fresh, advance-by, insert-all, rise, receive, Fitting}
 use Rattle.decoder.specs.Receiver.{Accepted, Log, opened, answered, called, run}
 use Rattle.decoder.specs.Promises.{Follows, Faithful, Demand-3, Locates}
 use Rattle.decoder.proofs.Linear as lin
@@ -124,7 +124,7 @@ module _ {O : Ops} (L : Laws O) where
         (f, (satisfies-embed w (r .base) p f b g .0 (subst (λ z. Hold O w (over O w (r .base) p) z) (sym e) q), u), e);
   }
 
-  pub receive-follows : {w : ℕ} (A : List (Packet O)) (r : Receiver O w) (p : Packet O) → Follows A r → Placed r p
+  pub receive-follows : {w : ℕ} (A : List (Packet O)) (r : Receiver O w) (p : Packet O) → Follows A r → Fitting r p
       → Received A p (receive r p)
   unfolding receive rise
   receive-follows {w} A r p h (behind, long) =
@@ -259,7 +259,7 @@ module _ {O : Ops} (L : Laws O) where
       go p none k = ((λ a. absurd a), (λ (f, s, t). k f t s))
       go p (some r) k = ((λ _. let (f, s) = faithful (p ∷ l .accepted) r k .filling in (f, s .0, s .1)), (λ _. tt))
 
-  called-kept : {w : ℕ} (l : Log O w) (o : Option (Packet O)) → ((p : Packet O) → o ≡ some p → Placed (l .receiver) p) → Kept l
+  called-kept : {w : ℕ} (l : Log O w) (o : Option (Packet O)) → ((p : Packet O) → o ≡ some p → Fitting (l .receiver) p) → Kept l
       → Kept (called l o)
   called-kept l none g h = h
   called-kept {w} l (some p) g h =

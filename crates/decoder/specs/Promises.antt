@@ -8,7 +8,7 @@ use Prim.Native.Nat.{ℕ, _+_, _≤_, _<_}
 use lib.Bits.{bitXor, bitAnd}
 use Rattle.decoder.specs.Field.{Ops}
 use Rattle.decoder.specs.Model.{Filling, Row, eval, State, Sat, Rref, insert, known}
-use Rattle.decoder.specs.Receiver.{shift, Accepted, Packet, Satisfies, Satisfies-all, Receiver, advance-by, receive, Placed, Log, opened, run}
+use Rattle.decoder.specs.Receiver.{shift, Accepted, Packet, Satisfies, Satisfies-all, Receiver, advance-by, receive, Fitting, Log, opened, run}
 use Rattle.decoder.specs.Packets.{source, Repair, repair, Combined}
 use Rattle.decoder.specs.Bytes.{Byte, byte, Coded}
 
@@ -40,7 +40,7 @@ module _ {O : Ops} where
   pub record Demand-3 {w : ℕ} (l : Log O w) : Type 0 where
     pub follows : Follows (l .accepted) (l .receiver)
     pub answers : Faithful (l .accepted) (l .receiver)
-    pub verdict : (p : Packet O) → Placed (l .receiver) p
+    pub verdict : (p : Packet O) → Fitting (l .receiver) p
         → Accepted (receive (l .receiver) p) ↔ ((f : Filling O) × Satisfies O p f × Satisfies-all O (l .accepted) f)
 
   -- Every packet that a call locates lies ahead of the base and is no longer than the window.

@@ -102,8 +102,8 @@ module _ {O : Ops} where
       (λ S. some (record { base = base; window = S }))
 
   -- Refusals that come before: 8 where it lies behind, 4 and 6 where it is longer than the window.
-  abbrev pub Placed : {w : ℕ} → Receiver O w → Packet O → Type 0
-  Placed {w} r p = (r .base ≤ p .first) × (p .count ≤ w)
+  abbrev pub Fitting : {w : ℕ} → Receiver O w → Packet O → Type 0
+  Fitting {w} r p = (r .base ≤ p .first) × (p .count ≤ w)
 
   -- How many positions of the window are known now and were not before: its `i`th position was the `d + i`th before.
   unfoldable pub newly : {w : ℕ} → Receiver O w → Receiver O w → ℕ
