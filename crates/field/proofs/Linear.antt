@@ -5,7 +5,7 @@ use Prim.Native.Nat.{ℕ, zero, suc, _+_, _*_, _/_, _%_, _^_, _-_, _≤_, _<_}
 use native.Mathlib.Nat.{zero-mul, one-mul, pow-suc}
 use native.Mathlib.Omega.{arith}
 use lib.Bits.{bitXor, xor-zero-r, xor-comm, xor-shifted}
-use Rattle.field.specs.Gf256.{product, times, remainder}
+use Rattle.field.specs.Gf256.{product, times, remainder, power}
 use Rattle.field.specs.Tables.{doublings}
 use Rattle.field.proofs.Xor.{digit, split-digit}
 use Rattle.field.proofs.Polynomial.{remainder-times, remainder-id, remainder-xor}
@@ -42,14 +42,20 @@ chosen-product zero c s h l = let z : s ≡ 0 = omega arith in rw z (sym (produc
 chosen-product (suc n) c s h l =
     ap (bitXor (s % 2 * c)) (chosen-product n (product 2 c) (s / 2) (product-lt 2 c) (omega (arith, pow-suc 2 n))) ∙ sym (product-digit c s h)
 
--- the doublings, one after the other
-pub doubled : (n : ℕ) {x y : ℕ} {l : List ℕ} → y ≡ product 2 x → l ≡ doublings n y → x ∷ l ≡ doublings (suc n) x
-unfolding doublings
-doubled n {x} p q = ap (λ (t : List ℕ). x ∷ t) (q ∙ ap (doublings n) p)
+-- the powers from e + k on, one by one
+doublings-power : (n e k : ℕ) → doublings (suc n) (power (e + k)) ≡ power (e + k) ∷ doublings n (power (e + (k + 1)))
+unfolding doublings power
+doublings-power n e k = let q : e + (k + 1) ≡ suc (e + k) = omega arith in rw q
 
-pub doubled-last : (x : ℕ) → x ∷ [] ≡ doublings 1 x
+-- eight powers from e on are the doublings of the first
+pub eight-powers : (e : ℕ)
+    → power e ∷ power (e + 1) ∷ power (e + 2) ∷ power (e + 3) ∷ power (e + 4) ∷ power (e + 5) ∷ power (e + 6) ∷ power (e + 7) ∷ []
+    ≡ doublings 8 (power e)
 unfolding doublings
-doubled-last x = refl
+eight-powers e =
+    let d = doublings-power in
+    let z : e + 0 ≡ e = omega arith in
+    cc (z, d 7 e 0, d 6 e 1, d 5 e 2, d 4 e 3, d 3 e 4, d 2 e 5, d 1 e 6)
 
 -- ---- twice a byte: shifted, less the modulus if that reaches 256
 
