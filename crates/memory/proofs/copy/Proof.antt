@@ -1,15 +1,14 @@
 -- `memory::copy` meets its contract. The loop: the first i elements are those of the result.
-use mathlib.Core.Path.{_≡_}
-use Prim.Native.Nat.{_≤_, _-_}
+use mathlib.Core.Path.{refl}
+use Prim.Native.Nat.{_-_}
 use native.Mathlib.Omega.{arith}
-use lib.ListN.{length}
-use Rattle.memory.proofs.Loop.{turned, turn, turned-all}
+use Rattle.memory.proofs.Loop.{Turned, turned-more, turned-all}
 use borrow.Author.Needs.{needs}
 use Rattle.memory.proofs.copy.Statement.{statement}
 use Rattle.memory.proofs.copy.Tie as tie
 
 abbrev Inv-loop : tie.InvT-loop
-Inv-loop dst₀ src i₀ i-end dst i = (i ≤ length dst₀) × (dst ≡ turned dst₀ (src) i) × (length dst ≡ length dst₀)
+Inv-loop dst₀ src i₀ i-end dst i = Turned dst₀ src i dst
 
 abbrev μ-loop : tie.MeasureT-loop
 μ-loop dst₀ src i₀ i-end dst i = i-end - i
@@ -30,18 +29,13 @@ loop-less : tie.Need-loop-less Inv-loop μ-loop
 loop-less c = search needs
 
 loop-again : tie.Need-loop-again Inv-loop μ-loop
-loop-again c =
-    let a = c .before .before .before .args in
-    let i = c .before .before .loop .i in
-    (search needs, cc (turn (a .dst .now) (a .src .now) i (omega arith) (omega arith)), search needs)
+loop-again c = turned-more (omega arith) (omega arith) (c .before .before .loop .inv) refl
 
 same-length : tie.Need-same-length Inv-loop μ-loop
 same-length c = search needs
 
 returns : tie.Need-returns Inv-loop μ-loop
-returns c =
-    let a = c .before .before .args in
-    cc (turned-all (a .dst .now) (a .src .now) (c .before .loop .i) (omega arith) (omega arith))
+returns c = turned-all (omega arith) (omega arith) (c .before .loop .inv)
 
 pub copy-spec : {M : Type 1} → statement M
 copy-spec =

@@ -1,15 +1,15 @@
 -- `memory::fill` meets its contract. The loop: the first i elements are those of the result.
-use mathlib.Core.Path.{_≡_}
-use Prim.Native.Nat.{_≤_, _-_}
+use mathlib.Core.Path.{sym}
+use Prim.Native.Nat.{_-_}
 use native.Mathlib.Omega.{arith}
 use lib.ListN.{length, replicate, length-replicate, getD-replicate}
-use Rattle.memory.proofs.Loop.{turned, turn, turned-all}
+use Rattle.memory.proofs.Loop.{Turned, turned-more, turned-all}
 use borrow.Author.Needs.{needs}
 use Rattle.memory.proofs.fill.Statement.{statement}
 use Rattle.memory.proofs.fill.Tie as tie
 
 abbrev Inv-loop : tie.InvT-loop
-Inv-loop dst₀ v i₀ i-end dst i = (i ≤ length dst₀) × (dst ≡ turned dst₀ (replicate (length dst₀) v) i) × (length dst ≡ length dst₀)
+Inv-loop dst₀ v i₀ i-end dst i = Turned dst₀ (replicate (length dst₀) v) i dst
 
 abbrev μ-loop : tie.MeasureT-loop
 μ-loop dst₀ v i₀ i-end dst i = i-end - i
@@ -29,22 +29,15 @@ loop-less c = search needs
 loop-again : tie.Need-loop-again Inv-loop μ-loop
 loop-again c =
     let a = c .before .before .args in
-    let i = c .before .loop .i in
     let n = length (a .dst .now) in
-    let l : length (replicate n (a .v)) ≡ n = length-replicate n (a .v) in (
-      search needs,
-      cc (turn (a .dst .now) (replicate n (a .v)) i (omega arith) (omega arith), getD-replicate n i (a .v) 0 (omega arith)),
-      search needs,
-    )
+    let t = c .before .loop in
+    turned-more (length-replicate n (a .v)) (omega arith) (t .inv) (sym (getD-replicate n (t .i) (a .v) 0 (omega arith)))
 
 same-length : tie.Need-same-length Inv-loop μ-loop
 same-length c = search needs
 
 returns : tie.Need-returns Inv-loop μ-loop
-returns c =
-    let a = c .before .before .args in
-    let n = length (a .dst .now) in
-    cc (turned-all (a .dst .now) (replicate n (a .v)) (c .before .loop .i) (length-replicate n (a .v)) (omega arith))
+returns c = turned-all (length-replicate _ _) (omega arith) (c .before .loop .inv)
 
 pub fill-spec : {M : Type 1} → statement M
 fill-spec =

@@ -6,8 +6,6 @@ use native.Mathlib.Omega.{arith}
 use borrow.Author.Needs.{needs}
 use Rattle.memory.proofs.next.Statement.{statement}
 use Rattle.memory.proofs.next.Tie as tie
-use Rattle.memory.proofs.next.Reads as reads
-use Rattle.memory.proofs.next.Lts as lts
 
 add-if1 : tie.Need-add-if1
 add-if1 c = search needs

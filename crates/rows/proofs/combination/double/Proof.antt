@@ -1,16 +1,16 @@
 -- `rows::combination::double` meets its contract. The loop: the first i elements are those of the result.
-use mathlib.Core.Path.{_≡_, _∙_}
-use Prim.Native.Nat.{_≤_, _-_}
+use Prim.Native.Nat.{_-_}
 use native.Mathlib.Omega.{arith}
-use lib.ListN.{length}
-use Rattle.rows.proofs.Turns.{multiplied, multiplied-turn, multiplied-end}
+use Rattle.memory.proofs.Loop.{Turned, turned-all}
+use Rattle.rows.specs.Rows.{scaled}
+use Rattle.rows.proofs.Sums.{length-scaled}
+use Rattle.rows.proofs.Turns.{scale-more}
 use borrow.Author.Needs.{needs}
 use Rattle.rows.proofs.combination.double.Statement.{statement}
 use Rattle.rows.proofs.combination.double.Tie as tie
 
 abbrev Inv-loop : tie.InvT-loop
-Inv-loop row₀ i₀ i-end row i =
-    (i ≤ length row₀) × (row ≡ multiplied 2 row₀ i) × (length row ≡ length row₀)
+Inv-loop row₀ i₀ i-end row i = Turned row₀ (scaled 2 row₀) i row
 
 abbrev μ-loop : tie.MeasureT-loop
 μ-loop row₀ i₀ i-end row i = i-end - i
@@ -34,18 +34,13 @@ loop-less : tie.Need-loop-less Inv-loop μ-loop
 loop-less c = search needs
 
 loop-again : tie.Need-loop-again Inv-loop μ-loop
-loop-again c =
-    let row = c .before .before .before .before .before .args .row .now in
-    let t = c .before .before .before .loop in
-    (search needs, rw (c .double .ensures, t .inv .1) (multiplied-turn 2 row (t .i) (omega arith)), search needs)
+loop-again c = rw (c .double .ensures) (scale-more _ (omega arith) (c .before .before .before .loop .inv))
 
 same-length : tie.Need-same-length Inv-loop μ-loop
 same-length c = search needs
 
 returns : tie.Need-returns Inv-loop μ-loop
-returns c =
-    let t = c .before .loop in
-    t .inv .1 ∙ multiplied-end 2 (c .before .before .before .args .row .now) (t .i) (omega arith)
+returns c = turned-all (length-scaled _ _) (omega arith) (c .before .loop .inv)
 
 pub double-spec : {M : Type 1} → statement M
 double-spec =
