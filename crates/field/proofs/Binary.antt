@@ -1,18 +1,13 @@
 -- The coefficients of scheme 9, which are 0 and 1: GF(2) is the part {0, 1} of GF(2^8), so one arithmetic serves both schemes. That 0 times a
 -- byte is 0 and 1 times a byte is the byte is `product-zero` and `product-one` of `Laws`.
 use mathlib.Core.Path.{_≡_, refl, sym, _∙_}
-use Prim.Native.Nat.{ℕ, zero, suc, _*_, _<_}
-use native.Mathlib.Nat.{le-of-suc-le-suc, not-suc-le-zero, zero-mul, one-mul}
+use Prim.Native.Nat.{ℕ, _*_, _<_}
+use native.Mathlib.Nat.{zero-mul, one-mul}
 use native.Mathlib.Omega.{arith}
 use lib.Bits.{bitAnd}
 use Rattle.field.specs.Gf256.{product}
+use Rattle.field.proofs.Xor.{binary}
 use Rattle.field.proofs.Laws.{product-zero, product-one}
-
--- what holds of 0 and of 1 holds of a number below 2
-pub binary : (P : ℕ → Type 0) → P 0 → P 1 → (c : ℕ) → c < 2 → P c
-binary P p q zero h = p
-binary P p q (suc zero) h = q
-binary P p q (suc (suc c)) h = absurd (not-suc-le-zero (le-of-suc-le-suc (le-of-suc-le-suc h)))
 
 -- the product of two coefficients is their AND, the product of GF(2)
 pub product-binary : (c d : ℕ) → c < 2 → d < 2 → product c d ≡ bitAnd c d

@@ -7,9 +7,10 @@ use native.Mathlib.Omega.{arith}
 use lib.Bits.{bitXor, xor-zero-r, xor-comm, xor-shifted}
 use Rattle.field.specs.Gf256.{product, times, remainder, power}
 use Rattle.field.specs.Tables.{doublings}
-use Rattle.field.proofs.Xor.{digit, split-digit}
+use Rattle.field.proofs.Xor.{split-digit}
 use Rattle.field.proofs.Polynomial.{remainder-times, remainder-id, remainder-xor}
-use Rattle.field.proofs.Laws.{product-lt, product-comm, product-assoc, product-sum, product-zero, product-zero-right, product-one}
+use Rattle.field.proofs.Binary.{product-selects}
+use Rattle.field.proofs.Laws.{product-lt, product-comm, product-assoc, product-sum, product-zero-right}
 
 times-two : (s : ℕ) → times 2 s ≡ s * 2
 unfolding times
@@ -22,14 +23,11 @@ product-double c s =
     ap (λ (x : ℕ). remainder (times c x)) (sym (times-two s)) ∙ sym (remainder-times c (times 2 s))
     ∙ sym (product-assoc c 2 s) ∙ ap (λ (x : ℕ). product x s) (product-comm c 2)
 
-product-last : (c s : ℕ) → c < 256 → product (s % 2) c ≡ s % 2 * c
-product-last c s h = digit (λ d. product d c ≡ d * c) (product-zero c ∙ sym (zero-mul c)) (product-one c h ∙ sym (one-mul c)) s
-
 -- the last digit of s, and the digits above it
 pub product-digit : (c s : ℕ) → c < 256 → product c s ≡ bitXor (s % 2 * c) (product (product 2 c) (s / 2))
 product-digit c s h =
     product-comm c s ∙ ap (λ (x : ℕ). product x c) (sym (split-digit s)) ∙ product-sum (s % 2) (s / 2 * 2) c
-    ∙ ap₂ bitXor (product-last c s h) (product-comm (s / 2 * 2) c ∙ product-double c (s / 2))
+    ∙ ap₂ bitXor (product-selects (s % 2) c (omega arith) h) (product-comm (s / 2 * 2) c ∙ product-double c (s / 2))
 
 -- the sum of the elements of a list at whose place, counted from 0, s has the binary digit 1
 unfoldable pub chosen : List ℕ → ℕ → ℕ

@@ -5,14 +5,15 @@ use native.Mathlib.Nat.{mod-lt, div-add-mod', zero-lt-suc, le-of-suc-le-suc, not
 use lib.Arith.{bin-ind}
 use lib.Bits.{bitXor, differ, xor-shr, xor-mod, xor-comm, xor-self, xor-zero-r, xor-block, xor-shifted}
 
--- what holds of 0 and of 1 holds of a binary digit
+-- what holds of 0 and of 1 holds of a number below 2
+pub binary : (P : ℕ → Type 0) → P 0 → P 1 → (c : ℕ) → c < 2 → P c
+binary P p q zero h = p
+binary P p q (suc zero) h = q
+binary P p q (suc (suc c)) h = absurd (not-suc-le-zero (le-of-suc-le-suc (le-of-suc-le-suc h)))
+
+-- and of a binary digit
 pub digit : (P : ℕ → Type 0) → P 0 → P 1 → (n : ℕ) → P (n % 2)
-digit P p q n = go (n % 2) (mod-lt n (zero-lt-suc 1))
-  where
-    go : (m : ℕ) → m < 2 → P m
-    go zero h = p
-    go (suc zero) h = q
-    go (suc (suc m)) h = absurd (not-suc-le-zero (le-of-suc-le-suc (le-of-suc-le-suc h)))
+digit P p q n = binary P p q (n % 2) (mod-lt n (zero-lt-suc 1))
 
 -- two numbers are equal if their last digits are, and what stands above those
 pub same-digits : {a b : ℕ} → a / 2 ≡ b / 2 → a % 2 ≡ b % 2 → a ≡ b
