@@ -1,4 +1,9 @@
--- The laws of GF(2^8).
+-- The laws of GF(2^8), by group:
+--   the product: product-lt, product-comm, product-assoc, product-sum, product-zero, product-zero-right, product-sum-right, product-one
+--   the powers of 2: power-lt, power-sum, power-reduced
+--   the tables: doublings-at, logarithms-at
+--   inverses: inverse-unique, inverse-lt, inverse-is, inverse-power, product-inverse
+--   the operations by logarithms: product-by-logarithms, inverse-by-logarithm, inverse-zero
 use mathlib.Core.Path.{_≡_, refl, sym, ap, ap₂, _∙_}
 use mathlib.Core.Bool.{Bool, true, false}
 use mathlib.Core.List.{List}

@@ -1,4 +1,7 @@
 -- Polynomials over GF(2): the product is a commutative ring's, and the remainder passes through it.
+-- The laws by group:
+--   the product: times-xor-left, times-xor-right, times-one, times-comm, times-assoc
+--   the remainder: remainder-xor, remainder-lt, remainder-id, remainder-times
 use mathlib.Core.Path.{_≡_, refl, sym, ap, ap₂, _∙_}
 use Prim.Native.Nat.{ℕ, _*_, _/_, _%_, _^_, _<_}
 use native.Mathlib.Nat.{zero-lt-suc, zero-mul, one-mul, mul-one, mul-assoc, mul-mod-left, mul-div-cancel}

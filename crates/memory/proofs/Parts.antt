@@ -1,12 +1,20 @@
--- Laws of `part` and `splice`, at any place and size.
-use mathlib.Core.Path.{_≡_, refl, sym, ap, _∙_}
+-- Laws of `part` and `splice`, at any place and size, by group:
+--   lengths: length-part, length-splice (and cons-eq, of any two lists)
+--   the code's `m[a..a + n]`: cut (what is lent), put (what has come back)
+--   what is before the place, past it, and the place itself: take-splice, drop-splice, drop-front, take-new, past-splice
+--   a part of a splice: part-within, part-before, part-past
+--   a byte of a splice, and a store of one: getD-past, getD-before, getD-apart, getD-within, set-splice
+--   parts of parts, and stores on stores: whole, getD-part, part-part, part-drop, part-splice, splice-part, splice-next, splice-append, splice-within
+--   bytes one by one: part-none, part-cons, part-two, part-add, sets-splice
+--   rows of s bytes: row-fits
+use mathlib.Core.Path.{_≡_, refl, ap, _∙_}
 use mathlib.Core.Logic.{inl, inr}
 use Prim.Native.Nat.{ℕ, zero, suc, _+_, _-_, _*_, _≤_, _<_}
 use native.Mathlib.Nat.{le-of-suc-le-suc, not-suc-le-zero, suc-add, zero-add, add-zero, suc-mul, mul-le-mul-right}
 use native.Mathlib.Numerals.{add-one}
 use native.Mathlib.Omega.{arith}
 use mathlib.Core.List.{List, [], _∷_, _++_, append-assoc}
-use lib.ListN.{length, take, drop, getD, set, length-set, length-append, length-take, length-drop, take-append-drop}
+use lib.ListN.{length, take, drop, getD, set, length-set, length-append, length-take, length-drop, take-append-drop, List·getD-append}
 use lib.Seq.{take-all, getD-take, getD-drop, take-at, take-append-le, drop-append-le, take-append-seam, drop-append-seam}
 use lib.Seq.{drop-append-add, drop-drop, take-take, take-add, drop-cons, sets, sets-eq, set-append-left}
 use Rattle.memory.specs.Part.{part, splice, Apart}
@@ -88,6 +96,8 @@ pub part-past : (b n a : ℕ) (x m : List ℕ) → a + length x ≤ b → a ≤ 
 unfolding part
 part-past b n a x m h k = rw past-splice
 
+-- ---- a byte of a splice, and a store of one
+
 -- a byte past the place
 pub getD-past : (i a : ℕ) (x m : List ℕ) → a + length x ≤ i → a ≤ length m → getD (splice a x m) i 0 ≡ getD m i 0
 getD-past i a x m h k = rw (← add-zero i, ← getD-drop i (splice a x m) 0 0, ← getD-drop i m 0 0, past-splice i a x m h k)
@@ -105,15 +115,10 @@ pub getD-apart : (a b n i : ℕ) (x m : List ℕ) → Apart a b n → length x �
 getD-apart a b n i x m (inl h) e l k = getD-past (b + i) a x m (omega arith) k
 getD-apart a b n i x m (inr h) e l k = getD-before (b + i) a x m (omega arith) k
 
-getD-front : (x y : List ℕ) (i : ℕ) → i < length x → getD (x ++ y) i 0 ≡ getD x i 0
-getD-front [] y i h = absurd (not-suc-le-zero h)
-getD-front (z ∷ x) y zero h = refl
-getD-front (z ∷ x) y (suc i) h = getD-front x y i (le-of-suc-le-suc h)
-
 -- a byte of the place
 pub getD-within : (a i : ℕ) (x m : List ℕ) → i < length x → a ≤ length m → getD (splice a x m) (a + i) 0 ≡ getD x i 0
 unfolding splice
-getD-within zero i x m h k = rw zero-add (getD-front x (drop (length x) m) i h)
+getD-within zero i x m h k = rw zero-add (List·getD-append x (drop (length x) m) 0 i h)
 getD-within (suc a) i x [] h k = absurd (not-suc-le-zero k)
 getD-within (suc a) i x (y ∷ m) h k = rw suc-add (getD-within a i x m h (le-of-suc-le-suc k))
 
@@ -124,6 +129,8 @@ set-splice zero i v x m h k = rw (zero-add, length-set) (set-append-left x (drop
 set-splice (suc a) i v x [] h k = absurd (not-suc-le-zero k)
 set-splice (suc a) i v x (y ∷ m) h k = rw suc-add (ap (λ (l : List ℕ). y ∷ l) (set-splice a i v x m h (le-of-suc-le-suc k)))
 
+-- ---- parts of parts, and stores on stores
+
 pub whole : (n : ℕ) (x : List ℕ) → length x ≡ n → part 0 n x ≡ x
 unfolding part
 whole n x e = take-all n x (omega arith)
@@ -131,8 +138,6 @@ whole n x e = take-all n x (omega arith)
 pub getD-part : (a n i : ℕ) (m : List ℕ) → i < n → getD (part a n m) i 0 ≡ getD m (a + i) 0
 unfolding part
 getD-part a n i m h = rw (getD-take, getD-drop)
-
--- ---- parts of parts, and stores on stores
 
 part-take : (b k n : ℕ) (l : List ℕ) → b + k ≤ n → take k (drop b (take n l)) ≡ take k (drop b l)
 part-take zero k n l h = take-take k n l (rw zero-add at h)
@@ -158,12 +163,6 @@ pub splice-part : (a n : ℕ) (m : List ℕ) → a + n ≤ length m → splice a
 unfolding part splice
 splice-part a n m h = rw (length-part a n m h, take-append-drop, take-append-drop)
 
-pub splice-splice : (a : ℕ) (x y m : List ℕ) → length x ≡ length y → a ≤ length m → splice a x (splice a y m) ≡ splice a x m
-unfolding splice
-splice-splice zero x y m e h = rw (e, drop-append-seam)
-splice-splice (suc a) x y [] e h = absurd (not-suc-le-zero h)
-splice-splice (suc a) x y (z ∷ m) e h = ap (λ (l : List ℕ). z ∷ l) (splice-splice a x y m e (le-of-suc-le-suc h))
-
 -- neighbours join
 pub splice-next : (a : ℕ) (x y m : List ℕ) → a ≤ length m → splice (a + length x) y (splice a x m) ≡ splice a (x ++ y) m
 unfolding splice
@@ -186,22 +185,6 @@ splice-within zero n b x m h k =
     rw (zero-add, length-splice b x (take n m) hb, l, ← splice-append b x (take n m) (drop n m) hb, take-append-drop)
 splice-within (suc a) n b x [] h k = absurd (omega arith)
 splice-within (suc a) n b x (z ∷ m) h k = rw suc-add (ap (λ (l : List ℕ). z ∷ l) (splice-within a n b x m h (omega arith)))
-
-pub splice-append-add : (p r y : List ℕ) (c : ℕ) → splice (length p + c) y (p ++ r) ≡ p ++ splice c y r
-unfolding splice
-splice-append-add [] r y c = rw zero-add
-splice-append-add (z ∷ p) r y c = rw suc-add (ap (λ (l : List ℕ). z ∷ l) (splice-append-add p r y c))
-
--- stores at two places, in either order
-pub splice-comm : (a b : ℕ) (x y m : List ℕ) → a + length x ≤ b → b ≤ length m → splice a x (splice b y m) ≡ splice b y (splice a x m)
-unfolding splice
-splice-comm zero b x y m h k =
-    let e : b ≡ length x + (b - length x) = omega arith in
-    rw e (ap (λ (l : List ℕ). x ++ l) (drop-splice (length x) (b - length x) y m (omega arith))
-    ∙ sym (splice-append-add x (drop (length x) m) y (b - length x)))
-splice-comm (suc a) zero x y m h k = absurd (omega arith)
-splice-comm (suc a) (suc b) x y [] h k = absurd (not-suc-le-zero k)
-splice-comm (suc a) (suc b) x y (z ∷ m) h k = ap (λ (l : List ℕ). z ∷ l) (splice-comm a b x y m (omega arith) (omega arith))
 
 -- ---- bytes one by one
 

@@ -14,7 +14,6 @@ use Rattle.memory.proofs.Parts.{row-fits, length-part}
 use Rattle.rows.specs.Rows.{addScaled}
 use Rattle.rows.specs.Combination.{dot, coefficient, tabulate, combination, combined, rowAt}
 use Rattle.rows.proofs.Sums.{length-addScaled, getD-addScaled}
-use Rattle.rows.proofs.Dot.{dot-same}
 
 pub length-combined : (row : ℕ → List ℕ) (c : ℕ → ℕ) (n : ℕ) (d : List ℕ) → length (combined c row n d) ≡ length d
 unfolding combined
@@ -80,12 +79,3 @@ combined-sums size row c n long cs xs same =
     (λ i h.
     let g : i < size = omega arith in
     getD-alone row size c n long i g ∙ same i g ∙ sym (getD-combination size cs xs i g))
-
--- rows that are the symbols xs in their order
-pub combined-combination : (size : ℕ) (row : ℕ → List ℕ) (cs : List ℕ) (xs : List (List ℕ))
-    → ((k : ℕ) → k < length xs → size ≤ length (row k)) → ((k : ℕ) → k < length xs → row k ≡ getD xs k [])
-    → combined (coefficient cs) row (length xs) (replicate size 0) ≡ combination size cs xs
-combined-combination size row cs xs long same =
-    combined-sums size row (coefficient cs) (length xs) long cs xs
-    (λ i h. dot-same (coefficient cs) (λ k. getD (row k) i 0) (coefficient cs) (λ k. getD (getD xs k []) i 0) (length xs) (λ k l. refl)
-    (λ k l. ap (λ (x : List ℕ). getD x i 0) (same k l)))

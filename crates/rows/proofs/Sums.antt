@@ -4,19 +4,12 @@ use Prim.Native.Nat.{ℕ, zero, suc, _<_}
 use native.Mathlib.Nat.{le-of-suc-le-suc, not-suc-le-zero}
 use mathlib.Core.List.{List, [], _∷_}
 use lib.Bits.{bitXor, xor-zero-r}
-use lib.ListN.{length, take, drop, getD, replicate, length-map}
+use lib.ListN.{length, getD, replicate, length-map}
 use Rattle.field.specs.Gf256.{product}
 use Rattle.field.proofs.Laws.{product-zero, product-zero-right, product-one, product-assoc}
 use Rattle.memory.specs.Number.{Bytes}
-use Rattle.memory.specs.Part.{part}
 use Rattle.memory.proofs.Parts.{cons-eq}
 use Rattle.rows.specs.Rows.{addScaled, scaled}
-
--- no partner, no change
-pub addScaled-none : (c : ℕ) (d : List ℕ) → addScaled c d [] ≡ d
-unfolding addScaled
-addScaled-none c [] = refl
-addScaled-none c (x ∷ d) = refl
 
 module _ (c : ℕ) where
   pub length-addScaled : (d s : List ℕ) → length (addScaled c d s) ≡ length d
@@ -42,41 +35,6 @@ module _ (c : ℕ) where
   getD-scaled [] i h = absurd (not-suc-le-zero h)
   getD-scaled (x ∷ row) zero h = refl
   getD-scaled (x ∷ row) (suc i) h = getD-scaled row i (le-of-suc-le-suc h)
-
-  -- pieces of a sum and of a multiple are those of the pieces
-  pub take-addScaled : (n : ℕ) (d s : List ℕ) → take n (addScaled c d s) ≡ addScaled c (take n d) (take n s)
-  unfolding addScaled
-  take-addScaled zero d s = refl
-  take-addScaled (suc n) [] s = refl
-  take-addScaled (suc n) (x ∷ d) [] = refl
-  take-addScaled (suc n) (x ∷ d) (y ∷ s) = cons-eq refl (take-addScaled n d s)
-
-  pub drop-addScaled : (n : ℕ) (d s : List ℕ) → drop n (addScaled c d s) ≡ addScaled c (drop n d) (drop n s)
-  unfolding addScaled
-  drop-addScaled zero d s = refl
-  drop-addScaled (suc n) [] s = refl
-  drop-addScaled (suc n) (x ∷ d) [] = sym (addScaled-none c (drop n d))
-  drop-addScaled (suc n) (x ∷ d) (y ∷ s) = drop-addScaled n d s
-
-  pub part-addScaled : (a n : ℕ) (d s : List ℕ) → part a n (addScaled c d s) ≡ addScaled c (part a n d) (part a n s)
-  unfolding part
-  part-addScaled a n d s = rw (drop-addScaled, take-addScaled)
-
-  pub take-scaled : (n : ℕ) (row : List ℕ) → take n (scaled c row) ≡ scaled c (take n row)
-  unfolding scaled
-  take-scaled zero row = refl
-  take-scaled (suc n) [] = refl
-  take-scaled (suc n) (x ∷ row) = cons-eq refl (take-scaled n row)
-
-  pub drop-scaled : (n : ℕ) (row : List ℕ) → drop n (scaled c row) ≡ scaled c (drop n row)
-  unfolding scaled
-  drop-scaled zero row = refl
-  drop-scaled (suc n) [] = refl
-  drop-scaled (suc n) (x ∷ row) = drop-scaled n row
-
-  pub part-scaled : (a n : ℕ) (row : List ℕ) → part a n (scaled c row) ≡ scaled c (part a n row)
-  unfolding part
-  part-scaled a n row = rw (drop-scaled, take-scaled)
 
 -- nothing is added
 pub addScaled-zero : (d s : List ℕ) → addScaled 0 d s ≡ d
