@@ -14,27 +14,12 @@ Inv-loop dst₀ v i₀ i-end dst i = Turned dst₀ (replicate (length dst₀) v)
 abbrev μ-loop : tie.MeasureT-loop
 μ-loop dst₀ v i₀ i-end dst i = i-end - i
 
-loop-holds : tie.Need-loop-holds Inv-loop μ-loop
-loop-holds c = search needs
-
-slice-write-dst : tie.Need-slice-write-dst Inv-loop μ-loop
-slice-write-dst c = search needs
-
-add-i : tie.Need-add-i Inv-loop μ-loop
-add-i c = search needs
-
-loop-less : tie.Need-loop-less Inv-loop μ-loop
-loop-less c = search needs
-
 loop-again : tie.Need-loop-again Inv-loop μ-loop
 loop-again c =
     let a = c .before .before .args in
     let n = length (a .dst .now) in
     let t = c .before .loop in
     turned-more (length-replicate n (a .v)) (omega arith) (t .inv) (sym (getD-replicate n (t .i) (a .v) 0 (omega arith)))
-
-same-length : tie.Need-same-length Inv-loop μ-loop
-same-length c = search needs
 
 returns : tie.Need-returns Inv-loop μ-loop
 returns c = turned-all (length-replicate _ _) (omega arith) (c .before .loop .inv)
@@ -45,10 +30,10 @@ fill-spec =
     (tie.spec
     Inv-loop
     μ-loop
-    loop-holds
-    slice-write-dst
-    add-i
-    loop-less
+    (λ c. search needs)
+    (λ c. search needs)
+    (λ c. search needs)
+    (λ c. search needs)
     loop-again
-    same-length
+    (λ c. search needs)
     returns)

@@ -8,24 +8,6 @@ use borrow.Author.Needs.{needs}
 use Rattle.memory.proofs.fill_part.Statement.{statement}
 use Rattle.memory.proofs.fill_part.Tie as tie
 
-add-fill : tie.Need-add-fill
-add-fill c = search needs
-
-sub-fill : tie.Need-sub-fill
-sub-fill c = search needs
-
-part-fill-start : tie.Need-part-fill-start
-part-fill-start c = search needs
-
-part-fill-end : tie.Need-part-fill-end
-part-fill-end c = search needs
-
-fill-requires : tie.Need-fill-requires
-fill-requires c κs = search needs
-
-same-length : tie.Need-same-length
-same-length c = search needs
-
 returns : tie.Need-returns
 returns c =
     let a = c .before .before .before .before .before .args in
@@ -35,4 +17,4 @@ returns c =
 pub fill-part-spec : {M : Type 1} → statement M
 fill-part-spec =
     tie.close
-    (tie.spec add-fill sub-fill part-fill-start part-fill-end fill-requires same-length returns)
+    (tie.spec (λ c. search needs) (λ c. search needs) (λ c. search needs) (λ c. search needs) (λ c κs. search needs) (λ c. search needs) returns)

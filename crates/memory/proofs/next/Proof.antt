@@ -7,12 +7,6 @@ use borrow.Author.Needs.{needs}
 use Rattle.memory.proofs.next.Statement.{statement}
 use Rattle.memory.proofs.next.Tie as tie
 
-add-if1 : tie.Need-add-if1
-add-if1 c = search needs
-
-add-result : tie.Need-add-result
-add-result c = search needs
-
 returns : tie.Need-returns
 returns c = let a = c .before .args in (sym (ap (λ k. k % a .w) (c .if1 .taken) ∙ mod-self (a .w)), omega arith)
 
@@ -20,4 +14,4 @@ returns-2 : tie.Need-returns-2
 returns-2 c = let a = c .before .args in (sym (mod-eq-of-lt (omega arith)), omega arith)
 
 pub next-spec : {M : Type 1} → statement M
-next-spec = tie.close (tie.spec add-if1 add-result returns returns-2)
+next-spec = tie.close (tie.spec (λ c. search needs) (λ c. search needs) returns returns-2)

@@ -10,23 +10,8 @@ use borrow.Author.Needs.{needs}
 use Rattle.memory.proofs.store_u16.Statement.{statement}
 use Rattle.memory.proofs.store_u16.Tie as tie
 
-cast-mem : tie.Need-cast-mem
-cast-mem c = search needs
-
-slice-write-mem : tie.Need-slice-write-mem
-slice-write-mem c = search needs
-
-cast-mem-2 : tie.Need-cast-mem-2
-cast-mem-2 c = search needs
-
-add-mem : tie.Need-add-mem
-add-mem c = search needs
-
 slice-write-mem-2 : tie.Need-slice-write-mem-2
 slice-write-mem-2 c = simp length-set (omega arith)
-
-same-length : tie.Need-same-length
-same-length c = search needs
 
 returns : tie.Need-returns
 returns c =
@@ -38,4 +23,4 @@ returns c =
 pub store-u16-spec : {M : Type 1} → statement M
 store-u16-spec =
     tie.close
-    (tie.spec cast-mem slice-write-mem cast-mem-2 add-mem slice-write-mem-2 same-length returns)
+    (tie.spec (λ c. search needs) (λ c. search needs) (λ c. search needs) (λ c. search needs) slice-write-mem-2 (λ c. search needs) returns)

@@ -8,24 +8,6 @@ use borrow.Author.Needs.{needs}
 use Rattle.memory.proofs.store_u32.Statement.{statement}
 use Rattle.memory.proofs.store_u32.Tie as tie
 
-cast-store-u16 : tie.Need-cast-store-u16
-cast-store-u16 c = search needs
-
-store-u16-requires : tie.Need-store-u16-requires
-store-u16-requires c κs = search needs
-
-add-store-u16 : tie.Need-add-store-u16
-add-store-u16 c = search needs
-
-cast-store-u16-2 : tie.Need-cast-store-u16-2
-cast-store-u16-2 c = search needs
-
-store-u16-requires-2 : tie.Need-store-u16-requires-2
-store-u16-requires-2 c κs = search needs
-
-same-length : tie.Need-same-length
-same-length c = search needs
-
 returns : tie.Need-returns
 returns c =
     let a = c .before .before .before .before .before .before .before .before .before .args in
@@ -40,10 +22,10 @@ pub store-u32-spec : {M : Type 1} → statement M
 store-u32-spec =
     tie.close
     (tie.spec
-    cast-store-u16
-    store-u16-requires
-    add-store-u16
-    cast-store-u16-2
-    store-u16-requires-2
-    same-length
+    (λ c. search needs)
+    (λ c κs. search needs)
+    (λ c. search needs)
+    (λ c. search needs)
+    (λ c κs. search needs)
+    (λ c. search needs)
     returns)

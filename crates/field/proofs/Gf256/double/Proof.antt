@@ -5,17 +5,11 @@ use borrow.Author.Needs.{needs}
 use Rattle.field.proofs.Gf256.double.Statement.{statement}
 use Rattle.field.proofs.Gf256.double.Tie as tie
 
-mul-t3 : tie.Need-mul-t3
-mul-t3 c = search needs
-
 returns : tie.Need-returns
 returns c = twice-low (c .before .before .before .args .self .0) (omega arith)
-
-mul-t5 : tie.Need-mul-t5
-mul-t5 c = search needs
 
 returns-2 : tie.Need-returns-2
 returns-2 c = twice-high (c .before .before .before .args .self .0) (omega arith) (omega arith)
 
 pub double-spec : {M : Type 1} → statement M
-double-spec = tie.close (tie.spec mul-t3 returns mul-t5 returns-2)
+double-spec = tie.close (tie.spec (λ c. search needs) returns (λ c. search needs) returns-2)

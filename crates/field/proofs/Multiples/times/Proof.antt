@@ -9,30 +9,6 @@ use borrow.Author.Needs.{needs}
 use Rattle.field.proofs.Multiples.times.Statement.{statement}
 use Rattle.field.proofs.Multiples.times.Tie as tie
 
-if-odd-requires : tie.Need-if-odd-requires
-if-odd-requires c κs = search needs
-
-if-odd-requires-2 : tie.Need-if-odd-requires-2
-if-odd-requires-2 c κs = search needs
-
-if-odd-requires-3 : tie.Need-if-odd-requires-3
-if-odd-requires-3 c κs = search needs
-
-if-odd-requires-4 : tie.Need-if-odd-requires-4
-if-odd-requires-4 c κs = search needs
-
-if-odd-requires-5 : tie.Need-if-odd-requires-5
-if-odd-requires-5 c κs = search needs
-
-if-odd-requires-6 : tie.Need-if-odd-requires-6
-if-odd-requires-6 c κs = search needs
-
-if-odd-requires-7 : tie.Need-if-odd-requires-7
-if-odd-requires-7 c κs = search needs
-
-if-odd-requires-8 : tie.Need-if-odd-requires-8
-if-odd-requires-8 c κs = search needs
-
 returns : tie.Need-returns
 unfolding chosen
 returns c =
@@ -45,12 +21,12 @@ pub times-spec : {M : Type 1} → statement M
 times-spec =
     tie.close
     (tie.spec
-    if-odd-requires
-    if-odd-requires-2
-    if-odd-requires-3
-    if-odd-requires-4
-    if-odd-requires-5
-    if-odd-requires-6
-    if-odd-requires-7
-    if-odd-requires-8
+    (λ c κs. search needs)
+    (λ c κs. search needs)
+    (λ c κs. search needs)
+    (λ c κs. search needs)
+    (λ c κs. search needs)
+    (λ c κs. search needs)
+    (λ c κs. search needs)
+    (λ c κs. search needs)
     returns)

@@ -9,17 +9,8 @@ use Rattle.field.proofs.tables.inverse.Tie as tie
 returns : tie.Need-returns
 returns c = sym (ap inverse (c .if1 .taken) ∙ inverse-zero)
 
-logarithm-requires : tie.Need-logarithm-requires
-logarithm-requires c κs = search needs
-
-sub-power : tie.Need-sub-power
-sub-power c = search needs
-
-power-requires : tie.Need-power-requires
-power-requires c κs = search needs
-
 returns-2 : tie.Need-returns-2
 returns-2 c = c .power .ensures ∙ inverse-by-logarithm _ _ (c .before .logarithm .ensures)
 
 pub inverse-spec : {M : Type 1} → statement M
-inverse-spec = tie.close (tie.spec returns logarithm-requires sub-power power-requires returns-2)
+inverse-spec = tie.close (tie.spec returns (λ c κs. search needs) (λ c. search needs) (λ c κs. search needs) returns-2)

@@ -10,12 +10,6 @@ use Rattle.field.proofs.Laws.{logarithms-at}
 use Rattle.field.proofs.tables.logarithm.Statement.{statement}
 use Rattle.field.proofs.tables.logarithm.Tie as tie
 
-sub-result : tie.Need-sub-result
-sub-result c = search needs
-
-element-copy-out-result : tie.Need-element-copy-out-result
-element-copy-out-result c = search needs
-
 returns : tie.Need-returns
 returns c =
     let s = c .before in
@@ -26,4 +20,4 @@ cast-result : tie.Need-cast-result
 cast-result c = omega (arith, returns c)
 
 pub logarithm-spec : {M : Type 1} → statement M
-logarithm-spec = tie.close (tie.spec sub-result element-copy-out-result cast-result returns)
+logarithm-spec = tie.close (tie.spec (λ c. search needs) (λ c. search needs) cast-result returns)

@@ -9,12 +9,6 @@ use Rattle.field.proofs.Laws.{doublings-at, power-reduced}
 use Rattle.field.proofs.tables.power.Statement.{statement}
 use Rattle.field.proofs.tables.power.Tie as tie
 
-reduced-requires : tie.Need-reduced-requires
-reduced-requires c κs = search needs
-
-element-copy-out-result : tie.Need-element-copy-out-result
-element-copy-out-result c = search needs
-
 returns : tie.Need-returns
 returns c =
     let s = c .before .before in
@@ -22,4 +16,4 @@ returns c =
     ap₂ (λ (l : List ℕ) (k : ℕ). getD l k 0) (s .pre .0) (c .before .reduced .ensures) ∙ doublings-at 255 (e % 255) (omega arith) ∙ power-reduced e
 
 pub power-spec : {M : Type 1} → statement M
-power-spec = tie.close (tie.spec reduced-requires element-copy-out-result returns)
+power-spec = tie.close (tie.spec (λ c κs. search needs) (λ c. search needs) returns)

@@ -19,20 +19,11 @@ zero-right a b p = zero-left b a p ∙ product-comm b a
 returns : tie.Need-returns
 returns c = ⊎-elim (λ w. zero-left _ _ (w .taken)) (λ w. zero-right _ _ (eqb-true _ _ (w .1 .taken))) (c .if1 .came)
 
-logarithm-requires : tie.Need-logarithm-requires
-logarithm-requires c κs = search needs
-
 logarithm-requires-2 : tie.Need-logarithm-requires-2
 logarithm-requires-2 c κs = (search needs, omega (arith, eqb-false))
-
-add-power : tie.Need-add-power
-add-power c = search needs
-
-power-requires : tie.Need-power-requires
-power-requires c κs = search needs
 
 returns-2 : tie.Need-returns-2
 returns-2 c = c .power .ensures ∙ product-by-logarithms _ _ _ _ (c .before .before .logarithm .ensures) (c .before .logarithm2 .ensures)
 
 pub product-spec : {M : Type 1} → statement M
-product-spec = tie.close (tie.spec returns logarithm-requires logarithm-requires-2 add-power power-requires returns-2)
+product-spec = tie.close (tie.spec returns (λ c κs. search needs) logarithm-requires-2 (λ c. search needs) (λ c κs. search needs) returns-2)

@@ -22,26 +22,11 @@ loop-holds : tie.Need-loop-holds Inv-loop μ-loop
 unfolding combined
 loop-holds c = search needs
 
-shared-slice-read-t14 : tie.Need-shared-slice-read-t14 Inv-loop μ-loop
-shared-slice-read-t14 c = search needs
-
-cast-t15 : tie.Need-cast-t15 Inv-loop μ-loop
-cast-t15 c = search needs
-
-shr-t16 : tie.Need-shr-t16 Inv-loop μ-loop
-shr-t16 c = search needs
-
 add-row-requires : tie.Need-add-row-requires Inv-loop μ-loop
 add-row-requires c κs =
     let a = c .before .before .before .before .before .before .before .args in
     let fits = row-fits (length (a .cs .now)) (a .s) (c .before .before .before .loop .k) (omega arith) in
     (search needs, omega arith)
-
-add-k : tie.Need-add-k Inv-loop μ-loop
-add-k c = search needs
-
-loop-less : tie.Need-loop-less Inv-loop μ-loop
-loop-less c = search needs
 
 loop-again : tie.Need-loop-again Inv-loop μ-loop
 unfolding digit
@@ -53,9 +38,6 @@ loop-again c =
       row-added (digit (a .cs .now) (a .e)) (a .mem .now) (a .a) (a .s) (t .k) (a .dst .now) (t .dst) _ (t .inv .1) (t .inv .2) (row .ensures),
       search needs,
     )
-
-same-length : tie.Need-same-length Inv-loop μ-loop
-same-length c = search needs
 
 returns : tie.Need-returns Inv-loop μ-loop
 returns c =
@@ -69,12 +51,12 @@ add-digit-spec =
     Inv-loop
     μ-loop
     loop-holds
-    shared-slice-read-t14
-    cast-t15
-    shr-t16
+    (λ c. search needs)
+    (λ c. search needs)
+    (λ c. search needs)
     add-row-requires
-    add-k
-    loop-less
+    (λ c. search needs)
+    (λ c. search needs)
     loop-again
-    same-length
+    (λ c. search needs)
     returns)

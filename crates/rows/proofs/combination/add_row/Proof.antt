@@ -16,30 +16,6 @@ returns c =
     let e : a .c .0 ≡ 0 = omega arith in
     rw e (sym (addScaled-zero (a .dst .now) (rowAt (a .mem .now) (a .a) (a .s) (length (a .dst .now)) (a .k))))
 
-mul-at : tie.Need-mul-at
-mul-at c = search needs
-
-add-at : tie.Need-add-at
-add-at c = search needs
-
-add-add-scaled : tie.Need-add-add-scaled
-add-add-scaled c = search needs
-
-sub-add-scaled : tie.Need-sub-add-scaled
-sub-add-scaled c = search needs
-
-part-add-scaled-start : tie.Need-part-add-scaled-start
-part-add-scaled-start c = search needs
-
-part-add-scaled-end : tie.Need-part-add-scaled-end
-part-add-scaled-end c = search needs
-
-add-scaled-requires : tie.Need-add-scaled-requires
-add-scaled-requires c κs = search needs
-
-same-length : tie.Need-same-length
-same-length c = search needs
-
 returns-2 : tie.Need-returns-2
 unfolding rowAt
 returns-2 c =
@@ -51,12 +27,12 @@ add-row-spec =
     tie.close
     (tie.spec
     returns
-    mul-at
-    add-at
-    add-add-scaled
-    sub-add-scaled
-    part-add-scaled-start
-    part-add-scaled-end
-    add-scaled-requires
-    same-length
+    (λ c. search needs)
+    (λ c. search needs)
+    (λ c. search needs)
+    (λ c. search needs)
+    (λ c. search needs)
+    (λ c. search needs)
+    (λ c κs. search needs)
+    (λ c. search needs)
     returns-2)
