@@ -26,7 +26,7 @@ use Rattle.admission.specs.declared.packet.Location.{Location}
 use Rattle.admission.specs.declared.packet.Gathered.{Gathered}
 use Rattle.admission.specs.declared.packet.Gathered.the-variants.{All, Contradiction}
 use Rattle.history.specs.Symbol.{symbolOf}
-use Rattle.holding.specs.Contained.{Contained}
+use Rattle.memory.specs.Contained.{Contained}
 use Rattle.admission.specs.Steps.{gatheredBy, Comes, WorksOn, Spells, firsts, Lies, EquationAdmitted, Admits, Gathers}
 
 -- ---- Memories that keep their length and what lies past a size

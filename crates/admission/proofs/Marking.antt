@@ -30,7 +30,7 @@ use Rattle.admission.specs.declared.packet.Location.{Location}
 use Rattle.history.specs.History.{memorySize}
 use Rattle.history.specs.Model.{Joined, State}
 use Rattle.holding.specs.Header.{headerWith, headerIn}
-use Rattle.holding.specs.Contained.{Contained}
+use Rattle.memory.specs.Contained.{Contained}
 use Rattle.holding.specs.Layout.{headerFrom, headerOf, Stands, Rows, Holds, MarksFrom}
 use Rattle.admission.specs.Joining.{Based}
 use Rattle.admission.specs.Steps.{SameMarks, LocatedBy, Finished, Accepted}

@@ -30,7 +30,7 @@ use Rattle.admission.specs.declared.packet.Gathered.the-variants.{All, C
 use Rattle.history.specs.Symbol.{Symbol}
 use Rattle.history.specs.History.{memorySize}
 use Rattle.history.specs.Model.{Joined}
-use Rattle.holding.specs.Contained.{Contained}
+use Rattle.memory.specs.Contained.{Contained}
 use Rattle.holding.specs.Layout.{headerFrom, Stands, Holds, MarksFrom}
 
 -- ---- The packet's place

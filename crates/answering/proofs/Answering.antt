@@ -12,7 +12,8 @@ use Rattle.receiver.specs.declared.PacketAnswer.{PacketAnswer}
 use Rattle.receiver.specs.declared.PacketAnswer.the-variants.{Accepted, NotAccepted}
 use Rattle.history.specs.History.{Call, source-call, repair-call}
 use Rattle.history.specs.Model.{State, Outcome, refused, done, saidOf, stateAfter, receiving}
-use Rattle.receiver.specs.Promises.{said, answerOf, Draws, Follows, PacketAnswered}
+use Rattle.wire.specs.Answers.{said}
+use Rattle.receiver.specs.Promises.{answerOf, Draws, Follows, PacketAnswered}
 use Rattle.holding.specs.Layout.{Holds}
 use Rattle.receiver.specs.Layout.{receiverLayout}
 use Rattle.lines.specs.declared.Spoken.{Spoken}

@@ -12,12 +12,13 @@ use Rattle.wire.specs.declared.Setting.{Setting}
 use Rattle.wire.specs.declared.Checked.{Checked}
 use Rattle.wire.specs.declared.Checked.the-variants.{Good, Bad}
 use Rattle.wire.specs.Settings.{settingOf, checkedOf}
-use Rattle.receiver.specs.declared.Answer.{Answer}
-use Rattle.receiver.specs.declared.Answer.the-variants.{Done, Refused}
+use Rattle.wire.specs.declared.Answer.{Answer}
+use Rattle.wire.specs.declared.Answer.the-variants.{Done, Refused}
 use Rattle.wire.specs.declared.Refusal.{Refusal}
-use Rattle.history.specs.History.{memorySize, workingSize, value, refusal}
+use Rattle.wire.specs.Answers.{value, refusal, said}
+use Rattle.history.specs.History.{memorySize, workingSize}
 use Rattle.history.specs.Model.{opened}
-use Rattle.receiver.specs.Promises.{said, opening}
+use Rattle.receiver.specs.Promises.{opening}
 use Rattle.holding.specs.Layout.{Holds}
 use Rattle.lines.specs.declared.First.{First}
 use Rattle.lines.specs.declared.First.the-variants as first

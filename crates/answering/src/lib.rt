@@ -2,7 +2,8 @@
 ghost use mathlib.Core.Path.{_≡_};
 ghost use Prim.Native.Nat.{_≤_};
 ghost use lib.ListN.{length};
-ghost use Rattle.receiver.specs.Promises.{said, answerOf};
+ghost use Rattle.wire.specs.Answers.{said};
+ghost use Rattle.receiver.specs.Promises.{answerOf};
 ghost use Rattle.records.specs.Replay.{recordOf};
 ghost use Rattle.answering.specs.Inner.{KeptMore, OpenedBy, Answered};
 use lines::First;

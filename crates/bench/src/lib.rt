@@ -7,10 +7,10 @@ ghost use Rattle.table.specs.Window.{Fits};
 use field::Gf256;
 use field::tables;
 use receiver::PacketAnswer;
-use sender::Answer;
 use sender::RepairAnswer;
 use starts::Handed;
 use table::Shape;
+use wire::Answer;
 use wire::Esi;
 use wire::RepairKey;
 
@@ -96,7 +96,7 @@ pub extern "C" fn bench_add_combination(dst: &mut [u8], cs: &[u8], mem: &[u8]) {
     rows::combination::add_combination(dst, cs, mem, 0, s);
 }
 
-// The number that a call of the sender answers; where it is refused, one that no call answers.
+// The number that a call answers; where it is refused, one that no call answers.
 fn answered(answer: Answer) -> usize {
     match answer {
         Answer::Done(n) => n,
@@ -141,14 +141,6 @@ pub extern "C" fn bench_make_repair(
     }
 }
 
-// The same of the receiver.
-fn received(answer: receiver::Answer) -> usize {
-    match answer {
-        receiver::Answer::Done(n) => n,
-        receiver::Answer::Refused(_r) => 1000000,
-    }
-}
-
 fn packet_received(answer: PacketAnswer) -> usize {
     match answer {
         PacketAnswer::Accepted(n, draws) => with_draws(n, draws),
@@ -163,7 +155,7 @@ pub extern "C" fn bench_receiver_open(
     size: usize,
     width: usize,
 ) -> usize {
-    received(receiver::open(mem, scheme, size, width))
+    answered(receiver::open(mem, scheme, size, width))
 }
 
 #[no_mangle]
@@ -183,7 +175,7 @@ pub extern "C" fn bench_receive_repair(mem: &mut [u8], work: &mut [u8], packet: 
 
 #[no_mangle]
 pub extern "C" fn bench_symbol(mem: &[u8], esi: u32) -> usize {
-    received(receiver::symbol(mem, Esi(esi)))
+    answered(receiver::symbol(mem, Esi(esi)))
 }
 
 // The length of the ADU that is handed out.

@@ -6,9 +6,10 @@ ghost use Rattle.latency.specs.Promises.{WindowAnswered};
 ghost use Rattle.sender.specs.State as sender;
 ghost use Rattle.sender.specs.Promises.{Opens, Adds, RepairMade};
 ghost use Rattle.history.specs.History.{memorySize, workingSize, source-call, repair-call};
-ghost use Rattle.receiver.specs.Promises.{Opened, PacketAnswered, SymbolAnswered, PlaceAnswered, AduAnswered, said, handedSaid};
+ghost use Rattle.wire.specs.Answers.{said};
+ghost use Rattle.receiver.specs.Promises.{Opened, PacketAnswered, SymbolAnswered, PlaceAnswered, AduAnswered, handedSaid};
 ghost use Rattle.receiver.specs.Layout.{receiverLayout};
-ghost use Rattle.coding.specs.Coding.{coded, senderSaid, packetSaid, repairSaid, windowSaid, remainderAfter, Codes, asked};
+ghost use Rattle.coding.specs.Coding.{coded, packetSaid, repairSaid, windowSaid, remainderAfter, Codes, asked};
 use wire::Checked;
 use wire::Esi;
 use wire::Refusal;
@@ -57,14 +58,14 @@ pub extern "C" fn rlc_dw_max_size(budget: u64, bitrate: u64, size: u32, remainde
 
 #[no_mangle]
 pub extern "C" fn rlc_sender_open(memory: &mut [u8], scheme: u32, size: u32, width: u32) -> i64
-    ensures { λ r. ⌜ Codes senderSaid (λ a. Opens scheme size width (now (memory .entry)) a (now (memory .exit))) r ⌝ }
+    ensures { λ r. ⌜ Codes said (λ a. Opens scheme size width (now (memory .entry)) a (now (memory .exit))) r ⌝ }
 {
     coding::coded_sender(sender::open(memory, scheme as usize, size as usize, width as usize))
 }
 
 #[no_mangle]
 pub extern "C" fn rlc_sender_add_adu(memory: &mut [u8], flow: u8, adu: &[u8], out: &mut [u8]) -> i64
-    ensures { λ r. ⌜ Codes senderSaid
+    ensures { λ r. ⌜ Codes said
         (λ a. Adds flow (now (adu .entry)) (now (memory .entry)) (now (out .entry)) a (now (memory .exit)) (now (out .exit))) r ⌝ }
 {
     coding::coded_sender(sender::add_adu(memory, flow, adu, out))

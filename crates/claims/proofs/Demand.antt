@@ -13,13 +13,14 @@ use Rattle.wire.specs.Settings.{settingOf, Valid}
 use Rattle.wire.proofs.Settings.{setting-names}
 use Rattle.decoder.specs.Model.{known}
 use Rattle.decoder.specs.Receiver as decoder
-use Rattle.receiver.specs.declared.Answer.{Answer}
+use Rattle.wire.specs.declared.Answer.{Answer}
 use Rattle.history.specs.Symbol.{Symbol, bytesOf}
 use Rattle.history.specs.History.{IsValue, Located, Filling, All, Known, located, reading, Log, fresh, OfBytes, esiOf}
-use Rattle.history.specs.History.{value, refusal, baseOf, readAfter, logged, Judged}
+use Rattle.wire.specs.Answers.{value, refusal, said}
+use Rattle.history.specs.History.{baseOf, readAfter, logged, Judged}
 use Rattle.history.specs.Model.{Joined, State, opened, foundBy, Outcome, refused, done, saidOf, stateAfter, responds, answering, receiving}
 use Rattle.history.specs.Model.{Finding, shows, hides, shown, finding}
-use Rattle.receiver.specs.Promises.{Layout, said, opening, Opened, Follows, Received, Finds, SymbolAnswered, Shows, PartShown}
+use Rattle.receiver.specs.Promises.{Layout, opening, Opened, Follows, Received, Finds, SymbolAnswered, Shows, PartShown}
 use Rattle.history.proofs.Answers.{Tracks, TracksFrom, Passes, baseIn, base-found, judged, known-exactly, known-value, tracks-consistent, fresh-tracks}
 use Rattle.history.proofs.Counting.{judged-once}
 use Rattle.history.proofs.Readings.{reading-passes}

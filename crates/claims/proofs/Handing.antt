@@ -17,10 +17,11 @@ use Rattle.starts.specs.declared.Handed.the-variants.{Adu, Withheld}
 use Rattle.starts.specs.Adu.{View, Handing, hands, withholds, handing, HandedAs}
 use Rattle.starts.specs.Starts.{Starts, nowhere, seen}
 use Rattle.starts.proofs.Handing.{flow-of, adu-of, withheld, handing-exactly}
-use Rattle.receiver.specs.declared.Answer.{Answer}
-use Rattle.history.specs.History.{Located, reading, baseFor, Log, fresh, baseOf, OfBytes, esiOf, logged, value, Start, symbolsAt}
+use Rattle.wire.specs.declared.Answer.{Answer}
+use Rattle.wire.specs.Answers.{value, said}
+use Rattle.history.specs.History.{Located, reading, baseFor, Log, fresh, baseOf, OfBytes, esiOf, logged, Start, symbolsAt}
 use Rattle.history.specs.Model.{Joined, State, opened, foundBy, stateAfter, responds, answering, marking, aduAt}
-use Rattle.receiver.specs.Promises.{Layout, said, Opened, Received, AduAnswered}
+use Rattle.receiver.specs.Promises.{Layout, Opened, Received, AduAnswered}
 use Rattle.history.proofs.Answers.{Tracks, TracksFrom, baseIn, fresh-tracks}
 use Rattle.history.proofs.Sides.{adu-inside, adu-past, adu-behind}
 use Rattle.history.proofs.Starting.{Sees, shown-whole, unseen, shows-held, held-shows, shows-inside, seen-outside, AreStarts, MarksTrack}

@@ -18,10 +18,11 @@ use Rattle.starts.specs.declared.Handed.the-variants.{Adu}
 use Rattle.starts.proofs.Chaining.{symbols-some}
 use Rattle.history.specs.Symbol.{bytesOf, symbolOf}
 use Rattle.history.specs.History.{Filling, symbolsAt, Located, source, repair, Satisfied, All, Consistent, Known, Reading, fails, located, first}
-use Rattle.history.specs.History.{esiOf, readSource, readPacket, baseFor, Log, fresh, Said, value, refusal, IsValue, raised, baseOf, logged}
+use Rattle.wire.specs.Answers.{Said, value, refusal, said}
+use Rattle.history.specs.History.{esiOf, readSource, readPacket, baseFor, Log, fresh, IsValue, raised, baseOf, logged}
 use Rattle.history.specs.History.{Spanned, MarkedBy}
 use Rattle.history.specs.History.{already, later, Start}
-use Rattle.receiver.specs.Promises.{Layout, said, AduAnswered}
+use Rattle.receiver.specs.Promises.{Layout, AduAnswered}
 use Rattle.history.proofs.Says.{symbol-bytes}
 use Rattle.history.proofs.Readings.{check-passed, source-read, reading-passed}
 use Rattle.history.proofs.Starting.{start-spanned}

@@ -9,9 +9,10 @@ use lib.ListN.{length}
 use Rattle.wire.specs.declared.Setting.{Setting}
 use Rattle.wire.specs.Settings.{settingOf, Valid}
 use Rattle.wire.proofs.Settings.{setting-names}
-use Rattle.history.specs.History.{Located, source, repair, first, named, OfBytes, esiOf, Reading, fails, located, baseFor, joinedAt, Log, fresh, Said}
-use Rattle.history.specs.History.{value, refusal, IsValue, Consistent, raised, baseOf, logged, reading, Judged, Reached, already, later, MarkedBy, Start}
-use Rattle.receiver.specs.Promises.{Layout, said}
+use Rattle.wire.specs.Answers.{Said, value, refusal, said}
+use Rattle.history.specs.History.{Located, source, repair, first, named, OfBytes, esiOf, Reading, fails, located, baseFor, joinedAt, Log, fresh}
+use Rattle.history.specs.History.{IsValue, Consistent, raised, baseOf, logged, reading, Judged, Reached, already, later, MarkedBy, Start}
+use Rattle.receiver.specs.Promises.{Layout}
 use Rattle.history.proofs.Cases.{numeral}
 use Rattle.history.proofs.Readings.{reading-fits, joins-at, joins-near}
 use Rattle.claims.specs.Run.{Step, Run, read, goes-on, history}

@@ -9,8 +9,8 @@ use lib.ListN.{length, drop, length-drop}
 use Rattle.wire.specs.declared.Setting.{Setting}
 use Rattle.wire.specs.Settings.{settingOf, Valid}
 use Rattle.wire.proofs.Settings.{setting-names}
-use Rattle.receiver.specs.declared.Answer.{Answer}
-use Rattle.receiver.specs.declared.Answer.the-variants.{Done, Refused}
+use Rattle.wire.specs.declared.Answer.{Answer}
+use Rattle.wire.specs.declared.Answer.the-variants.{Done, Refused}
 use Rattle.holding.specs.declared.Header.{Header}
 use Rattle.starts.specs.Starts.{Starts, seen}
 use Rattle.marks.specs.Marks as stored
@@ -19,11 +19,12 @@ use Rattle.starts.specs.Settled.{Settled}
 use Rattle.marks.proofs.Choosing.{with-starts}
 use Rattle.starts.proofs.Settling.{pass-settled}
 use Rattle.starts.proofs.Agreeing.{Agree}
-use Rattle.history.specs.History.{Located, Call, esiOf, Reading, fails, located, reading, memorySize, workingSize, Said, value, refusal, IsValue}
+use Rattle.wire.specs.Answers.{Said, value, refusal}
+use Rattle.history.specs.History.{Located, Call, esiOf, Reading, fails, located, reading, memorySize, workingSize, IsValue}
 use Rattle.history.specs.Model.{Joined, State, opened, foundBy, Outcome, refused, done, stateAfter, responds, answering, receiving, startsAfter, marking}
 use Rattle.holding.specs.Header.{headerIn}
 use Rattle.receiver.specs.Promises.{Follows, Received}
-use Rattle.holding.specs.Contained.{Contained}
+use Rattle.memory.specs.Contained.{Contained}
 use Rattle.holding.specs.Layout.{headerOf, Holds, Marks}
 use Rattle.receiver.specs.Layout.{receiverLayout}
 use Rattle.holding.proofs.Building.{built}

@@ -10,11 +10,12 @@ use Rattle.wire.specs.declared.Setting.{Setting}
 use Rattle.wire.specs.Settings.{settingOf, Valid}
 use Rattle.wire.proofs.Settings.{setting-names}
 use Rattle.decoder.specs.Receiver as decoder
-use Rattle.receiver.specs.declared.Answer.{Answer}
+use Rattle.wire.specs.declared.Answer.{Answer}
 use Rattle.history.specs.Symbol.{Symbol, bytesOf}
-use Rattle.history.specs.History.{Filling, Located, All, fresh, value, refusal}
+use Rattle.wire.specs.Answers.{value, refusal, said}
+use Rattle.history.specs.History.{Filling, Located, All, fresh}
 use Rattle.history.specs.Model.{Finding, hides, finding}
-use Rattle.receiver.specs.Promises.{Layout, said, Places, PlaceAnswered}
+use Rattle.receiver.specs.Promises.{Layout, Places, PlaceAnswered}
 use Rattle.history.proofs.Sides.{found-past, found-behind}
 use Rattle.claims.specs.Run.{final, history}
 use Rattle.claims.specs.Demand.{esi}

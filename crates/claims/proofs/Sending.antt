@@ -18,12 +18,13 @@ use Rattle.wire.specs.Settings.{schemeNumber, Valid, settingOf}
 use Rattle.wire.specs.Packets.{symbolCount, sourceSymbols, sourcePacket, repairPacket}
 use Rattle.wire.proofs.Settings.{within-bounds, setting-named, setting-names}
 use Rattle.coefficients.specs.Coefficients.{keys, allOk}
-use Rattle.sender.specs.declared.Answer.{Answer}
-use Rattle.sender.specs.declared.Answer.the-variants.{Done, Refused}
+use Rattle.wire.specs.declared.Answer.{Answer}
+use Rattle.wire.specs.declared.Answer.the-variants.{Done, Refused}
 use Rattle.sender.specs.State.{Sender, window, windowStart, fresh, taken, memorySize, headerOf, Holds}
 use Rattle.sender.specs.Repair.{repairSymbol, writtenKey}
 use Rattle.sender.specs.Calls.{Outcome, refused, done, refuseIf, opening, adding, repairOf, repairing}
-use Rattle.sender.specs.Promises.{bytes, refusal, said, Follows}
+use Rattle.wire.specs.Answers.{value, refusal, said}
+use Rattle.sender.specs.Promises.{Follows}
 use Rattle.sender.proofs.Heads.{opened}
 use Rattle.sender.proofs.Repairing.{written-small}
 use Rattle.claims.specs.SenderRun.{SenderCall, added, repaired, Calls, memoryAfter, SenderRun, symbolsOf, Packet, repair, packetsOf}
@@ -41,11 +42,11 @@ neither : (a b : Bool) → (a || b) ≡ false → (a ≡ false) × (b ≡ false)
 neither true b e = (e, cc)
 neither false b e = (refl, e)
 
-impossible : (n k : ℕ) → bytes n ≡ refusal k → ⊥
+impossible : (n k : ℕ) → value n ≡ refusal k → ⊥
 impossible n k e = let z : _≡_ {A = ℕ} 0 1 = cc in omega arith
 
 -- the packet at the front of the output
-front : (n : ℕ) (p out out′ : List ℕ) → bytes n ≡ bytes (length p) → out′ ≡ splice 0 p out → take n out′ ≡ p
+front : (n : ℕ) (p out out′ : List ℕ) → value n ≡ value (length p) → out′ ≡ splice 0 p out → take n out′ ≡ p
 front n p out out′ e o = let l : length p ≡ n = cc in rw o (take-new n p out l)
 
 -- the symbols of calls, and of those after them
@@ -176,7 +177,7 @@ module _ (t : Setting) where
 -- ---- the opening
 
 opened-holds : (t : Setting) (m m′ : List ℕ) (r : Answer) (o : Outcome) → opening (schemeNumber (t .scheme)) (t .size) (t .width) (length m) ≡ o
-    → Follows o m [] r m′ [] → said r ≡ bytes 0 → Holds m′ (fresh t)
+    → Follows o m [] r m′ [] → said r ≡ value 0 → Holds m′ (fresh t)
 unfolding opening
 opened-holds t m m′ r (refused k) e f a = absurd (impossible 0 k (sym a ∙ f .answer))
 opened-holds t m m′ r (done p s) e f a = go (settingOf (schemeNumber (t .scheme)) (t .size) (t .width)) refl

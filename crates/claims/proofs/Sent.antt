@@ -19,9 +19,10 @@ use Rattle.rows.specs.Combination.{combination}
 use Rattle.rows.proofs.Combinations.{length-combination}
 use Rattle.sender.specs.Repair.{repairSymbol}
 use Rattle.history.specs.History.{Filling, Located, source, repair, first, Satisfied, All, Call, source-call, repair-call, esiOf, Reading, fails}
-use Rattle.history.specs.History.{located, workingSize, readPacket, reading, baseFor, joinedAt, Log, fresh, Said, value, refusal, IsValue, readAfter}
+use Rattle.wire.specs.Answers.{Said, value, refusal, said}
+use Rattle.history.specs.History.{located, workingSize, readPacket, reading, baseFor, joinedAt, Log, fresh, IsValue, readAfter}
 use Rattle.history.specs.History.{baseOf, logged, Judged}
-use Rattle.receiver.specs.Promises.{Layout, said}
+use Rattle.receiver.specs.Promises.{Layout}
 use Rattle.history.proofs.Readings.{source-read, repair-read, reading-passed}
 use Rattle.claims.specs.SenderRun.{SenderCall, symbolsOf, AreSymbols, Packet}
 use Rattle.claims.specs.SenderRun.{Wrote, wrote-source, wrote-repair}

@@ -15,12 +15,12 @@ use Rattle.wire.specs.Packets.{symbolCount, sourceSymbols}
 use Rattle.wire.proofs.Adui.{symbols-count}
 use Rattle.wire.proofs.Reading.{source-adu, source-esi}
 use Rattle.starts.specs.Adu.{lengthIn, needs}
-use Rattle.sender.specs.declared.Answer.the-variants.{Done, Refused}
+use Rattle.wire.specs.declared.Answer.the-variants.{Done, Refused}
 use Rattle.history.specs.Symbol.{bytesOf, symbolOf}
 use Rattle.history.specs.History.{Filling, symbolsAt, Located, Satisfied, All, Known, Reading, fails, located, readPacket}
-use Rattle.history.specs.History.{esiOf, baseFor, baseOf, Log, fresh, Said, value, refusal, IsValue, logged, MarkedBy, Reached, already, later, Start}
+use Rattle.wire.specs.Answers.{Said, value, refusal, said}
+use Rattle.history.specs.History.{esiOf, baseFor, baseOf, Log, fresh, IsValue, logged, MarkedBy, Reached, already, later, Start}
 use Rattle.starts.proofs.Chaining.{symbols-some}
-use Rattle.receiver.specs.Promises.{said}
 use Rattle.history.proofs.Says.{symbol-bytes, getD-at}
 use Rattle.history.proofs.Readings.{source-read, repair-read}
 use Rattle.claims.specs.SenderRun.{SenderCall, added, repaired, symbolsOf, Packet, Wrote}

@@ -9,7 +9,7 @@ use lib.Dec.{lit<}
 use Rattle.memory.specs.Number.{bytes, Bytes}
 use Rattle.wire.specs.Packets.{zeros, chunks, symbolCount, adui, sourceSymbols, Sized}
 use Rattle.wire.proofs.Adui.{symbols-sized}
-use Rattle.sender.specs.declared.Answer.the-variants.{Done, Refused}
+use Rattle.wire.specs.declared.Answer.the-variants.{Done, Refused}
 use Rattle.sender.proofs.Heads.{holds-header, zeros-unopened, other-unopened, short-unopened}
 use Rattle.claims.specs.SenderRun.{SenderCall, added, repaired, Calls, symbolsOf, AreSymbols}
 use Rattle.claims.specs.Unopened.{Sender-unopened}

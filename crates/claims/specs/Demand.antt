@@ -8,10 +8,11 @@ use Prim.Native.Nat.{ℕ, _+_, _%_, _^_, _≤_, _<_}
 use lib.ListN.{length, getD}
 use Rattle.wire.specs.declared.Setting.{Setting}
 use Rattle.wire.specs.Settings.{settingOf}
-use Rattle.receiver.specs.declared.Answer.{Answer}
+use Rattle.wire.specs.declared.Answer.{Answer}
 use Rattle.history.specs.Symbol.{bytesOf}
-use Rattle.history.specs.History.{Filling, Located, All, Consistent, Known, value, refusal, baseOf, Judged}
-use Rattle.receiver.specs.Promises.{Layout, said, Opened, SymbolAnswered, PartShown}
+use Rattle.wire.specs.Answers.{value, refusal, said}
+use Rattle.history.specs.History.{Filling, Located, All, Consistent, Known, baseOf, Judged}
+use Rattle.receiver.specs.Promises.{Layout, Opened, SymbolAnswered, PartShown}
 use Rattle.claims.specs.Run.{Step, Run, final, read, history}
 use Rattle.claims.specs.Carrying.{Carries}
 

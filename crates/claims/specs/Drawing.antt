@@ -8,10 +8,11 @@ use Rattle.wire.specs.declared.Setting.{Setting}
 use Rattle.wire.specs.Settings.{settingOf}
 use Rattle.sender.specs.declared.RepairAnswer.the-variants.{Made}
 use Rattle.sender.specs.Promises.{RepairMade}
-use Rattle.receiver.specs.declared.Answer.{Answer}
+use Rattle.wire.specs.declared.Answer.{Answer}
 use Rattle.receiver.specs.declared.PacketAnswer.the-variants.{Accepted}
-use Rattle.history.specs.History.{Call, repair-call, value}
-use Rattle.receiver.specs.Promises.{said, drawsFor, Opened, PacketAnswered}
+use Rattle.wire.specs.Answers.{value, said}
+use Rattle.history.specs.History.{Call, repair-call}
+use Rattle.receiver.specs.Promises.{drawsFor, Opened, PacketAnswered}
 use Rattle.receiver.specs.Layout.{receiverLayout}
 use Rattle.claims.specs.Run.{Step, Run, final}
 use Rattle.claims.specs.SenderRun.{SenderCall, memoryAfter}

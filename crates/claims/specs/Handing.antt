@@ -8,14 +8,15 @@ use Prim.Native.Nat.{ℕ, _+_, _^_, _≤_, _<_}
 use lib.ListN.{length, drop}
 use Rattle.wire.specs.declared.Setting.{Setting}
 use Rattle.wire.specs.Settings.{settingOf, Valid}
-use Rattle.wire.specs.Packets.{symbolCount, sourceSymbols, sourceAdu}
+use Rattle.wire.specs.Packets.{longestAdu, symbolCount, sourceSymbols, sourceAdu}
 use Rattle.starts.specs.declared.Handed.{Handed}
 use Rattle.starts.specs.declared.Handed.the-variants.{Adu}
 use Rattle.starts.specs.Adu.{View, withholds, handing, HandedAs}
-use Rattle.receiver.specs.declared.Answer.{Answer}
+use Rattle.wire.specs.declared.Answer.{Answer}
 use Rattle.history.specs.Symbol.{bytesOf}
-use Rattle.history.specs.History.{Filling, symbolsAt, Located, first, All, Consistent, Known, source-call, located, Log, value, IsValue, baseOf, MarkedBy, Start}
-use Rattle.receiver.specs.Promises.{Layout, said, Opened, AduAnswered}
+use Rattle.wire.specs.Answers.{value, said}
+use Rattle.history.specs.History.{Filling, symbolsAt, Located, first, All, Consistent, Known, source-call, located, Log, IsValue, baseOf, MarkedBy, Start}
+use Rattle.receiver.specs.Promises.{Layout, Opened, AduAnswered}
 use Rattle.claims.specs.Run.{Step, Run, final, read, history}
 use Rattle.claims.specs.Demand.{esi}
 
@@ -31,7 +32,7 @@ module _ (s : Setting) where
 
   -- Every filling holds the symbols of the ADU with its flow from the position p on, and the window has them all.
   pub record HoldsAdu (qs : List Located) (base p flow : ℕ) (adu : List ℕ) : Type 0 where
-    pub long : length adu ≤ 65535
+    pub long : length adu ≤ longestAdu
     pub inside : p + symbolCount E (length adu) ≤ base + width
     pub held : (f : Filling E) → All E qs f → symbolsAt E f p (symbolCount E (length adu)) ≡ sourceSymbols flow adu E
 

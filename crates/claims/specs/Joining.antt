@@ -6,9 +6,10 @@ use mathlib.Core.List.{List, [], _∷_, _++_}
 use Prim.Native.Nat.{ℕ}
 use Rattle.wire.specs.declared.Setting.{Setting}
 use Rattle.wire.specs.Settings.{settingOf}
-use Rattle.receiver.specs.declared.Answer.{Answer}
-use Rattle.history.specs.History.{Located, source, repair, esiOf, joinedAt, value, refusal, IsValue, baseOf, Start}
-use Rattle.receiver.specs.Promises.{Layout, said, Opened}
+use Rattle.wire.specs.declared.Answer.{Answer}
+use Rattle.wire.specs.Answers.{value, refusal, said}
+use Rattle.history.specs.History.{Located, source, repair, esiOf, joinedAt, IsValue, baseOf, Start}
+use Rattle.receiver.specs.Promises.{Layout, Opened}
 use Rattle.claims.specs.Run.{Step, Run, history}
 
 -- The call t, after calls that have left no base.

@@ -2,9 +2,10 @@
 use mathlib.Core.Path.{_≡_}
 use mathlib.Core.List.{List, [], _∷_, map}
 use Prim.Native.Nat.{ℕ}
-use Rattle.receiver.specs.declared.Answer.{Answer}
-use Rattle.history.specs.History.{Call, OfBytes, value}
-use Rattle.receiver.specs.Promises.{said, Opened}
+use Rattle.wire.specs.declared.Answer.{Answer}
+use Rattle.wire.specs.Answers.{value, said}
+use Rattle.history.specs.History.{Call, OfBytes}
+use Rattle.receiver.specs.Promises.{Opened}
 use Rattle.receiver.specs.Layout.{receiverLayout}
 use Rattle.claims.specs.Run.{Step, Run}
 

@@ -6,10 +6,11 @@ use Prim.Native.Nat.{ℕ, _+_, _^_, _≤_, _<_}
 use Rattle.memory.specs.Part.{part}
 use Rattle.wire.specs.declared.Setting.{Setting}
 use Rattle.wire.specs.Settings.{settingOf}
-use Rattle.receiver.specs.declared.Answer.{Answer}
+use Rattle.wire.specs.declared.Answer.{Answer}
 use Rattle.history.specs.Symbol.{bytesOf}
-use Rattle.history.specs.History.{Filling, Located, All, Known, Log, value, refusal, baseOf}
-use Rattle.receiver.specs.Promises.{Layout, said, Opened, PlaceAnswered}
+use Rattle.wire.specs.Answers.{value, refusal, said}
+use Rattle.history.specs.History.{Filling, Located, All, Known, Log, baseOf}
+use Rattle.receiver.specs.Promises.{Layout, Opened, PlaceAnswered}
 use Rattle.claims.specs.Run.{Step, Run, final, history}
 use Rattle.claims.specs.Demand.{esi}
 

@@ -6,7 +6,7 @@ use Prim.Native.Nat.{ℕ, _+_, _%_, _^_, _≤_, _<_}
 use lib.ListN.{length}
 use Rattle.wire.specs.declared.Setting.{Setting}
 use Rattle.wire.specs.Settings.{Valid}
-use Rattle.wire.specs.Packets.{Sized, symbolCount, sourceSymbols, sourcePacket, repairPacket}
+use Rattle.wire.specs.Packets.{Sized, longestAdu, symbolCount, sourceSymbols, sourcePacket, repairPacket}
 use Rattle.coefficients.specs.Coefficients.{keys, listsOf, allOk}
 use Rattle.history.specs.History.{Located, source, repair, source-call, repair-call, Reading, fails, located, workingSize, reading}
 
@@ -18,7 +18,7 @@ pub record ReadBy (d n : ℕ) (q : Located) (r : Reading) : Type 0 where
 
 pub record Read-as-written (s : Setting) (base room d : ℕ) : Type 0 where
   -- A source packet of any ADU whose symbols fit the window.
-  pub sources : (flow : ℕ) (adu : List ℕ) → length adu ≤ 65535 → symbolCount (s .size) (length adu) ≤ s .width
+  pub sources : (flow : ℕ) (adu : List ℕ) → length adu ≤ longestAdu → symbolCount (s .size) (length adu) ≤ s .width
       → ReadBy d (symbolCount (s .size) (length adu)) (source (base + d) (sourceSymbols flow adu (s .size)))
       (reading s base room (source-call flow (sourcePacket adu ((base + d) % 2 ^ 32))))
   -- A repair packet with any key and DT, over 1 to width symbols, with 1 to 16 repair symbols whose coefficients are drawn.

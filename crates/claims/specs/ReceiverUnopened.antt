@@ -8,12 +8,13 @@ use lib.ListN.{take}
 use Rattle.wire.specs.declared.Setting.{Setting}
 use Rattle.wire.specs.Packets.{zeros}
 use Rattle.sender.specs.State as sender
-use Rattle.receiver.specs.declared.Answer.{Answer}
+use Rattle.wire.specs.declared.Answer.{Answer}
 use Rattle.holding.specs.declared.Header.{Header}
-use Rattle.history.specs.History.{memorySize, value}
+use Rattle.wire.specs.Answers.{value, said}
+use Rattle.history.specs.History.{memorySize}
 use Rattle.history.specs.Model.{State}
 use Rattle.holding.specs.Header.{headerIn}
-use Rattle.receiver.specs.Promises.{said, Opened}
+use Rattle.receiver.specs.Promises.{Opened}
 use Rattle.holding.specs.Layout.{Holds}
 use Rattle.receiver.specs.Layout.{receiverLayout}
 use Rattle.claims.specs.Run.{Step, Run, final}

@@ -3,9 +3,10 @@ use mathlib.Core.List.{List, [], _∷_}
 use Prim.Native.Nat.{ℕ}
 use lib.ListN.{length}
 use Rattle.wire.specs.declared.Setting.{Setting}
-use Rattle.receiver.specs.declared.Answer.{Answer}
+use Rattle.wire.specs.declared.Answer.{Answer}
 use Rattle.history.specs.History.{Call, OfBytes, Reading, Log, fresh, readAfter, logged}
-use Rattle.receiver.specs.Promises.{Layout, Received, said}
+use Rattle.wire.specs.Answers.{said}
+use Rattle.receiver.specs.Promises.{Layout, Received}
 
 -- A call: the packet with its flow, the working memory lent and as it is left, the answer, and the receiver's memory after it.
 pub record Step : Type 0 where

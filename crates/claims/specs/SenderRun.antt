@@ -9,12 +9,13 @@ use Rattle.memory.specs.Number.{Bytes}
 use Rattle.wire.specs.declared.Scheme.{Scheme}
 use Rattle.wire.specs.declared.Setting.{Setting}
 use Rattle.wire.specs.Settings.{schemeNumber}
-use Rattle.wire.specs.Packets.{sourceSymbols, sourcePacket, repairPacket}
+use Rattle.wire.specs.Packets.{longestAdu, sourceSymbols, sourcePacket, repairPacket}
 use Rattle.coefficients.specs.Coefficients.{keys, allOk}
-use Rattle.sender.specs.declared.Answer.{Answer}
-use Rattle.sender.specs.declared.Answer.the-variants.{Done, Refused}
+use Rattle.wire.specs.declared.Answer.{Answer}
+use Rattle.wire.specs.declared.Answer.the-variants.{Done, Refused}
 use Rattle.sender.specs.Repair.{repairSymbol}
-use Rattle.sender.specs.Promises.{bytes, said, Opens, Adds, Repairs}
+use Rattle.wire.specs.Answers.{value, said}
+use Rattle.sender.specs.Promises.{Opens, Adds, Repairs}
 
 -- ---- the calls
 
@@ -43,7 +44,7 @@ pub record SenderRun (t : Setting) (l : List SenderCall) : Type 0 where
   pub after : List ℕ
   pub answer : Answer
   pub opened : Opens (schemeNumber (t .scheme)) (t .size) (t .width) before answer after
-  pub answered : said answer ≡ bytes 0
+  pub answered : said answer ≡ value 0
   pub calls : Calls after l
 
 -- ---- what they took and wrote
@@ -78,7 +79,7 @@ pub record AreSymbols (E : ℕ) (symbols : List (List ℕ)) : Type 0 where
 -- the packet is one that a sender of this scheme and E writes whose symbols are `all`: the source packet of an ADU whose symbols they hold, or a repair
 -- packet over a stretch of them. The first symbol that it names is the sender's p-th.
 pub data Wrote (scheme : Scheme) (E : ℕ) (all : List (List ℕ)) : Packet → (p : ℕ) → Type 0 where
-  wrote-source : (before after : List (List ℕ)) (flow : ℕ) (adu : List ℕ) → flow < 256 → Bytes adu → length adu ≤ 65535
+  wrote-source : (before after : List (List ℕ)) (flow : ℕ) (adu : List ℕ) → flow < 256 → Bytes adu → length adu ≤ longestAdu
       → all ≡ before ++ (sourceSymbols flow adu E ++ after)
       → Wrote scheme E all (source flow (sourcePacket adu (length before % 2 ^ 32))) (length before)
   wrote-repair : (before window after : List (List ℕ)) (key dt count : ℕ) → key < 2 ^ 16 → dt ≤ 15 → 1 ≤ length window → length window ≤ 255

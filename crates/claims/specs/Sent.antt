@@ -8,10 +8,11 @@ use lib.ListN.{length, getD}
 use Rattle.wire.specs.declared.Setting.{Setting}
 use Rattle.wire.specs.Settings.{Valid}
 use Rattle.wire.specs.Packets.{symbolCount, sourceAdu, protectedCount}
-use Rattle.receiver.specs.declared.Answer.{Answer}
-use Rattle.history.specs.History.{Filling, All, Call, source-call, repair-call, workingSize, Log, fresh, Said, value, refusal, IsValue, readAfter}
+use Rattle.wire.specs.declared.Answer.{Answer}
+use Rattle.wire.specs.Answers.{Said, value, refusal, said}
+use Rattle.history.specs.History.{Filling, All, Call, source-call, repair-call, workingSize, Log, fresh, IsValue, readAfter}
 use Rattle.history.specs.History.{baseOf, logged, Judged, joinedAt}
-use Rattle.receiver.specs.Promises.{Layout, said, SymbolAnswered, PartShown}
+use Rattle.receiver.specs.Promises.{Layout, SymbolAnswered, PartShown}
 use Rattle.claims.specs.SenderRun.{SenderCall, SenderRun, symbolsOf, Packet, source, repair, Wrote}
 use Rattle.claims.specs.Run.{Step, read, history}
 use Rattle.claims.specs.Carrying.{Carries}

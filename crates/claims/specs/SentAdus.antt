@@ -6,9 +6,9 @@ use lib.ListN.{length, take, drop}
 use Rattle.wire.specs.declared.Scheme.{Scheme}
 use Rattle.wire.specs.declared.Setting.{Setting}
 use Rattle.wire.specs.Packets.{symbolCount, sourceSymbols, sourcePacket}
-use Rattle.sender.specs.declared.Answer.the-variants.{Done}
+use Rattle.wire.specs.declared.Answer.the-variants.{Done}
 use Rattle.history.specs.History.{Filling, Located, All, Log, fresh, IsValue, baseOf, logged, Start}
-use Rattle.receiver.specs.Promises.{said}
+use Rattle.wire.specs.Answers.{said}
 use Rattle.claims.specs.SenderRun.{SenderCall, added, SenderRun, symbolsOf, Packet, source, repair, packetsOf, Wrote}
 use Rattle.claims.specs.Run.{Step, read, history}
 use Rattle.claims.specs.Carrying.{Carries}

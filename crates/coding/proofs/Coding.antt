@@ -23,7 +23,7 @@ use Rattle.latency.specs.declared.WindowAnswer.{WindowAnswer}
 use Rattle.latency.specs.declared.WindowAnswer.the-variants.{Divided, NotDivided}
 use Rattle.latency.specs.Window.{dividend, divisor}
 use Rattle.latency.specs.Promises.{Division, WindowAnswered}
-use Rattle.history.specs.History.{Said, value, refusal}
+use Rattle.wire.specs.Answers.{Said, value, refusal}
 use Rattle.holding.proofs.Headers.{setting-good, setting-bad}
 use Rattle.coding.specs.Coding.{largest, coded, windowSaid, remainderAfter, asked, Readable}
 

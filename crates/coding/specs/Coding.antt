@@ -6,18 +6,17 @@ use Prim.Native.Nat.{ℕ, _+_, _*_, _%_, _/_, _≤_, _<_, min}
 use lib.IntN.{ℤ, pos, negℤ}
 use Rattle.wire.specs.declared.Setting.{Setting}
 use Rattle.wire.specs.Numbers.{numberOf}
+use Rattle.wire.specs.Packets.{longestAdu}
 use Rattle.latency.specs.declared.WindowAnswer.{WindowAnswer}
 use Rattle.latency.specs.declared.WindowAnswer.the-variants.{Divided, NotDivided}
 use Rattle.latency.specs.Window.{dividend, divisor}
 use Rattle.latency.specs.Promises.{Division, WindowAnswered}
-use Rattle.sender.specs.declared.Answer.{Answer}
 use Rattle.sender.specs.declared.RepairAnswer.{RepairAnswer}
 use Rattle.sender.specs.declared.RepairAnswer.the-variants.{Made, NotMade}
-use Rattle.sender.specs.Promises as sender
 use Rattle.starts.specs.declared.Handed.the-variants.{Adu}
 use Rattle.receiver.specs.declared.PacketAnswer.{PacketAnswer}
 use Rattle.receiver.specs.declared.PacketAnswer.the-variants.{Accepted, NotAccepted}
-use Rattle.history.specs.History.{Said, value, refusal}
+use Rattle.wire.specs.Answers.{Said, value, refusal}
 use Rattle.receiver.specs.Promises.{handedSaid}
 
 -- The largest number of 64 bits with a sign.
@@ -59,19 +58,11 @@ pub record Readable : Type 0 where
   pub apart : (n k : ℕ) → 1 ≤ k → coded (value n) ≢ coded (refusal k)
   pub refusals : (n k : ℕ) → coded (refusal n) ≡ coded (refusal k) → n ≡ k
   pub values : (n k : ℕ) → n ≤ largest → k ≤ largest → coded (value n) ≡ coded (value k) → n ≡ k
-  pub adus : (flow L k : ℕ) → flow < 256 → L ≤ 65535 → coded (handedSaid (Adu flow L)) ≡ pos k → (flow ≡ k / 65536) × (L ≡ k % 65536)
+  pub adus : (flow L k : ℕ) → flow < 256 → L ≤ longestAdu → coded (handedSaid (Adu flow L)) ≡ pos k → (flow ≡ k / 65536) × (L ≡ k % 65536)
   pub draws : (n d k : ℕ) → n ≤ 65535 → d ≤ 69360 → coded (withDraws n d) ≡ pos k → (n ≡ k % 4294967296) × (d ≡ k / 4294967296)
   pub windows : (budget bitrate E : ℕ) (a : WindowAnswer) (k before : ℕ) → WindowAnswered budget bitrate E a → coded (windowSaid a) ≡ pos k
       → Division (dividend budget bitrate) (divisor E) k (remainderAfter a before)
   pub kept : (a : WindowAnswer) (k before : ℕ) → 1 ≤ k → coded (windowSaid a) ≡ coded (refusal k) → remainderAfter a before ≡ before
-
--- What an answer of the sender says, in the receiver's words.
-abbrev pub ofSender : sender.Said → Said
-ofSender (sender.bytes n) = value n
-ofSender (sender.refusal n) = refusal n
-
-abbrev pub senderSaid : Answer → Said
-senderSaid a = ofSender (sender.said a)
 
 -- The number r codes what an answer says, and the promise holds of that answer.
 pub record Codes {A : Type 0} (said : A → Said) (Promise : A → Type 0) (r : ℤ) : Type 0 where

@@ -2,9 +2,9 @@
 ghost use mathlib.Core.Path.{_≡_};
 ghost use Prim.Native.Nat.{_+_, _*_, _≤_};
 ghost use Rattle.wire.specs.Numbers.{numberOf};
-ghost use Rattle.history.specs.History.{value, refusal};
-ghost use Rattle.receiver.specs.Promises.{said, handedSaid};
-ghost use Rattle.coding.specs.Coding.{coded, senderSaid, withDraws, packetSaid, repairSaid, windowSaid, remainderAfter};
+ghost use Rattle.wire.specs.Answers.{value, refusal, said};
+ghost use Rattle.receiver.specs.Promises.{handedSaid};
+ghost use Rattle.coding.specs.Coding.{coded, withDraws, packetSaid, repairSaid, windowSaid, remainderAfter};
 use latency::WindowAnswer;
 use starts::Handed;
 use wire::Refusal;
@@ -43,7 +43,7 @@ pub fn coded_refusal(why: Refusal) -> i64
 
 // An answer of the sender.
 pub fn coded_sender(answer: sender::Answer) -> i64
-    ensures { λ r. ⌜ r ≡ coded (senderSaid answer) ⌝ }
+    ensures { λ r. ⌜ r ≡ coded (said answer) ⌝ }
 {
     match answer {
         sender::Answer::Done(n) => coded_value(n),

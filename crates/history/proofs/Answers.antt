@@ -17,7 +17,8 @@ use Rattle.decoder.proofs.Bytes.{laws}
 use Rattle.decoder.proofs.History as history
 use Rattle.history.specs.Symbol.{Symbol}
 use Rattle.history.specs.History.{Filling, Located, source, repair, first, named, All, Consistent, Known, Reading, fails, located}
-use Rattle.history.specs.History.{baseFor, Log, fresh, raised, baseOf, refusal, logged, Counted, New, Judged}
+use Rattle.wire.specs.Answers.{refusal}
+use Rattle.history.specs.History.{baseFor, Log, fresh, raised, baseOf, logged, Counted, New, Judged}
 use Rattle.history.specs.Model.{packetOf, Joined, State, opened, foundBy, saidOf, stateAfter, added, responds}
 use Rattle.history.proofs.Cases.{IsRefusal, numeral, IsLocated, packet-path, number-in}
 use Rattle.history.proofs.Counting.{count-counted}

@@ -1,7 +1,8 @@
 -- Readings and answers told apart.
 use mathlib.Core.Path.{_≡_, ap}
 use Prim.Native.Nat.{ℕ}
-use Rattle.history.specs.History.{Located, Reading, fails, located, Said, value, refusal}
+use Rattle.wire.specs.Answers.{Said, value, refusal}
+use Rattle.history.specs.History.{Located, Reading, fails, located}
 
 abbrev pub IsRefusal : Said → Type 0
 IsRefusal (refusal m) = Unit {0}

@@ -7,7 +7,8 @@ use native.Mathlib.Omega.{arith}
 use Rattle.wire.specs.declared.Setting.{Setting}
 use Rattle.decoder.specs.Model.{tail}
 use Rattle.decoder.specs.Receiver.{Accepted, is-new, count-new}
-use Rattle.history.specs.History.{Counted, nothing, has, lacks, Located, Reading, fails, located, Log, Said, value, refusal, Judged}
+use Rattle.wire.specs.Answers.{Said, value, refusal}
+use Rattle.history.specs.History.{Counted, nothing, has, lacks, Located, Reading, fails, located, Log, Judged}
 
 first-has : (P : ℕ → Type 0) {n k : ℕ} → P 0 → Counted (λ i. P (suc i)) n k → Counted P (suc n) (suc k)
 first-has P p nothing = has p nothing

@@ -11,8 +11,9 @@ use lib.Dec.{ltb, leb}
 use Rattle.memory.specs.Number.{Bytes}
 use Rattle.wire.specs.declared.Setting.{Setting}
 use Rattle.wire.specs.Numbers.{within, distanceOf}
-use Rattle.wire.specs.Packets.{symbolCount, sourceSymbols, sourceForm, sourceAdu, sourceEsi, repairForm, repairKey, densityThreshold, protectedCount}
-use Rattle.wire.specs.Packets.{firstEsi, repairSymbols}
+use Rattle.wire.specs.Answers.{Said, value, refusal}
+use Rattle.wire.specs.Packets.{longestAdu, symbolCount, sourceSymbols, sourceForm, sourceAdu, sourceEsi, repairForm, repairKey, densityThreshold}
+use Rattle.wire.specs.Packets.{protectedCount, firstEsi, repairSymbols}
 use Rattle.coefficients.specs.Coefficients.{keys, listsOf, allOk}
 use Rattle.rows.specs.Combination.{combination}
 use Rattle.starts.specs.Adu.{needs}
@@ -121,7 +122,7 @@ module _ (s : Setting) where
       let adu = sourceAdu p in
       let n = symbolCount E (length adu) in
       check (sourceForm p) 5
-      (check (leb (length adu) 65535 && leb n width) 4
+      (check (leb (length adu) longestAdu && leb n width) 4
       (fromSide n (sideOf base (sourceEsi p)) (λ d. located (source (base + d) (sourceSymbols flow adu E)))))
 
   -- A repair packet: form (5), number of symbols protected (6), place (8, 9), coefficients (10).
@@ -163,11 +164,7 @@ abbrev pub joinedAt : Log → Option ℕ
 joinedAt [] = none
 joinedAt (q ∷ qs) = some (baseFor (joinedAt qs) (first q))
 
--- What a call answers: a number, or the number of a refusal.
-pub data Said : Type 0 where
-  value : ℕ → Said
-  refusal : ℕ → Said
-
+-- A call answers a number, and no refusal.
 abbrev pub IsValue : Said → Type 0
 IsValue (value n) = Unit {0}
 IsValue (refusal n) = ⊥

@@ -14,8 +14,8 @@ use Rattle.decoder.specs.Packets as packets
 use Rattle.starts.specs.Adu.{Handing, withholds, need, handing}
 use Rattle.starts.specs.Starts.{Starts, also, moved, pass, seen}
 use Rattle.history.specs.Symbol.{Symbol, symbolOf}
-use Rattle.history.specs.History.{Located, source, repair, Side, behind, ahead, sideOf, Call, esiOf, Reading, fails, located, reading, Said, value}
-use Rattle.history.specs.History.{refusal}
+use Rattle.wire.specs.Answers.{Said, value, refusal}
+use Rattle.history.specs.History.{Located, source, repair, Side, behind, ahead, sideOf, Call, esiOf, Reading, fails, located, reading}
 
 module _ (E : ℕ) where
   -- A repair packet's equations.

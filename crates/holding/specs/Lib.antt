@@ -1,4 +1,3 @@
 pub mod Header
-pub mod Contained
 pub mod Layout
 pub mod Inner

@@ -6,7 +6,7 @@ use Prim.Native.Nat.{ℕ, _≤_}
 use native.Mathlib.Omega.{arith}
 use Rattle.table.specs.Packet.{Works}
 use Rattle.wire.specs.declared.Refusal.{Refusal}
-use Rattle.receiver.specs.declared.Answer.the-variants.{Done, Refused}
+use Rattle.wire.specs.declared.Answer.the-variants.{Done, Refused}
 use Rattle.receiver.specs.declared.PacketAnswer.the-variants as answers
 use Rattle.holding.specs.declared.Header.{Header}
 use Rattle.admission.specs.declared.packet.Location.{Location}

@@ -19,7 +19,8 @@ use Rattle.starts.specs.Starts.{Starts, seen}
 use Rattle.marks.specs.Marks as marks
 use Rattle.handing.specs.Contracts.{HandedOut}
 use Rattle.holding.specs.declared.Header.{Header}
-use Rattle.history.specs.History.{sideOf, refusal}
+use Rattle.wire.specs.Answers.{refusal}
+use Rattle.history.specs.History.{sideOf}
 use Rattle.history.specs.Model.{Joined, aduAt}
 use Rattle.holding.specs.Header.{headerIn}
 use Rattle.receiver.specs.Promises.{handedSaid, AduAnswered}

@@ -19,12 +19,12 @@ use Rattle.wire.proofs.Settings.{setting-names, setting-written, setting-kept}
 use Rattle.placing.specs.Place.{Emptied}
 use Rattle.starts.specs.Starts.{nowhere}
 use Rattle.marks.specs.Contracts.{Cleared}
-use Rattle.receiver.specs.declared.Answer.the-variants.{Done, Refused}
+use Rattle.wire.specs.declared.Answer.the-variants.{Done, Refused}
 use Rattle.history.specs.History.{memorySize}
 use Rattle.history.specs.Model.{opened}
 use Rattle.holding.specs.Header.{rowIn, headerIn}
 use Rattle.receiver.specs.Promises.{Opened}
-use Rattle.holding.specs.Contained.{Contained}
+use Rattle.memory.specs.Contained.{Contained}
 use Rattle.holding.specs.Layout.{headerOf, Holds, Marks}
 use Rattle.receiver.specs.Layout.{receiverLayout}
 use Rattle.holding.specs.Inner.{freshHeader}

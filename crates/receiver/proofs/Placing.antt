@@ -5,11 +5,12 @@ use Prim.Native.Nat.{ℕ, _+_, _≤_}
 use lib.ListN.{length}
 use Rattle.memory.specs.Part.{part}
 use Rattle.wire.specs.declared.Refusal.{Refusal}
-use Rattle.receiver.specs.declared.Answer.the-variants.{Done, Refused}
+use Rattle.wire.specs.declared.Answer.the-variants.{Done, Refused}
 use Rattle.holding.specs.declared.Spot.{Spot}
 use Rattle.holding.specs.declared.Spot.the-variants.{At, Nowhere}
 use Rattle.history.specs.Symbol.{bytesOf}
-use Rattle.history.specs.History.{Said, value, refusal, IsValue}
+use Rattle.wire.specs.Answers.{Said, value, refusal}
+use Rattle.history.specs.History.{IsValue}
 use Rattle.receiver.specs.Promises.{Places, PlaceAnswered}
 use Rattle.receiver.specs.Layout.{receiverLayout}
 use Rattle.holding.specs.Inner.{Spotted}

@@ -21,19 +21,19 @@ use Rattle.table.specs.Packet as packet
 use Rattle.starts.specs.Starts.{Starts, owning, moved, pass, seen}
 use Rattle.starts.proofs.Settling.{unseen-settled}
 use Rattle.marks.proofs.Gaining.{unseen-empty}
-use Rattle.receiver.specs.declared.Answer.{Answer}
-use Rattle.receiver.specs.declared.Answer.the-variants.{Done, Refused}
+use Rattle.wire.specs.declared.Answer.{Answer}
+use Rattle.wire.specs.declared.Answer.the-variants.{Done, Refused}
 use Rattle.holding.specs.declared.Header.{Header}
 use Rattle.admission.specs.declared.packet.Location.{Location}
 use Rattle.admission.specs.declared.packet.LocationFound.the-variants.{LocationIs, Out}
 use Rattle.admission.specs.declared.packet.Gathered.{Gathered}
 use Rattle.admission.specs.declared.packet.Gathered.the-variants.{All, Contradiction}
 use Rattle.history.specs.History.{Located, source, repair, first, named, sideOf, fromSide, Call, esiOf, Reading, fails, located, check, memorySize, workingSize, reading}
-use Rattle.history.specs.History.{value}
+use Rattle.wire.specs.Answers.{value}
 use Rattle.history.specs.Model.{Joined, State, foundBy, Outcome, packetOf, added, responds, answering, stateAfter, naming, startsAfter, marking}
 use Rattle.holding.specs.Header.{headerIn}
 use Rattle.receiver.specs.Promises.{Follows, Received}
-use Rattle.holding.specs.Contained.{Contained}
+use Rattle.memory.specs.Contained.{Contained}
 use Rattle.holding.specs.Layout.{headerFrom, headerOf, Stands, Holds, MarksFrom, Marks}
 use Rattle.receiver.specs.Layout.{receiverLayout}
 use Rattle.admission.specs.Joining.{headerFor, Based}

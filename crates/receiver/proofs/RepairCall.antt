@@ -24,7 +24,7 @@ use Rattle.decoder.specs.Bytes.{Coded}
 use Rattle.decoder.specs.Receiver as decoder
 use Rattle.table.specs.Window.{Fits}
 use Rattle.table.specs.Packet.{Works}
-use Rattle.receiver.specs.declared.Answer.the-variants.{Done, Refused}
+use Rattle.wire.specs.declared.Answer.the-variants.{Done, Refused}
 use Rattle.holding.specs.declared.Header.{Header}
 use Rattle.admission.specs.declared.packet.Location.{Location}
 use Rattle.admission.specs.declared.packet.Gathered.{Gathered}

@@ -8,10 +8,11 @@ use Prim.Native.Nat.{ℕ}
 use Rattle.memory.specs.Part.{LiesAt}
 use Rattle.wire.specs.declared.Refusal.{Refusal}
 use Rattle.wire.specs.Numbers.{numberOf}
-use Rattle.receiver.specs.declared.Answer.the-variants.{Done, Refused}
+use Rattle.wire.specs.declared.Answer.the-variants.{Done, Refused}
 use Rattle.holding.specs.declared.Spot.{Spot}
 use Rattle.holding.specs.declared.Spot.the-variants.{At, Nowhere}
-use Rattle.history.specs.History.{Said, value, refusal, IsValue}
+use Rattle.wire.specs.Answers.{Said, value, refusal}
+use Rattle.history.specs.History.{IsValue}
 use Rattle.holding.specs.Header.{headerIn}
 use Rattle.receiver.specs.Promises.{Finds, SymbolAnswered, Shows, PartShown}
 use Rattle.receiver.specs.Layout.{receiverLayout}

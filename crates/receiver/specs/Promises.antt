@@ -18,21 +18,17 @@ use Rattle.starts.specs.declared.Handed.{Handed}
 use Rattle.starts.specs.declared.Handed.the-variants.{Adu, Withheld}
 use Rattle.starts.specs.Adu.{HandedAs, Leaves}
 use Rattle.starts.specs.Starts.{Starts, nowhere}
-use Rattle.receiver.specs.declared.Answer.{Answer}
-use Rattle.receiver.specs.declared.Answer.the-variants.{Done, Refused}
+use Rattle.wire.specs.declared.Answer.{Answer}
+use Rattle.wire.specs.declared.Answer.the-variants.{Done, Refused}
 use Rattle.receiver.specs.declared.PacketAnswer.{PacketAnswer}
 use Rattle.receiver.specs.declared.PacketAnswer.the-variants.{Accepted, NotAccepted}
 use Rattle.holding.specs.declared.Header.{Header}
 use Rattle.history.specs.Symbol.{bytesOf}
-use Rattle.history.specs.History.{Call, source-call, repair-call, esiOf, reading, memorySize, workingSize, Said, value, refusal}
+use Rattle.wire.specs.Answers.{Said, value, refusal, said}
+use Rattle.history.specs.History.{Call, source-call, repair-call, esiOf, reading, memorySize, workingSize}
 use Rattle.history.specs.Model.{State, opened, foundBy, Outcome, refused, done, stateAfter, receiving, marking, Finding, shows, hides, finding, aduAt}
 use Rattle.holding.specs.Header.{headerIn}
-use Rattle.holding.specs.Contained.{Contained}
-
--- Document 01's number of an answer.
-abbrev pub said : Answer → Said
-said (Done n) = value n
-said (Refused r) = refusal (numberOf r)
+use Rattle.memory.specs.Contained.{Contained}
 
 -- The answer to a packet call, without the draws.
 abbrev pub answerOf : PacketAnswer → Answer

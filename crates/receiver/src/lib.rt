@@ -12,6 +12,7 @@ use holding::Found;
 use holding::Spot;
 use holding::find;
 use holding::front;
+pub use holding::front::memory_size;
 pub use holding::front::working_size;
 use starts::Handed;
 use table::Shape;
@@ -23,10 +24,7 @@ use wire::Setting;
 use wire::SourceHeader;
 
 // What a call answers: a number (opening and the symbol call: 0; the call for a symbol's place: where it starts), or a refusal.
-pub enum Answer {
-    Done(usize),
-    Refused(Refusal),
-}
+pub use wire::Answer;
 
 // What a packet call answers: how many positions of the window became known and the draws that the packet's coefficients took, or a refusal.
 pub enum PacketAnswer {
@@ -127,7 +125,7 @@ pub fn receive_source(mem: &mut [u8], work: &mut [u8], flow: u8, packet: &[u8]) 
     let SourceHeader::Source(fields) = wire::read_source(packet) else {
         return PacketAnswer::NotAccepted(Refusal::Form);
     };
-    if 65535 < fields.len {
+    if wire::LONGEST_ADU < fields.len {
         return PacketAnswer::NotAccepted(Refusal::Long);
     }
     let count = wire::symbol_count(setting.size, fields.len);

@@ -10,7 +10,8 @@ use lib.Dec.{eqb}
 use borrow.Author.Tests.{ne-eqb}
 use Rattle.wire.specs.declared.Setting.{Setting}
 use Rattle.history.specs.History.{Call, source-call, repair-call, OfBytes, esiOf, Side, behind, ahead, Reading, fails, located, check, fromSide}
-use Rattle.history.specs.History.{readSource, readRepair, reading, Located, Log, Said, value, refusal, readAfter, logged, Judged}
+use Rattle.wire.specs.Answers.{Said, value, refusal}
+use Rattle.history.specs.History.{readSource, readRepair, reading, Located, Log, readAfter, logged, Judged}
 use Rattle.decoder.specs.Receiver as decoder
 use Rattle.history.specs.Model.{packetOf, Joined, State, foundBy, saidOf, stateAfter, added, responds, answering, receiving}
 use Rattle.history.proofs.Answers.{Tracks, Passes, base-found, judged}

@@ -9,7 +9,8 @@ use lib.Dec.{eqb}
 use lib.ListN.{length, take}
 use Rattle.wire.specs.declared.Setting.{Setting}
 use Rattle.wire.specs.Settings.{schemeNumber, Valid}
-use Rattle.history.specs.History.{Call, memorySize, workingSize, Said, value, refusal, Log, fresh, readAfter, logged, Judged}
+use Rattle.wire.specs.Answers.{Said, value, refusal}
+use Rattle.history.specs.History.{Call, memorySize, workingSize, Log, fresh, readAfter, logged, Judged}
 use Rattle.printing.specs.Printed.{lastLine}
 use Rattle.lines.specs.Lines.{linesOf}
 use Rattle.lines.specs.Forms.{Values, firstLine, Says}

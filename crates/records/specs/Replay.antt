@@ -8,7 +8,8 @@ use lib.Dec.{leb}
 use lib.ListN.{length, take}
 use Rattle.wire.specs.declared.Setting.{Setting}
 use Rattle.wire.specs.Settings.{settingOf}
-use Rattle.history.specs.History.{Call, memorySize, workingSize, Said, value, refusal}
+use Rattle.wire.specs.Answers.{Said, value, refusal}
+use Rattle.history.specs.History.{Call, memorySize, workingSize}
 use Rattle.history.specs.Model.{State, opened, saidOf, stateAfter, receiving}
 use Rattle.lines.specs.Lines.{linesOf}
 use Rattle.lines.specs.Forms.{Values, longest}

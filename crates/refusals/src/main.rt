@@ -93,7 +93,7 @@ fn opens(step: u8, scheme: u8, size: u8, width: u8, mem: &mut [u8]) {
     let size = size as usize;
     let width = width as usize;
     match step {
-        b's' => report::print_sent(sender::open(mem, scheme, size, width)),
+        b's' => report::print_answer(sender::open(mem, scheme, size, width)),
         b'S' => {
             sender::open(mem, scheme, size, width);
         }
@@ -111,7 +111,7 @@ fn takes(step: u8, args: &[u8; 16], n: usize, mem: &mut [u8], work: &mut [u8], o
 {
     let bytes = memory::part(args, 0, n);
     match step {
-        b'a' => report::print_sent(sender::add_adu(mem, 1, bytes, out)),
+        b'a' => report::print_answer(sender::add_adu(mem, 1, bytes, out)),
         b'p' => report::source(mem, work, bytes),
         b'q' => report::repair(mem, work, bytes),
         _ => {}

@@ -1,10 +1,10 @@
 // What the printing programs share: numbers, bytes in hexadecimal and refusals on standard output, and calls whose answers are printed.
 ghost use Prim.Native.Nat.{_<_};
 use libc::STDOUT_FILENO;
-use receiver::Answer;
 use receiver::PacketAnswer;
 use sender::RepairAnswer;
 use starts::Handed;
+use wire::Answer;
 use wire::Esi;
 use wire::Refusal;
 
@@ -43,14 +43,6 @@ pub fn print_refusal(refusal: Refusal) {
     print_number(wire::refusal_number(refusal) as usize);
 }
 
-// What opening a sender or adding an ADU answered.
-pub fn print_sent(answer: sender::Answer) {
-    match answer {
-        sender::Answer::Done(n) => print_number(n),
-        sender::Answer::Refused(refusal) => print_refusal(refusal),
-    }
-}
-
 // What making repair answered, without the draws.
 pub fn print_made(answer: RepairAnswer) {
     match answer {
@@ -59,7 +51,7 @@ pub fn print_made(answer: RepairAnswer) {
     }
 }
 
-// What opening a receiver or a symbol call answered.
+// What opening, adding an ADU or a symbol call answered.
 pub fn print_answer(answer: Answer) {
     match answer {
         Answer::Done(n) => print_number(n),

@@ -1,4 +1,8 @@
 -- The repair symbols of a packet: each combined by slot, and one after the other in the output; then the packet, its draws, and what the call promises.
+-- one repair symbol: symbol-made
+-- one after the other: joined-more; carried-none, carried-more, carried-all (record Carried); getD-map-in, length-symbols, getD-symbols
+-- the packet: symbols-of, packed-refused, packed-done; sized-map, sized, counted, length-packet, draws-packet
+-- the call: repairs, repair-made, refused-made
 use mathlib.Core.Path.{_≡_, refl, sym, ap, _∙_}
 use mathlib.Core.Bool.{Bool, true, false, _||_, not}
 use mathlib.Core.Option.{some, Option·some-injective}
@@ -26,10 +30,10 @@ use Rattle.coefficients.specs.Coefficients.{keys, listsOf, allOk, drawsOf, pack
 use Rattle.coefficients.proofs.Lists.{length-keys, packet-draws-most, written-draws}
 use Rattle.coefficients.proofs.Fills.{lists-cut}
 use Rattle.sender.specs.declared.Header.{Header}
-use Rattle.sender.specs.declared.Answer.the-variants.{Refused}
+use Rattle.wire.specs.declared.Answer.the-variants.{Refused}
 use Rattle.sender.specs.declared.RepairAnswer.{RepairAnswer}
 use Rattle.sender.specs.declared.RepairAnswer.the-variants.{Made, NotMade}
-use Rattle.sender.specs.State.{headerIn}
+use Rattle.sender.specs.State.{headerSize, headerIn}
 use Rattle.sender.specs.Calls.{done, repairing}
 use Rattle.sender.specs.Promises.{answerOf, Repairs, Draws, RepairMade}
 use Rattle.sender.specs.Repair.{repairSymbol, writtenKey}
@@ -42,20 +46,22 @@ use Rattle.sender.proofs.Repairing.{length-stored, getD-stored, packet-
 
 -- coefficients laid by slot combine the slots to what the list combines the window to
 pub symbol-made : (h : Header) (m list cs : List ℕ) → Opened m h → length list ≡ h .held → length cs ≡ h .setting .width → Laid (firstSlot h) list cs
-    → combined (coefficient cs) (rowAt m 32 (h .setting .size) (h .setting .size)) (length cs) (replicate (h .setting .size) 0)
+    → combined (coefficient cs) (rowAt m headerSize (h .setting .size) (h .setting .size)) (length cs) (replicate (h .setting .size) 0)
     ≡ combination (h .setting .size) list (windowIn h m)
 unfolding rowAt
 symbol-made h m list cs o ll lc laid =
     let e = h .setting .size in
-    let row = rowAt m 32 e e in
+    let row = rowAt m headerSize e e in
     let lw : length (windowIn h m) ≡ length list = length-stored e (h .setting .width) m (firstSlot h) (h .held) ∙ sym ll in
-    let room : 32 + length cs * e ≤ length m = rw lc (o .room) in
+    let room : headerSize + length cs * e ≤ length m = rw lc (o .room) in
     let slot : (i j : ℕ) → j < length list → getD (row ((firstSlot h + j) % length cs)) i 0 ≡ getD (getD (windowIn h m) j []) i 0 =
     λ i j g. rw lc (ap (λ (x : List ℕ). getD x i 0) (sym (getD-stored e (h .setting .width) m (firstSlot h) (h .held) j (rw ll at g)))) in
-    combined-sums e row (coefficient cs) (length cs) (long-rows m 32 e e (length cs) (omega arith) room) list (windowIn h m)
+    combined-sums e row (coefficient cs) (length cs) (long-rows m headerSize e e (length cs) (omega arith) room) list (windowIn h m)
     (λ i k.
     laid .sum (λ k. getD (row k) i 0)
-    ∙ rw lw (dot-same (coefficient list) (λ j. getD (row ((firstSlot h + j) % length cs)) i 0) (coefficient list) (λ j. getD (getD (windowIn h m) j []) i 0) (length list) (λ j g. refl) (slot i)))
+    ∙ rw lw
+    (dot-same (coefficient list) (λ j. getD (row ((firstSlot h + j) % length cs)) i 0) (coefficient list) (λ j. getD (getD (windowIn h m) j []) i 0)
+    (length list) (λ j g. refl) (slot i)))
 
 -- ---- symbols one after the other in the output
 
@@ -96,11 +102,12 @@ module _ (h : Header) (m : List ℕ) (count : ℕ) (lists : List ℕ) where
   unfolding symbolsFrom
   length-symbols = length-map (chunks count (h .held) lists) _ ∙ length-chunks count (h .held) lists
 
-  pub getD-symbols : (i : ℕ) → i < count → getD (symbolsFrom h m count lists) i [] ≡ combination (h .setting .size) (part (i * h .held) (h .held) lists) (windowIn h m)
+  pub getD-symbols : (i : ℕ) → i < count
+      → getD (symbolsFrom h m count lists) i [] ≡ combination (h .setting .size) (part (i * h .held) (h .held) lists) (windowIn h m)
   unfolding symbolsFrom
   getD-symbols i k =
-      getD-map-in (λ (cs : List ℕ). combination (h .setting .size) cs (windowIn h m)) (chunks count (h .held) lists) i (rw (length-chunks count (h .held) lists) k)
-      ∙ ap (λ (cs : List ℕ). combination (h .setting .size) cs (windowIn h m)) (getD-chunks count (h .held) lists i k)
+      let symbol : List ℕ → List ℕ = λ cs. combination (h .setting .size) cs (windowIn h m) in
+      getD-map-in symbol (chunks count (h .held) lists) i (rw (length-chunks count (h .held) lists) k) ∙ ap symbol (getD-chunks count (h .held) lists i k)
 
 -- ---- the packet
 

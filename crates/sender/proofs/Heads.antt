@@ -1,9 +1,13 @@
 -- The header of a sender: what reading it finds, what refusal 3 stands for, and what writing it leaves.
+-- answers told apart: setting-good, setting-bad, header-is, header-none; sizes: header-room, area
+-- reading: found, none-short, none-held, none-next, none-setting; opened (record Opened)
+-- refusal 3: holds-header, zeros-unopened, other-unopened, short-unopened
+-- writing: part-head, header-kept; counts-chain, counts-held, counts-next, counts-esi, counts-written
 use mathlib.Core.Path.{_≡_, refl, sym, ap, _∙_}
 use mathlib.Core.Bool.{Bool, true, false, _&&_}
 use mathlib.Core.Option.{Option, none, some, Option·none-ne-some, Option·some-injective}
-use Prim.Native.Nat.{ℕ, _+_, _^_, _≤_, _<_}
-use native.Mathlib.Nat.{zero-add}
+use Prim.Native.Nat.{ℕ, _+_, _*_, _^_, _≤_, _<_}
+use native.Mathlib.Nat.{zero-add, mul-le-mul}
 use native.Mathlib.Omega.{arith}
 use mathlib.Core.List.{List, _++_}
 use lib.ListN.{length, take, length-take}
@@ -19,9 +23,9 @@ use Rattle.wire.specs.Packets.{zeros}
 use Rattle.wire.specs.declared.Checked.{Checked}
 use Rattle.wire.specs.declared.Checked.the-variants.{Good, Bad}
 use Rattle.wire.specs.Settings.{settingIn, Valid, checkedOf}
-use Rattle.wire.proofs.Settings.{setting-found, setting-kept, zeros-none, one-kind}
+use Rattle.wire.proofs.Settings.{both, setting-found, setting-kept, zeros-none, one-kind}
 use Rattle.sender.specs.declared.Header.{Header}
-use Rattle.sender.specs.State.{Sender, memorySize, headerWith, headerIn, headerOf, Holds}
+use Rattle.sender.specs.State.{Sender, headerSize, memorySize, headerWith, headerIn, headerOf, Holds}
 use Rattle.sender.specs.declared.Found.{Found}
 use Rattle.sender.specs.declared.Found.the-variants.{HeaderIs, NoHeader}
 use Rattle.sender.specs.Inner.{foundOf, countBytes}
@@ -44,9 +48,16 @@ pub header-none : (o : Option Header) {r : Found} → r ≡ foundOf o → r ≡ 
 header-none none e f = refl
 header-none (some x) e f = cc
 
-both : (a b : Bool) → (a && b) ≡ true → (a ≡ true) × (b ≡ true)
-both true b e = (refl, e)
-both false b e = (e, cc)
+-- ---- sizes
+
+-- the numbers of the header lie in it
+pub header-room : 16 ≤ headerSize
+unfolding headerSize
+header-room = omega arith
+
+-- and the slots are far from filling a usize
+pub area : (t : Setting) → Valid t → t .width * t .size ≤ 382500
+area t v = mul-le-mul (v .width-most) (v .size-most)
 
 -- ---- reading
 
@@ -137,17 +148,20 @@ short-unopened m s n h l = go (settingIn 1 (take n m)) refl
 
 -- ---- writing
 
-part-head : (a n : ℕ) (m m′ : List ℕ) → a + n ≤ 32 → take 32 m ≡ take 32 m′ → part a n m ≡ part a n m′
+part-head : (a n : ℕ) (m m′ : List ℕ) → a + n ≤ headerSize → take headerSize m ≡ take headerSize m′ → part a n m ≡ part a n m′
 unfolding part
 part-head a n m m′ h e =
-    let f : (l : List ℕ) → part a n (take 32 l) ≡ part a n l = λ l. rw zero-add at (part-part 0 32 a n l h) in
+    let f : (l : List ℕ) → part a n (take headerSize l) ≡ part a n l = λ l. rw zero-add at (part-part 0 headerSize a n l h) in
     sym (f m) ∙ ap (part a n) e ∙ f m′
 
--- the header is in the first 32 bytes
-pub header-kept : (m m′ : List ℕ) (h : Header) → take 32 m′ ≡ take 32 m → length m′ ≡ length m → headerIn m ≡ some h → headerIn m′ ≡ some h
+-- the header is in its bytes
+pub header-kept : (m m′ : List ℕ) (h : Header) → take headerSize m′ ≡ take headerSize m → length m′ ≡ length m → headerIn m ≡ some h
+    → headerIn m′ ≡ some h
 header-kept m m′ h e l o =
+    let least = header-room in
     let a = opened m h o in
-    let s : settingIn 1 m′ ≡ settingIn 1 m = setting-kept 1 m′ m (sym (take-take 8 32 m′ (omega arith)) ∙ ap (take 8) e ∙ take-take 8 32 m (omega arith)) in
+    let front : take 8 m′ ≡ take 8 m = sym (take-take 8 headerSize m′ (omega arith)) ∙ ap (take 8) e ∙ take-take 8 headerSize m (omega arith) in
+    let s = setting-kept 1 m′ m front in
     let x = part-head 8 2 m′ m (omega arith) e in
     let y = part-head 10 2 m′ m (omega arith) e in
     let i : numbers (h .setting) m′ ≡ h = rw (x, y, part-head 12 4 m′ m (omega arith) e) (a .is) in
@@ -157,9 +171,11 @@ header-kept m m′ h e l o =
 
 module _ (held next esi : ℕ) where
   -- stores of the numbers one after the other
-  pub counts-chain : {m₁ m₂ m₃ : List ℕ} (m : List ℕ) → 8 ≤ length m → m₁ ≡ splice 8 (bytes 2 held) m → m₂ ≡ splice 10 (bytes 2 next) m₁ → m₃ ≡ splice 12 (bytes 4 esi) m₂
+  pub counts-chain : {m₁ m₂ m₃ : List ℕ} (m : List ℕ) → 8 ≤ length m
+      → m₁ ≡ splice 8 (bytes 2 held) m → m₂ ≡ splice 10 (bytes 2 next) m₁ → m₃ ≡ splice 12 (bytes 4 esi) m₂
       → m₃ ≡ splice 8 (countBytes held next esi) m
-  counts-chain m h e₁ e₂ e₃ = rw (e₃, e₂, e₁, splice-next 8 (bytes 2 held) (bytes 2 next) m h, splice-next 8 (bytes 2 held ++ bytes 2 next) (bytes 4 esi) m h)
+  counts-chain m h e₁ e₂ e₃ =
+      rw (e₃, e₂, e₁, splice-next 8 (bytes 2 held) (bytes 2 next) m h, splice-next 8 (bytes 2 held ++ bytes 2 next) (bytes 4 esi) m h)
 
   counts-held : held < 2 ^ 16 → number (part 0 2 (countBytes held next esi)) ≡ held
   unfolding part
@@ -174,12 +190,15 @@ module _ (held next esi : ℕ) where
   counts-esi h = number-bytes 4 esi h
 
 -- the numbers of the header that change were written
-pub counts-written : (m : List ℕ) (t : Setting) (held next esi : ℕ) → settingIn 1 m ≡ some t → Valid t → memorySize t ≤ length m → held ≤ t .width → next < t .width → esi < 2 ^ 32
+pub counts-written : (m : List ℕ) (t : Setting) (held next esi : ℕ) → settingIn 1 m ≡ some t → Valid t → memorySize t ≤ length m
+    → held ≤ t .width → next < t .width → esi < 2 ^ 32
     → headerIn (splice 8 (countBytes held next esi) m) ≡ some (record { setting = t; held = held; next = next; esi = record { 0 = esi } })
 counts-written m t held next esi e v room a b c =
-    let m′ = splice 8 (countBytes held next esi) m in
-    let s : settingIn 1 m′ ≡ some t = setting-kept 1 m′ m (take-splice 8 8 (countBytes held next esi) m (omega arith) (omega arith)) ∙ e in
-    let x : number (part 8 2 m′) ≡ held = ap number (part-within 8 0 2 (countBytes held next esi) m (omega arith) (omega arith)) ∙ counts-held held next esi (omega arith) in
-    let y : number (part 10 2 m′) ≡ next = ap number (part-within 8 2 2 (countBytes held next esi) m (omega arith) (omega arith)) ∙ counts-next held next esi (omega arith) in
-    let z : number (part 12 4 m′) ≡ esi = ap number (part-within 8 4 4 (countBytes held next esi) m (omega arith) (omega arith)) ∙ counts-esi held next esi c in
-    rw (x, y, z) at (found m′ t s (rw (length-splice 8 (countBytes held next esi) m (omega arith)) room) (rw x a) (rw y b))
+    let least = header-room in
+    let counts = countBytes held next esi in
+    let m′ = splice 8 counts m in
+    let s : settingIn 1 m′ ≡ some t = setting-kept 1 m′ m (take-splice 8 8 counts m (omega arith) (omega arith)) ∙ e in
+    let x : number (part 8 2 m′) ≡ held = ap number (part-within 8 0 2 counts m (omega arith) (omega arith)) ∙ counts-held held next esi (omega arith) in
+    let y : number (part 10 2 m′) ≡ next = ap number (part-within 8 2 2 counts m (omega arith) (omega arith)) ∙ counts-next held next esi (omega arith) in
+    let z : number (part 12 4 m′) ≡ esi = ap number (part-within 8 4 4 counts m (omega arith) (omega arith)) ∙ counts-esi held next esi c in
+    rw (x, y, z) at (found m′ t s (rw (length-splice 8 counts m (omega arith)) room) (rw x a) (rw y b))

@@ -16,7 +16,7 @@ use Rattle.wire.specs.declared.Scheme.the-variants.{Gf2, Gf256}
 use Rattle.wire.specs.Numbers.{within, esiBefore}
 use Rattle.coefficients.specs.Coefficients.{keys, allOk}
 use Rattle.sender.specs.declared.Header.{Header}
-use Rattle.sender.specs.State.{Sender, window, windowStart, headerOf, Holds}
+use Rattle.sender.specs.State.{Sender, window, windowStart, headerSize, headerOf, Holds}
 use Rattle.sender.specs.Repair.{writtenKey}
 use Rattle.sender.specs.Calls.{refused, done, repairOf, repairing}
 use Rattle.sender.specs.Inner.{firstSlot, stored, windowIn, packetFrom}
@@ -30,7 +30,8 @@ pub length-stored : (size width : ℕ) (m : List ℕ) (first n : ℕ) → length
 length-stored size width m first zero = refl
 length-stored size width m first (suc n) = ap suc (length-stored size width m (first + 1) n)
 
-pub getD-stored : (size width : ℕ) (m : List ℕ) (first n i : ℕ) → i < n → getD (stored size width m first n) i [] ≡ part (32 + (first + i) % width * size) size m
+pub getD-stored : (size width : ℕ) (m : List ℕ) (first n i : ℕ) → i < n
+    → getD (stored size width m first n) i [] ≡ part (headerSize + (first + i) % width * size) size m
 getD-stored size width m first zero i h = absurd (not-suc-le-zero h)
 getD-stored size width m first (suc n) zero h = rw (add-zero first)
 getD-stored size width m first (suc n) (suc i) h =
@@ -72,7 +73,8 @@ module _ (m : List ℕ) (s : Sender) (h : Holds m s) where
   unfolding packetFrom
   packet-of key dt count =
       let v = opened m (headerOf s) (h .header) .valid in
-      let e : esiBefore (length (s .symbols) % 2 ^ 32) (length (window s)) ≡ windowStart s % 2 ^ 32 = rw (held-is s) (esi-of (length (s .symbols)) (s .setting .width) (v .width-most)) in
+      let e : esiBefore (length (s .symbols) % 2 ^ 32) (length (window s)) ≡ windowStart s % 2 ^ 32 =
+      rw (held-is s) (esi-of (length (s .symbols)) (s .setting .width) (v .width-most)) in
       rw (window-of, e)
 
 -- ---- the key that is written
@@ -110,7 +112,8 @@ module _ (key dt count room : ℕ) (s : Sender) where
       repairing-short l = rw (g, ne-eqb (length (window s)) 0 some-held, lt-ltb room (8 + count * s .setting .size) (rw q at l))
 
       module _ (l : 8 + count * h .setting .size ≤ room) where
-        pub repairing-draws : allOk (h .setting .scheme) dt (h .held) (keys (writtenKey (h .setting .scheme) key dt) count) ≡ false → repairing s key dt count room ≡ refused 10
+        pub repairing-draws : allOk (h .setting .scheme) dt (h .held) (keys (writtenKey (h .setting .scheme) key dt) count) ≡ false
+            → repairing s key dt count room ≡ refused 10
         unfolding repairing
         repairing-draws d =
             rw (g, ne-eqb (length (window s)) 0 some-held, le-ltb room (8 + count * s .setting .size) (rw q at l), rw q at d)

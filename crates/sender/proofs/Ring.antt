@@ -9,7 +9,7 @@ use lib.ListN.{length, getD, length-append, List·getD-append}
 use lib.Seq.{getD-append-seam}
 use Rattle.memory.specs.Part.{part, splice}
 use Rattle.memory.proofs.Parts.{length-splice, take-splice, part-splice, part-before, part-past, past-splice}
-use Rattle.sender.specs.State.{InSlots}
+use Rattle.sender.specs.State.{headerSize, InSlots}
 use Rattle.sender.specs.Inner.{Placed}
 
 -- below or not
@@ -33,17 +33,17 @@ before e r q h = omega (arith, mul-le-mul-right e h, suc-mul r e)
 
 module _ (e w : ℕ) (z : 0 < w) where
   -- a slot lies in the memory
-  pub slot-fits : (m : List ℕ) (q : ℕ) → q < w → 32 + w * e ≤ length m → 32 + q * e + e ≤ length m
+  pub slot-fits : (m : List ℕ) (q : ℕ) → q < w → headerSize + w * e ≤ length m → headerSize + q * e + e ≤ length m
   slot-fits m q l h = omega (arith, before e q w l)
 
-  module _ (m : List ℕ) (xs : List (List ℕ)) (x : List ℕ) (lx : length x ≡ e) (room : 32 + w * e ≤ length m) (old : InSlots e w m xs) where
-    ends : 32 + length xs % w * e + e ≤ length m
+  module _ (m : List ℕ) (xs : List (List ℕ)) (x : List ℕ) (lx : length x ≡ e) (room : headerSize + w * e ≤ length m) (old : InSlots e w m xs) where
+    ends : headerSize + length xs % w * e + e ≤ length m
     ends = slot-fits m (length xs % w) (mod-lt (length xs) z) room
 
-    new : part (32 + length xs % w * e) e (splice (32 + length xs % w * e) x m) ≡ x
-    new = rw lx at (part-splice (32 + length xs % w * e) x m (omega (arith, ends)))
+    new : part (headerSize + length xs % w * e) e (splice (headerSize + length xs % w * e) x m) ≡ x
+    new = rw lx at (part-splice (headerSize + length xs % w * e) x m (omega (arith, ends)))
 
-    kept : (p : ℕ) → p < length xs → length xs < p + w → part (32 + p % w * e) e (splice (32 + length xs % w * e) x m) ≡ getD xs p []
+    kept : (p : ℕ) → p < length xs → length xs < p + w → part (headerSize + p % w * e) e (splice (headerSize + length xs % w * e) x m) ≡ getD xs p []
     kept p h k =
         below (p % w) (length xs % w)
         (λ b. part-before _ e _ x m (omega (arith, before e (p % w) (length xs % w) b)) (omega (arith, ends)) ∙ old p h (omega arith))
@@ -52,10 +52,10 @@ module _ (e w : ℕ) (z : 0 < w) where
         past : length xs % w ≤ p % w → length xs % w < p % w
         past b = below (length xs % w) (p % w) (λ l. l) (λ g. absurd (mod-apart w p (length xs) h k (omega arith)))
 
-    pub slots-more : InSlots e w (splice (32 + length xs % w * e) x m) (xs ++ (x ∷ []))
+    pub slots-more : InSlots e w (splice (headerSize + length xs % w * e) x m) (xs ++ (x ∷ []))
     slots-more p h k = go (ℕ-discrete p (length xs))
       where
-        go : Dec (p ≡ length xs) → part (32 + p % w * e) e (splice (32 + length xs % w * e) x m) ≡ getD (xs ++ (x ∷ [])) p []
+        go : Dec (p ≡ length xs) → part (headerSize + p % w * e) e (splice (headerSize + length xs % w * e) x m) ≡ getD (xs ++ (x ∷ [])) p []
         go (yes i) = rw i (new ∙ sym (getD-append-seam xs x [] []))
         go (no n) =
             let l : p < length xs = omega (arith, length-append xs (x ∷ [])) in
@@ -74,18 +74,19 @@ module _ (e w : ℕ) (m : List ℕ) (first : ℕ) where
     slots = λ xs q old. rw append-nil old;
   }
 
-  module _ (new : List (List ℕ)) (m′ : List ℕ) (next : ℕ) (p : Placed e w m first new m′ next) (x : List ℕ) (lx : length x ≡ e) (room : 32 + w * e ≤ length m) where
+  module _ (new : List (List ℕ)) (m′ : List ℕ) (next : ℕ) (p : Placed e w m first new m′ next) (x : List ℕ) (lx : length x ≡ e)
+      (room : headerSize + w * e ≤ length m) where
     z : 0 < w
     z = omega (arith, p .within)
 
-    ends′ : 32 + next * e + e ≤ length m′
+    ends′ : headerSize + next * e + e ≤ length m′
     ends′ = slot-fits e w z m′ next (p .within) (omega (arith, p .same))
 
-    pub placed-more : Placed e w m first (new ++ (x ∷ [])) (splice (32 + next * e) x m′) ((next + 1) % w)
+    pub placed-more : Placed e w m first (new ++ (x ∷ [])) (splice (headerSize + next * e) x m′) ((next + 1) % w)
     placed-more = record {
-      same = length-splice (32 + next * e) x m′ (omega (arith, ends′)) ∙ p .same;
-      head = take-splice 32 (32 + next * e) x m′ (omega arith) (omega (arith, ends′)) ∙ p .head;
-      past = past-splice (32 + w * e) (32 + next * e) x m′ (omega (arith, before e next w (p .within))) (omega (arith, ends′)) ∙ p .past;
+      same = length-splice (headerSize + next * e) x m′ (omega (arith, ends′)) ∙ p .same;
+      head = take-splice headerSize (headerSize + next * e) x m′ (omega arith) (omega (arith, ends′)) ∙ p .head;
+      past = past-splice (headerSize + w * e) (headerSize + next * e) x m′ (omega (arith, before e next w (p .within))) (omega (arith, ends′)) ∙ p .past;
       within = mod-lt (next + 1) z;
       slot = λ xs q. rw (p .slot xs q, mod-add-mod, ← append-assoc xs new (x ∷ []), length-append (xs ++ new) (x ∷ []));
       slots = λ xs q old.

@@ -17,11 +17,11 @@ use Rattle.wire.specs.Packets.{symbolCount, sourceSymbols}
 use Rattle.wire.proofs.Adui.{symbols-count}
 use Rattle.wire.proofs.Settings.{setting-written}
 use Rattle.sender.specs.declared.Header.{Header}
-use Rattle.sender.specs.declared.Answer.the-variants.{Done}
-use Rattle.sender.specs.State.{Sender, window, windowStart, fresh, taken, memorySize, headerIn, headerOf}
+use Rattle.wire.specs.declared.Answer.the-variants.{Done}
+use Rattle.sender.specs.State.{Sender, window, windowStart, fresh, taken, headerSize, memorySize, headerIn, headerOf}
 use Rattle.sender.specs.Promises.{DoneWith}
 use Rattle.sender.specs.Inner.{countBytes, Placed, Took}
-use Rattle.sender.proofs.Heads.{opened, header-kept, counts-written}
+use Rattle.sender.proofs.Heads.{header-room, opened, header-kept, counts-written}
 
 -- the number of symbols in the window
 pub held-is : (s : Sender) → length (window s) ≡ min (length (s .symbols)) (s .setting .width)
@@ -35,22 +35,23 @@ counts-past : (k : ℕ) (held next esi : ℕ) (m : List ℕ) → 16 ≤ k → 8 
 counts-past k held next esi m h l = past-splice k 8 (countBytes held next esi) m (omega arith) l
 
 -- the header of a sender that took an ADU
-taken-header : (s : Sender) (flow : ℕ) (adu : List ℕ) (held next : ℕ) → held ≡ min (length (window s) + symbolCount (s .setting .size) (length adu)) (s .setting .width)
-    → next ≡ length (taken s flow adu .symbols) % s .setting .width
-    → headerOf (taken s flow adu)
-    ≡ record { setting = s .setting; held = held; next = next; esi = record { 0 = esiAfter (length (s .symbols) % 2 ^ 32) (symbolCount (s .setting .size) (length adu)) } }
+taken-header : (s : Sender) (flow : ℕ) (adu : List ℕ) (held next : ℕ)
+    → let n = symbolCount (s .setting .size) (length adu) in
+    held ≡ min (length (window s) + n) (s .setting .width) → next ≡ length (taken s flow adu .symbols) % s .setting .width
+    → headerOf (taken s flow adu) ≡ record { setting = s .setting; held = held; next = next; esi = record { 0 = esiAfter (length (s .symbols) % 2 ^ 32) n } }
 taken-header s flow adu held next eh en =
     let T = length (s .symbols) in
     let n = symbolCount (s .setting .size) (length adu) in
     let w = s .setting .width in
-    let c : length (taken s flow adu .symbols) ≡ T + n = length-append (s .symbols) _ ∙ ap (λ (k : ℕ). T + k) (symbols-count flow adu (s .setting .size)) in
+    let c : length (taken s flow adu .symbols) ≡ T + n =
+    length-append (s .symbols) _ ∙ ap (λ (k : ℕ). T + k) (symbols-count flow adu (s .setting .size)) in
     let a : length (window (taken s flow adu)) ≡ held = held-is (taken s flow adu) ∙ rw (c, eh, held-is s) (sym (capped T w n)) in
     let b : (T + n) % 2 ^ 32 ≡ esiAfter (T % 2 ^ 32) n = sym (mod-add-mod T (2 ^ 32) n) in
     rw (a, ← en, c, b)
 
 -- a slot past the header
-behind : (m m′ : List ℕ) → drop 32 m′ ≡ drop 32 m → (a n : ℕ) → part (32 + a) n m′ ≡ part (32 + a) n m
-behind m m′ e a n = rw (part-drop 32 a n m′, part-drop 32 a n m, e)
+behind : (m m′ : List ℕ) → drop headerSize m′ ≡ drop headerSize m → (a n : ℕ) → part (headerSize + a) n m′ ≡ part (headerSize + a) n m
+behind m m′ e a n = rw (part-drop headerSize a n m′, part-drop headerSize a n m, e)
 
 -- symbols were placed, and then the numbers of the header written
 pub took : (h : Header) (flow : ℕ) (adu m m₁ : List ℕ) (next count held : ℕ) → headerIn m ≡ some h
@@ -58,6 +59,7 @@ pub took : (h : Header) (flow : ℕ) (adu m m₁ : List ℕ) (next count held : 
     → Placed (h .setting .size) (h .setting .width) m (h .next) (sourceSymbols flow adu (h .setting .size)) m₁ next
     → Took h flow adu m (splice 8 (countBytes held next (esiAfter (h .esi .0) count)) m₁)
 took h flow adu m m₁ next count held o ec eh p =
+    let least = header-room in
     let t = h .setting in
     let esi = esiAfter (h .esi .0) count in
     let m₂ = splice 8 (countBytes held next esi) m₁ in
@@ -74,7 +76,8 @@ took h flow adu m m₁ next count held o ec eh p =
           let p′ = rw q at p in
           record {
             header = e ∙ ap some (rw (ec, q) (sym (taken-header s flow adu held next (rw (ec, q) at eh) (p′ .slot (s .symbols) refl))));
-            slots = λ i a b. behind m₁ m₂ (counts-past 32 held next esi m₁ (omega arith) (omega arith)) (i % s .setting .width * s .setting .size) (s .setting .size)
+            slots = λ i a b.
+                behind m₁ m₂ (counts-past headerSize held next esi m₁ (omega arith) (omega arith)) (i % s .setting .width * s .setting .size) (s .setting .size)
                 ∙ p′ .slots (s .symbols) refl (k .slots) i a b;
           };
     }
@@ -90,6 +93,7 @@ pub opens : (t : Setting) (m : List ℕ) → Valid t → memorySize t ≤ length
     → DoneWith [] (fresh t) m [] (Done 0) (splice 8 (countBytes 0 0 0) (splice 0 (settingBytes 1 t) m)) []
 unfolding settingBytes
 opens t m v room =
+    let least = header-room in
     let m₁ = splice 0 (settingBytes 1 t) m in
     let l : length m₁ ≡ length m = length-splice 0 (settingBytes 1 t) m (omega arith) in
     let e = counts-written m₁ t 0 0 0 (setting-written 1 t m (omega arith) v) v (rw l room) (omega arith) (omega arith) (lit< tt) in

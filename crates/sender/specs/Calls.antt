@@ -9,7 +9,7 @@ use lib.Dec.{eqb, ltb}
 use Rattle.wire.specs.declared.Setting.{Setting}
 use Rattle.wire.specs.Numbers.{within}
 use Rattle.wire.specs.Settings.{settingOf}
-use Rattle.wire.specs.Packets.{symbolCount, sourcePacket, repairPacket}
+use Rattle.wire.specs.Packets.{longestAdu, symbolCount, sourcePacket, repairPacket}
 use Rattle.coefficients.specs.Coefficients.{keys, allOk}
 use Rattle.sender.specs.State.{Sender, window, windowStart, fresh, taken, memorySize}
 use Rattle.sender.specs.Repair.{repairSymbol, writtenKey}
@@ -34,7 +34,7 @@ opening scheme size width room = openingWith (settingOf scheme size width) room
 -- adding an ADU of a flow, with `room` bytes of output: refusals 4, 2
 unfoldable pub adding : Sender → (flow : ℕ) (adu : List ℕ) (room : ℕ) → Outcome
 adding s flow adu room =
-    refuseIf (ltb 65535 (length adu) || ltb (s .setting .width) (symbolCount (s .setting .size) (length adu))) 4
+    refuseIf (ltb longestAdu (length adu) || ltb (s .setting .width) (symbolCount (s .setting .size) (length adu))) 4
     (refuseIf (ltb room (length adu + 4)) 2
     (done (sourcePacket adu (length (s .symbols) % 2 ^ 32)) (taken s flow adu)))
 

@@ -12,7 +12,7 @@ use Rattle.wire.specs.declared.Refusal.the-variants.{Draws}
 use Rattle.wire.specs.Numbers.{esiBefore}
 use Rattle.wire.specs.declared.Setting.{Setting}
 use Rattle.wire.specs.Settings.{Valid}
-use Rattle.wire.specs.Packets.{symbolCount, sourceSymbols, chunks, repairPacket}
+use Rattle.wire.specs.Packets.{longestAdu, symbolCount, sourceSymbols, chunks, repairPacket}
 use Rattle.rows.specs.Combination.{dot, coefficient, combination}
 use Rattle.coefficients.specs.Coefficients.{keys, allOk, drawsOf}
 use Rattle.sender.specs.declared.RepairAnswer.{RepairAnswer}
@@ -20,7 +20,7 @@ use Rattle.sender.specs.declared.RepairAnswer.the-variants.{Made, NotMad
 use Rattle.sender.specs.declared.Header.{Header}
 use Rattle.sender.specs.declared.Found.{Found}
 use Rattle.sender.specs.declared.Found.the-variants.{HeaderIs, NoHeader}
-use Rattle.sender.specs.State.{Sender, taken, memorySize, InSlots, Holds}
+use Rattle.sender.specs.State.{Sender, taken, headerSize, memorySize, InSlots, Holds}
 use Rattle.sender.specs.Repair.{repairSymbol, writtenKey}
 
 -- ---- the header
@@ -40,14 +40,14 @@ pub record Fitting (t : Setting) (m : List ℕ) (first : ℕ) (adu : List ℕ) (
   pub valid : Valid t
   pub room : memorySize t ≤ length m
   pub slot : first < t .width
-  pub short : length adu ≤ 65535
+  pub short : length adu ≤ longestAdu
   pub counted : count ≡ symbolCount (t .size) (length adu)
 
 -- new symbols were placed from slot `first` on: m became m′, and the slot after them is next
 pub record Placed (size width : ℕ) (m : List ℕ) (first : ℕ) (new : List (List ℕ)) (m′ : List ℕ) (next : ℕ) : Type 0 where
   pub same : length m′ ≡ length m
-  pub head : take 32 m′ ≡ take 32 m
-  pub past : drop (32 + width * size) m′ ≡ drop (32 + width * size) m
+  pub head : take headerSize m′ ≡ take headerSize m
+  pub past : drop (headerSize + width * size) m′ ≡ drop (headerSize + width * size) m
   pub within : next < width
   pub slot : (xs : List (List ℕ)) → first ≡ length xs % width → next ≡ length (xs ++ new) % width
   pub slots : (xs : List (List ℕ)) → first ≡ length xs % width → InSlots size width m xs → InSlots size width m′ (xs ++ new)
@@ -58,7 +58,7 @@ PlacedAdu t first flow adu m m′ next = Placed (t .size) (t .width) m first (so
 
 -- an ADU of `count` symbols can be taken
 pub record Takeable (t : Setting) (adu : List ℕ) (count : ℕ) : Type 0 where
-  pub short : length adu ≤ 65535
+  pub short : length adu ≤ longestAdu
   pub counted : count ≡ symbolCount (t .size) (length adu)
   pub few : count ≤ t .width
 
@@ -84,7 +84,7 @@ firstSlot h = (h .next + h .setting .width - h .held) % h .setting .width
 -- n symbols as they stand in the memory, from a slot on, around the window
 abbrev pub stored : (size width : ℕ) → List ℕ → (first n : ℕ) → List (List ℕ)
 stored size width m first zero = []
-stored size width m first (suc n) = part (32 + first % width * size) size m ∷ stored size width m (first + 1) n
+stored size width m first (suc n) = part (headerSize + first % width * size) size m ∷ stored size width m (first + 1) n
 
 -- the window's symbols
 abbrev pub windowIn : Header → List ℕ → List (List ℕ)

@@ -6,25 +6,17 @@ use Prim.Native.Nat.{ℕ, _≤_}
 use mathlib.Core.List.{List, []}
 use lib.ListN.{length, take, drop}
 use Rattle.memory.specs.Part.{splice}
-use Rattle.wire.specs.Numbers.{numberOf}
+use Rattle.memory.specs.Contained.{Contained}
+use Rattle.wire.specs.Answers.{Said, value, refusal, said}
 use Rattle.coefficients.specs.Coefficients.{keys, drawsOf, packetDraws}
-use Rattle.sender.specs.declared.Answer.{Answer}
-use Rattle.sender.specs.declared.Answer.the-variants.{Done, Refused}
+use Rattle.wire.specs.declared.Answer.{Answer}
+use Rattle.wire.specs.declared.Answer.the-variants.{Done, Refused}
 use Rattle.sender.specs.declared.RepairAnswer.{RepairAnswer}
 use Rattle.sender.specs.declared.RepairAnswer.the-variants.{Made, NotMade}
 use Rattle.sender.specs.declared.Header.{Header}
 use Rattle.sender.specs.State.{Sender, memorySize, headerIn, Holds}
 use Rattle.sender.specs.Repair.{writtenKey}
 use Rattle.sender.specs.Calls.{Outcome, refused, done, opening, adding, repairing}
-
--- what an answer says: how many bytes were written, or the number of a refusal
-pub data Said : Type 0 where
-  bytes : ℕ → Said
-  refusal : ℕ → Said
-
-abbrev pub said : Answer → Said
-said (Done n) = bytes n
-said (Refused n) = refusal (numberOf n)
 
 -- the refusal n: memory and output are as they were
 pub record RefusedWith (n : ℕ) (m out : List ℕ) (r : Answer) (m′ out′ : List ℕ) : Type 0 where
@@ -35,7 +27,7 @@ pub record RefusedWith (n : ℕ) (m out : List ℕ) (r : Answer) (m′ out′ : 
 -- the packet was written at the front of the output, the answer is its length, and the memory holds s; the rest of the output, and the memory past
 -- the size that s needs, are as they were
 pub record DoneWith (packet : List ℕ) (s : Sender) (m out : List ℕ) (r : Answer) (m′ out′ : List ℕ) : Type 0 where
-  pub answer : said r ≡ bytes (length packet)
+  pub answer : said r ≡ value (length packet)
   pub output : out′ ≡ splice 0 packet out
   pub holds : Holds m′ s
   pub length : length m′ ≡ length m
@@ -48,20 +40,19 @@ Follows (done packet s) m out r m′ out′ = DoneWith packet s m out r m′ out
 
 -- what an answer leaves as it was: output past the bytes written; all of memory and output where it is a refusal, which is not 3
 abbrev pub Leaves : Said → (m out m′ out′ : List ℕ) → Type 0
-Leaves (bytes n) m out m′ out′ = drop n out′ ≡ drop n out
+Leaves (value n) m out m′ out′ = drop n out′ ≡ drop n out
 Leaves (refusal n) m out m′ out′ = (n ≡ 3 → ⊥) × (m′ ≡ m) × (out′ ≡ out)
 
--- memory and output keep their lengths, and memory past the size that the header's setting needs is as it was
-pub record Contained (h : Header) (m out : List ℕ) (r : Answer) (m′ out′ : List ℕ) : Type 0 where
-  pub memory : length m′ ≡ length m
+-- memory and output keep their lengths, memory past the size that the header's setting needs is as it was, and so is what the answer leaves
+pub record Kept (h : Header) (m out : List ℕ) (r : Answer) (m′ out′ : List ℕ) : Type 0 where
+  pub memory : Contained (memorySize (h .setting)) m m′
   pub output : length out′ ≡ length out
-  pub past : drop (memorySize (h .setting)) m′ ≡ drop (memorySize (h .setting)) m
   pub leaves : Leaves (said r) m out m′ out′
 
--- a call that comes to f of the sender, on any memory: refusal 3 where it has no sender's header; contained where it has one; and f where it holds a sender
+-- a call that comes to f of the sender, on any memory: refusal 3 where it has no sender's header; kept where it has one; and f where it holds a sender
 pub record Promise (f : Sender → Outcome) (m out : List ℕ) (r : Answer) (m′ out′ : List ℕ) : Type 0 where
   pub unopened : headerIn m ≡ none → RefusedWith 3 m out r m′ out′
-  pub contained : (h : Header) → headerIn m ≡ some h → Contained h m out r m′ out′
+  pub kept : (h : Header) → headerIn m ≡ some h → Kept h m out r m′ out′
   pub follows : (s : Sender) → Holds m s → Follows (f s) m out r m′ out′
 
 -- ---- each call

@@ -1,5 +1,5 @@
--- What a sender is (document 01, "Packets"; RFC 8681, section 3.3), and how its memory holds it: a header of 32 bytes, then a slot of E bytes for
--- each symbol of the window.
+-- What a sender is (document 01, "Packets"; RFC 8681, section 3.3), and how its memory holds it: a header, then a slot of E bytes for each
+-- symbol of the window.
 use mathlib.Core.Path.{_≡_}
 use mathlib.Core.Bool.{cond, _&&_}
 use mathlib.Core.Option.{Option, none, some}
@@ -37,9 +37,13 @@ taken s flow adu = record { setting = s .setting; symbols = s .symbols ++ source
 
 -- ---- the memory
 
+-- the bytes of the header
+unfoldable pub headerSize : ℕ
+headerSize = 32
+
 -- the bytes of memory that a sender needs
 abbrev pub memorySize : Setting → ℕ
-memorySize t = 32 + t .width * t .size
+memorySize t = headerSize + t .width * t .size
 
 -- the header of a sender of the setting: how many symbols the window has, and the slot and the ESI of the next symbol; none where the memory is
 -- too short for the setting, or the numbers are not of its window
@@ -66,7 +70,7 @@ headerOf s = record {
 -- each symbol of the window stands in its slot, that of position p in slot p mod width
 abbrev pub InSlots : ℕ → ℕ → List ℕ → List (List ℕ) → Type 0
 InSlots size width m symbols =
-    (p : ℕ) → p < length symbols → length symbols ≤ p + width → part (32 + p % width * size) size m ≡ getD symbols p []
+    (p : ℕ) → p < length symbols → length symbols ≤ p + width → part (headerSize + p % width * size) size m ≡ getD symbols p []
 
 -- the memory m holds the sender s
 pub record Holds (m : List ℕ) (s : Sender) : Type 0 where

@@ -4,7 +4,7 @@ ghost use Prim.Native.Nat.{_+_, _*_, _<_, _≤_};
 ghost use lib.ListN.{length};
 ghost use mathlib.Core.Option.{some};
 ghost use Rattle.memory.specs.Part.{part, splice};
-ghost use Rattle.wire.specs.Packets.{symbolCount, adui};
+ghost use Rattle.wire.specs.Packets.{longestAdu, symbolCount, adui};
 ghost use Rattle.sender.specs.State.{headerIn};
 ghost use Rattle.sender.specs.Inner.{Fitting, PlacedAdu, Takeable, Took};
 use super::Header;
@@ -13,7 +13,7 @@ use wire::Setting;
 
 // The i-th symbol of an ADU, of `size` bytes, at a.
 fn place_symbol(mem: &mut [u8], a: usize, size: usize, flow: u8, adu: &[u8], i: usize)
-    requires { ⌜ (a + size ≤ length (now mem)) × (4 ≤ size) × (size ≤ 1500) × (length (now adu) ≤ 65535) × (i < symbolCount size (length (now adu))) ⌝ }
+    requires { ⌜ (a + size ≤ length (now mem)) × (4 ≤ size) × (size ≤ 1500) × (length (now adu) ≤ longestAdu) × (i < symbolCount size (length (now adu))) ⌝ }
     ensures { λ _. ⌜ now (mem .exit) ≡ splice a (part (i * size) size (adui flow (now (adu .entry)) size)) (now (mem .entry)) ⌝ }
 {
     wire::write_symbol(&mut mem[a..a + size], flow, adu, i);
@@ -35,7 +35,7 @@ fn place_symbols(
     let width = setting.width;
     let mut slot = first;
     for i in 0..count {
-        place_symbol(mem, 32 + slot * size, size, flow, adu, i);
+        place_symbol(mem, front::HEADER + slot * size, size, flow, adu, i);
         slot = memory::next(slot, width);
     }
     slot

@@ -19,14 +19,14 @@ use Rattle.decoder.specs.Model as model
 use Rattle.decoder.specs.Receiver as decoder
 use Rattle.decoder.specs.Packets as packets
 use Rattle.sender.specs.declared.Header.{Header}
-use Rattle.sender.specs.State.{Sender, fresh, headerIn}
+use Rattle.sender.specs.State.{Sender, fresh, headerSize, headerIn}
 use Rattle.sender.specs.Repair.{repairSymbol}
 use Rattle.sender.specs.Calls.{Outcome, refused, done, opening, adding, repairing}
 use Rattle.starts.specs.Adu.{joint, Handing, hands, withholds, need, handing}
 use Rattle.starts.specs.Starts.{Starts, nowhere, pass}
 use Rattle.history.specs.Symbol.{bytesOf}
 use Rattle.history.specs.History.{Call, source-call, repair-call, esiOf, sideOf, check, fromSide, readSource, readRepair, reading, workingSize}
-use Rattle.history.specs.History.{Said, value, refusal as refuses}
+use Rattle.wire.specs.Answers.{Said, value, refusal as refuses}
 use Rattle.history.specs.Model as receiver
 use Rattle.receiver.specs.Promises.{drawsFor}
 use Rattle.history.specs.Model.{State, foundBy, saidOf, stateAfter, answering, receiving, Finding, shows, hides, finding, startsAfter, marking, aduAt}
@@ -336,7 +336,7 @@ unfolding
     computing product inverse inverse-below nonzeroFrom bitOf byteOf extend coefficientsOf packetDraws combination
     symbolCount adui sourceSymbols sourcePacket sourceForm sourceAdu sourceEsi
     repairHeader repairPacket repairCount repairForm repairKey densityThreshold protectedCount firstEsi repairSymbols
-    inRange settingOf field part settingIn headerIn repairSymbol opening adding repairing
+    inRange settingOf field part settingIn headerSize headerIn repairSymbol opening adding repairing
     sideOf check fromSide readSource readRepair reading answering finding
     packets.source packets.source-rows packets.row packets.only packets.repair
     decoder.empty decoder.receive decoder.rise decoder.newly decoder.count-new decoder.is-new

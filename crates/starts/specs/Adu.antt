@@ -9,7 +9,7 @@ use lib.Dec.{eqb, leb}
 use Rattle.memory.specs.Part.{part}
 use Rattle.memory.specs.Number.{number}
 use Rattle.wire.specs.Numbers.{numberOf}
-use Rattle.wire.specs.Packets.{symbolCount}
+use Rattle.wire.specs.Packets.{longestAdu, symbolCount}
 use Rattle.starts.specs.declared.Handed.{Handed}
 use Rattle.starts.specs.declared.Handed.the-variants.{Adu, Withheld}
 
@@ -78,5 +78,5 @@ HandedAs (withholds n) out out′ (Withheld x) = (numberOf x ≡ n) × (out′ �
 
 -- The same without a word of what was written: on any memory. L is a number of two bytes.
 abbrev pub Leaves : (out out′ : List ℕ) → Handed → Type 0
-Leaves out out′ (Adu flow L) = (L ≤ 65535) × (L ≤ length out) × (length out′ ≡ length out) × (drop L out′ ≡ drop L out)
+Leaves out out′ (Adu flow L) = (L ≤ longestAdu) × (L ≤ length out) × (length out′ ≡ length out) × (drop L out′ ≡ drop L out)
 Leaves out out′ (Withheld x) = out′ ≡ out

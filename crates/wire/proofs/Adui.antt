@@ -1,4 +1,9 @@
 -- The ADUI: its length, and its symbols, each a stretch of the ADU or, the first, what stands before it and the ADU's first bytes.
+-- padding: take-zeros, take-padded, length-padded, counted, copied
+-- the ADUI: room, least, length-adui; its symbols: before-end, symbol-start, symbol-first, symbol-later
+-- stores: first-stored, all-stored, stored-length; a symbol written: first-written, later-written
+-- stretches: length-chunks, getD-chunks, chunks-sized; the symbols of an ADU: symbols-count, symbol-at, symbol-length, symbols-sized
+-- a packet at the front of the output: front-next
 use mathlib.Core.Path.{_≡_, refl, sym, ap, _∙_}
 use mathlib.Core.Bool.{Bool, true, false}
 use Prim.Native.Nat.{ℕ, zero, suc, _+_, _-_, _*_, _≤_, _<_, min}

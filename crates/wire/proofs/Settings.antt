@@ -1,4 +1,6 @@
 -- What refusals 1 and 3 stand for: which numbers name a setting, and in which memory a header keeps one.
+-- three numbers: within-true, within-bounds, both; setting-named, setting-names (record Named)
+-- the header: short-none, other-none, header-read; zeros-none, one-kind; setting-found (record Headed); setting-written, setting-kept
 use mathlib.Core.Path.{_≡_, refl, sym, ap, subst, _∙_}
 use mathlib.Core.Bool.{Bool, true, false, _&&_}
 use mathlib.Core.Option.{Option, none, some, Option·none-ne-some, Option·some-injective}

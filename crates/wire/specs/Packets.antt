@@ -29,6 +29,10 @@ abbrev pub Sized : ℕ → List (List ℕ) → Type 0
 Sized E [] = Unit {0}
 Sized E (x ∷ xs) = (length x ≡ E) × Sized E xs
 
+-- an ADU has at most so many bytes: its length stands in two
+abbrev pub longestAdu : ℕ
+longestAdu = 65535
+
 -- how many symbols of E bytes the ADUI of an ADU of L bytes takes: 3 + L bytes, the last symbol padded
 unfoldable pub symbolCount : ℕ → ℕ → ℕ
 symbolCount E L = (3 + L + (E - 1)) / E

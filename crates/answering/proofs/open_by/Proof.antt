@@ -12,7 +12,8 @@ use Rattle.wire.specs.declared.Setting.{Setting}
 use Rattle.wire.specs.Settings.{settingOf}
 use Rattle.wire.proofs.Settings.{setting-names}
 use Rattle.history.specs.History.{workingSize}
-use Rattle.receiver.specs.Promises.{said, opening}
+use Rattle.wire.specs.Answers.{said}
+use Rattle.receiver.specs.Promises.{opening}
 use Rattle.lines.specs.Forms.{longest}
 use Rattle.lines.specs.Reading.{on, valuesIn}
 use Rattle.records.specs.Records.{room}

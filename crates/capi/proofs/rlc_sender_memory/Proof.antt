@@ -2,7 +2,7 @@
 use native.Mathlib.Omega.{arith}
 use Rattle.wire.specs.declared.Setting.{Setting}
 use Rattle.wire.specs.Settings.{Valid}
-use Rattle.sender.specs.State.{memorySize}
+use Rattle.sender.specs.State.{headerSize, memorySize}
 use Rattle.coding.proofs.Coding.{asked-none, asked-some, asked-valid}
 use borrow.Author.Needs.{needs}
 use Rattle.capi.proofs.rlc_sender_memory.Statement.{statement}
@@ -24,6 +24,7 @@ coded-size-requires : tie.Need-coded-size-requires
 coded-size-requires c κs = let v = valid (c .before) in (search needs, omega (arith, v .width-most), omega (arith, v .width-most, v .size-most))
 
 returns-2 : tie.Need-returns-2
+unfolding headerSize
 returns-2 c =
     let p = c .before .before in
     asked-some _ _ (p .before .before .setting-of .ensures) memorySize (c .coded-size .ok) (setting p) (p .setting .given .1) (c .coded-size .ensures)

@@ -1,5 +1,5 @@
 -- `coding::coded_receiver` meets its contract.
-use Rattle.receiver.specs.Promises.{said}
+use Rattle.wire.specs.Answers.{said}
 use Rattle.coding.proofs.Coding.{coded-case}
 use borrow.Author.Needs.{needs}
 use Rattle.coding.proofs.coded_receiver.Statement.{statement}

@@ -1,15 +1,15 @@
 -- `coding::coded_sender` meets its contract.
-use Rattle.coding.specs.Coding.{senderSaid}
+use Rattle.wire.specs.Answers.{said}
 use Rattle.coding.proofs.Coding.{coded-case}
 use borrow.Author.Needs.{needs}
 use Rattle.coding.proofs.coded_sender.Statement.{statement}
 use Rattle.coding.proofs.coded_sender.Tie as tie
 
 returns : tie.Need-returns
-returns c = coded-case senderSaid (c .coded-value .ok) (c .before .before .answer .given .1) (c .coded-value .ensures)
+returns c = coded-case said (c .coded-value .ok) (c .before .before .answer .given .1) (c .coded-value .ensures)
 
 returns-2 : tie.Need-returns-2
-returns-2 c = coded-case senderSaid (c .coded-refusal .ok) (c .before .before .answer2 .given .1) (c .coded-refusal .ensures)
+returns-2 c = coded-case said (c .coded-refusal .ok) (c .before .before .answer2 .given .1) (c .coded-refusal .ensures)
 
 pub coded-sender-spec : {M : Type 1} → statement M
 coded-sender-spec =

@@ -34,7 +34,8 @@ returns-3 : tie.Need-returns-3
 returns-3 c =
     let p = c .before .before .before .before .before .before in
     let n = c .before .before .symbol-count .ensures in
-    promise-refused _ _ _ (header p) (has p) _ (λ e. omega arith) (λ s k q. adding-many _ _ _ s (header p) q (c .before .before .before .before .if1 .left) (rw n at (c .if2 .taken)))
+    let short = c .before .before .before .before .if1 .left in
+    promise-refused _ _ _ (header p) (has p) _ (λ e. omega arith) (λ s k q. adding-many _ _ _ s (header p) q short (rw n at (c .if2 .taken)))
 
 returns-4 : tie.Need-returns-4
 returns-4 c =
@@ -45,20 +46,27 @@ returns-4 c =
 
 take-adu-requires : tie.Need-take-adu-requires
 take-adu-requires c κs =
-    (has (c .before .before .before .before .before .before .before .before), record { short = c .before .before .before .before .before .before .if1 .left; counted = c .before .before .before .before .symbol-count .ensures; few = c .before .before .if2 .left })
+    let few = c .before .before in
+    let count = few .before .before in
+    let short = count .before .before in
+    (has (short .before .before), record { short = short .if1 .left; counted = count .symbol-count .ensures; few = few .if2 .left })
 
 write-source-requires : tie.Need-write-source-requires
 write-source-requires c κs = c .before .before .before .before .before .if3 .left
 
 returns-5 : tie.Need-returns-5
 returns-5 c =
-    let p = c .before .before .before .before .before .before .before .before .before .before .before .before .before .before .before in
-    let n = c .before .before .before .before .before .before .before .before .before .before .before .symbol-count .ensures in
-    let l = c .before .before .before .before .before .before .before .before .before .before .before .before .before .if1 .left in
-    let room = c .before .before .before .before .before .before .before .before .if3 .left in
-    let t = c .before .before .before .before .before .before .take-adu .ensures in
+    let took = c .before .before .before .before .before .before in
+    let roomy = took .before .before in
+    let few = roomy .before in
+    let count = few .before .before in
+    let short = count .before .before in
+    let p = short .before .before in
+    let n = rw (count .symbol-count .ensures) at (few .if2 .left) in
+    let room = roomy .if3 .left in
+    let t = took .take-adu .ensures in
     promise-done _ _ _ (header p) (has p) _ _ _ _ (source-length _ _) room (c .before .before .write-source .ensures) (t .same) (t .past)
-    (λ s k q. (taken s _ _, adding-done _ _ _ s (header p) q l (rw n at (c .before .before .before .before .before .before .before .before .before .if2 .left)) room, t .holds s k, ap (λ (x : Header). x .setting) q))
+    (λ s k q. (taken s _ _, adding-done _ _ _ s (header p) q (short .if1 .left) n room, t .holds s k, ap (λ (x : Header). x .setting) q))
 
 pub add-adu-spec : {M : Type 1} → statement M
 add-adu-spec =

@@ -7,8 +7,11 @@ use Rattle.sender.proofs.front.write_counts.Tie as tie
 
 returns : tie.Need-returns
 returns c =
-    let a = c .before .before .before .before .before .before .before .before .before .before .before .before .before .args in
-    counts-chain (a .held) (a .next) (a .esi .0) (a .mem .now) (omega arith) (c .before .before .before .before .before .before .before .before .before .before .store-u16 .ensures) (c .before .before .before .before .before .before .store-u162 .ensures) (c .before .before .store-u32 .ensures)
+    let esi = c .before .before in
+    let next = esi .before .before .before .before in
+    let held = next .before .before .before .before in
+    let a = held .before .before .before .args in
+    counts-chain (a .held) (a .next) (a .esi .0) (a .mem .now) (omega arith) (held .store-u16 .ensures) (next .store-u162 .ensures) (esi .store-u32 .ensures)
 
 pub write-counts-spec : {M : Type 1} → statement M
 write-counts-spec =

@@ -29,7 +29,8 @@ loop-again c =
     let a = c .before .before .before .before .before .before .args in
     let l = c .before .before .before .loop in
     let e : length (l .cs) ≡ length (a .cs .now) = l .inv .3 in
-    (search needs, refl, refl, rw length-set e, laying-more (a .first) (a .list .now) (l .cs) (l .slot) (c .next .result) (l .i) (omega arith) (rw e (c .next .ensures .0)) (l .inv .4))
+    let more = laying-more (a .first) (a .list .now) (l .cs) (l .slot) (c .next .result) (l .i) (omega arith) (rw e (c .next .ensures .0)) (l .inv .4) in
+    (search needs, refl, refl, rw length-set e, more)
 
 returns : tie.Need-returns Inv-loop μ-loop
 returns c = let l = c .before .loop in laying-done _ _ _ (l .slot) (l .i) (omega arith) (l .inv .4)

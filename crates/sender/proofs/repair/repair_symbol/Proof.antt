@@ -1,10 +1,12 @@
 -- `sender::repair::repair_symbol` meets its contract.
 use mathlib.Core.Path.{_≡_, sym, _∙_}
+use Prim.Native.Nat.{ℕ}
 use native.Mathlib.Nat.{mod-lt}
 use native.Mathlib.Omega.{arith}
 use mathlib.Core.List.{_++_}
 use lib.ListN.{length, take, drop, length-append}
 use lib.Seq.{length-take-le, take-at}
+use Rattle.sender.specs.State.{headerSize}
 use Rattle.sender.specs.Inner.{Laid, firstSlot}
 use Rattle.sender.proofs.Heads.{Opened, opened}
 use Rattle.sender.proofs.Laying.{zero-front}
@@ -17,18 +19,28 @@ use Rattle.sender.proofs.repair.repair_symbol.Tie as tie
 says : (p : tie.Start) → Opened (p .args .mem .now) (p .args .header)
 says p = opened _ _ (p .pre .0)
 
+-- where there is a coefficient of zero for each slot, and the start before that
+abbrev start : tie.After-no-coefficients → tie.Start
+start p = p .before .before .before .before .before
+
+abbrev blank : tie.After-lay → tie.After-no-coefficients
+blank p = p .before .before .before
+
+abbrev width : tie.After-no-coefficients → ℕ
+width p = start p .args .header .setting .width
+
 -- a coefficient for each slot
-front : (p : tie.After-no-coefficients) → length (take (p .before .before .before .before .before .args .header .setting .width) (p .no-coefficients .result)) ≡ p .before .before .before .before .before .args .header .setting .width
-front p = let o = says (p .before .before .before .before .before) in length-take-le _ _ (omega arith)
+front : (p : tie.After-no-coefficients) → length (take (width p) (p .no-coefficients .result)) ≡ width p
+front p = let o = says (start p) in length-take-le _ _ (omega arith)
 
-filled : (p : tie.After-lay) → length (p .lay .last .0) ≡ p .before .before .before .before .before .before .before .before .args .header .setting .width
-filled p = p .lay .kept .0 ∙ front (p .before .before .before)
+filled : (p : tie.After-lay) → length (p .lay .last .0) ≡ width (blank p)
+filled p = p .lay .kept .0 ∙ front (blank p)
 
-lent : (p : tie.After-lay) → take (p .before .before .before .before .before .before .before .before .args .header .setting .width) (p .lay .last .0 ++ drop (p .before .before .before .before .before .before .before .before .args .header .setting .width) (p .before .before .before .no-coefficients .result)) ≡ p .lay .last .0
+lent : (p : tie.After-lay) → take (width (blank p)) (p .lay .last .0 ++ drop (width (blank p)) (blank p .no-coefficients .result)) ≡ p .lay .last .0
 lent p = take-at (p .lay .last .0) _ _ (filled p)
 
 array-borrow-prefix-cs : tie.Need-array-borrow-prefix-cs
-array-borrow-prefix-cs c = let o = says (c .before .before .before .before .before) in omega arith
+array-borrow-prefix-cs c = let o = says (start c) in omega arith
 
 slice-aggregate-lay : tie.Need-slice-aggregate-lay
 slice-aggregate-lay c = sym (front (c .before))
@@ -38,10 +50,15 @@ first-slot-requires c κs = let o = says (c .before .before .before .before .bef
 
 lay-requires : tie.Need-lay-requires
 lay-requires c κs =
-    let s = c .before .before .before .before .before .before .before in
+    let p = c .before .before in
+    let s = start p in
     let o = says s in
-    let l = front (c .before .before) in
-    (rw (l, c .first-slot .ensures) (mod-lt _ (omega arith)), rw (l, s .pre .2) (o .held), rw l (o .valid .width-most), zero-front (s .args .header .setting .width) (c .before .before .no-coefficients .result) (c .before .before .no-coefficients .ensures .1))
+    let l = front p in (
+      rw (l, c .first-slot .ensures) (mod-lt _ (omega arith)),
+      rw (l, s .pre .2) (o .held),
+      rw l (o .valid .width-most),
+      zero-front (width p) (p .no-coefficients .result) (p .no-coefficients .ensures .1),
+    )
 
 array-share-prefix-cs : tie.Need-array-share-prefix-cs
 array-share-prefix-cs c = rw length-append (omega (arith, filled (c .before .before)))
@@ -50,15 +67,20 @@ slice-aggregate-combine : tie.Need-slice-aggregate-combine
 slice-aggregate-combine c = rw (lent (c .before .before .before)) (sym (filled (c .before .before .before)))
 
 combine-requires : tie.Need-combine-requires
-combine-requires c κs = let o = says (c .before .before .before .before .before .before .before .before .before .before .before) in (omega arith, rw (lent (c .before .before .before), filled (c .before .before .before)) (o .room))
+unfolding headerSize
+combine-requires c κs =
+    let p = c .before .before .before in
+    let o = says (start (blank p)) in
+    (omega arith, rw (lent p, filled p) (o .room))
 
 returns : tie.Need-returns
+unfolding headerSize
 returns c =
-    let s = c .before .before .before .before .before .before .before .before .before .before .before .before .before .before in
-    let a = s .args in
     let p = c .before .before .before .before .before .before in
+    let s = start (blank p) in
+    let a = s .args in
     let cs = p .lay .last .0 in
-    let laid : Laid (firstSlot (a .header)) (a .list .now) cs = rw (c .before .before .before .before .before .before .before .first-slot .ensures) at (p .lay .ensures) in
+    let laid : Laid (firstSlot (a .header)) (a .list .now) cs = rw (p .before .first-slot .ensures) at (p .lay .ensures) in
     let e = rw (lent p, s .pre .1) at (c .before .before .combine .ensures) in
     e ∙ symbol-made (a .header) (a .mem .now) (a .list .now) cs (says s) (s .pre .2) (filled p) laid
 

@@ -6,6 +6,7 @@ use mathlib.Core.List.{List, []}
 use lib.ListN.{length, getD}
 use Rattle.memory.specs.Part.{splice}
 use Rattle.memory.proofs.Parts.{cut, put, length-part, length-splice, row-fits}
+use Rattle.sender.specs.declared.Header.{Header}
 use Rattle.sender.specs.Inner.{windowIn, symbolsFrom}
 use Rattle.sender.proofs.Combining.{Carried, carried-none, carried-more, carried-all, length-symbols, getD-symbols}
 use Rattle.rows.proofs.Combinations.{length-combination}
@@ -19,12 +20,23 @@ Inv-loop out₀ mem header lists count size held i₀ out i =
 abbrev μ-loop : tie.MeasureT-loop
 μ-loop out₀ mem header lists count size held i₀ out i = count - i
 
--- symbol i lies in the output, and its coefficients in the lists
-inside : (p : tie.In-loop Inv-loop μ-loop) → 8 + p .before .loop .i * p .before .before .before .before .before .args .header .setting .size + p .before .before .before .before .before .args .header .setting .size ≤ length (p .before .loop .out)
-inside p = let a = p .before .before .before .before .before .args in omega (arith, row-fits (a .count) (a .header .setting .size) (p .before .loop .i) (p .loop-test .taken), p .before .before .before .before .before .pre .1 .symbols, p .before .loop .inv .1)
+-- the start, and the header of the call
+abbrev start : tie.In-loop Inv-loop μ-loop → tie.Start Inv-loop μ-loop
+start p = p .before .before .before .before .before
 
-within : (p : tie.In-loop Inv-loop μ-loop) → p .before .loop .i * p .before .before .before .before .before .args .header .held + p .before .before .before .before .before .args .header .held ≤ length (p .before .before .before .before .before .args .lists .now)
-within p = let a = p .before .before .before .before .before .args in omega (arith, row-fits (a .count) (a .header .held) (p .before .loop .i) (p .loop-test .taken), p .before .before .before .before .before .pre .1 .lists)
+abbrev header : tie.In-loop Inv-loop μ-loop → Header
+header p = start p .args .header
+
+-- symbol i lies in the output, and its coefficients in the lists
+inside : (p : tie.In-loop Inv-loop μ-loop) → 8 + p .before .loop .i * header p .setting .size + header p .setting .size ≤ length (p .before .loop .out)
+inside p =
+    let s = start p in
+    omega (arith, row-fits (s .args .count) (header p .setting .size) (p .before .loop .i) (p .loop-test .taken), s .pre .1 .symbols, p .before .loop .inv .1)
+
+within : (p : tie.In-loop Inv-loop μ-loop) → p .before .loop .i * header p .held + header p .held ≤ length (start p .args .lists .now)
+within p =
+    let s = start p in
+    omega (arith, row-fits (s .args .count) (header p .held) (p .before .loop .i) (p .loop-test .taken), s .pre .1 .lists)
 
 loop-holds : tie.Need-loop-holds Inv-loop μ-loop
 loop-holds c = (omega arith, refl, carried-none _ _ _)

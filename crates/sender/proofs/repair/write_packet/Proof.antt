@@ -39,7 +39,9 @@ fill-lists-requires c κs =
 refuses : tie.Need-returns
 refuses c =
     let a = c .before .before .before .before .before .before .before .before .before .before .before .args in
-    packed-refused (a .header) (a .key .0) (a .dt) (a .count) (a .mem .now) (a .out .now) _ (c .before .before .before .before .before .before .written-key .ensures) (lists-were-refused (c .before .before .before .fill-lists .ensures) (c .enum-told .given .1))
+    packed-refused (a .header) (a .key .0) (a .dt) (a .count) (a .mem .now) (a .out .now) _
+    (c .before .before .before .before .before .before .written-key .ensures)
+    (lists-were-refused (c .before .before .before .fill-lists .ensures) (c .enum-told .given .1))
 
 -- where the lists were drawn, and the start before that
 abbrev drawn : tie.After-draws → tie.After-fill-lists
@@ -82,8 +84,11 @@ writes c =
     let a = start d .args in
     let f = drawn d .fill-lists .ensures in
     let done = lists-were-done f (d .draws .given .1) in
-    packed-done (a .header) (a .key .0) (a .dt) (a .count) (a .mem .now) (a .out .now) _ (drawn d .before .before .before .written-key .ensures) (done .0) _ _ _ _ _
-    (c .before .before .before .before .before .before .before .before .before .minus .ensures) (f .bytes _ (d .draws .given .1)) (c .before .before .before .before .before .before .before .before .write-repair .ensures) (c .before .before .before .repair-symbols .ensures) _ (done .1)
+    let headed = c .before .before .before .before .before .before .before .before in
+    packed-done (a .header) (a .key .0) (a .dt) (a .count) (a .mem .now) (a .out .now) _
+    (drawn d .before .before .before .written-key .ensures) (done .0) _ _ _ _ _
+    (headed .before .minus .ensures) (f .bytes _ (d .draws .given .1)) (headed .write-repair .ensures)
+    (c .before .before .before .repair-symbols .ensures) _ (done .1)
 
 pub write-packet-spec : {M : Type 1} → statement M
 write-packet-spec =

@@ -18,9 +18,11 @@ write-symbol-requires c κs = rw (lent (c .before .before .before)) (search need
 
 returns : tie.Need-returns
 returns c =
-    let a = c .before .before .before .before .before .before .args in
-    put (a .a) (a .size) (c .before .before .write-symbol .last .0) (a .mem .now) (omega arith) (c .before .before .write-symbol .kept .0)
-    ∙ ap (λ (x : List ℕ). splice (a .a) x (a .mem .now)) (rw (lent (c .before .before .before .before .before .before)) at (c .before .before .write-symbol .ensures))
+    let s = c .before .before .before .before .before .before in
+    let a = s .args in
+    let x = c .before .before .write-symbol in
+    put (a .a) (a .size) (x .last .0) (a .mem .now) (omega arith) (x .kept .0)
+    ∙ ap (λ (y : List ℕ). splice (a .a) y (a .mem .now)) (rw (lent s) at (x .ensures))
 
 pub place-symbol-spec : {M : Type 1} → statement M
 place-symbol-spec =

@@ -1,7 +1,7 @@
 -- `sender::window::take_adu` meets its contract.
 use mathlib.Core.Path.{_∙_}
 use native.Mathlib.Omega.{arith}
-use Rattle.sender.proofs.Heads.{Opened, opened}
+use Rattle.sender.proofs.Heads.{header-room, Opened, opened}
 use Rattle.sender.proofs.Taking.{took}
 use borrow.Author.Needs.{needs}
 use Rattle.sender.proofs.window.take_adu.Statement.{statement}
@@ -27,18 +27,23 @@ write-counts-requires : tie.Need-write-counts-requires
 write-counts-requires c κs =
     let o = says (c .before .before .before .before .before .before .before .before .before .before .before .before) in
     let p = c .before .before .before .before .before .before .before .place-symbols .ensures in
-    omega (arith, p .same, p .within, c .before .before .before .least .ensures)
+    omega (arith, header-room, p .same, p .within, c .before .before .before .least .ensures)
 
 same-length : tie.Need-same-length
-same-length c = c .before .before .write-counts .kept .0 ∙ c .before .before .before .before .before .before .before .before .before .before .place-symbols .ensures .same
+same-length c =
+    let placed = c .before .before .before .before .before .before .before .before .before .before in
+    c .before .before .write-counts .kept .0 ∙ placed .place-symbols .ensures .same
 
 returns : tie.Need-returns
 returns c =
     let s = c .before .before .before .before .before .before .before .before .before .before .before .before .before .before .before in
     let a = s .args in
     let p = c .before .before .before .before .before .before .before .before .before .before .place-symbols in
+    let held = c .before .before .before .before .before .before .least in
     let e = rw (c .before .before .before .plus .ensures) at (c .before .before .write-counts .ensures) in
-    rw e (took (a .header) (a .flow) (a .adu .now) (a .mem .now) (p .last .0) (p .result) (a .count) (c .before .before .before .before .before .before .least .result) (s .pre .0) (s .pre .1 .counted) (c .before .before .before .before .before .before .least .ensures) (p .ensures))
+    rw e
+    (took (a .header) (a .flow) (a .adu .now) (a .mem .now) (p .last .0) (p .result) (a .count) (held .result) (s .pre .0) (s .pre .1 .counted)
+    (held .ensures) (p .ensures))
 
 pub take-adu-spec : {M : Type 1} → statement M
 take-adu-spec =
