@@ -22,7 +22,7 @@ pub extern "C" fn rlc_sender_memory(size: u32, width: u32) -> i64
     let Checked::Good(setting) = wire::setting_of(10, size as usize, width as usize) else {
         return coding::coded_refusal(Refusal::Values);
     };
-    coding::coded_size(32, setting.width, setting.size)
+    coding::coded_value(sender::memory_size(setting))
 }
 
 #[no_mangle]
@@ -32,7 +32,7 @@ pub extern "C" fn rlc_receiver_memory(size: u32, width: u32) -> i64
     let Checked::Good(setting) = wire::setting_of(10, size as usize, width as usize) else {
         return coding::coded_refusal(Refusal::Values);
     };
-    coding::coded_size(64, setting.width, setting.width + setting.size + 4)
+    coding::coded_value(receiver::memory_size(setting))
 }
 
 #[no_mangle]
@@ -42,7 +42,7 @@ pub extern "C" fn rlc_working_memory(size: u32, width: u32) -> i64
     let Checked::Good(setting) = wire::setting_of(10, size as usize, width as usize) else {
         return coding::coded_refusal(Refusal::Values);
     };
-    coding::coded_size(64, setting.width + 1, setting.width + setting.size + 4)
+    coding::coded_value(receiver::working_size(setting))
 }
 
 #[no_mangle]
@@ -60,7 +60,7 @@ pub extern "C" fn rlc_dw_max_size(budget: u64, bitrate: u64, size: u32, remainde
 pub extern "C" fn rlc_sender_open(memory: &mut [u8], scheme: u32, size: u32, width: u32) -> i64
     ensures { λ r. ⌜ Codes said (λ a. Opens scheme size width (now (memory .entry)) a (now (memory .exit))) r ⌝ }
 {
-    coding::coded_sender(sender::open(memory, scheme as usize, size as usize, width as usize))
+    coding::coded_answer(sender::open(memory, scheme as usize, size as usize, width as usize))
 }
 
 #[no_mangle]
@@ -68,7 +68,7 @@ pub extern "C" fn rlc_sender_add_adu(memory: &mut [u8], flow: u8, adu: &[u8], ou
     ensures { λ r. ⌜ Codes said
         (λ a. Adds flow (now (adu .entry)) (now (memory .entry)) (now (out .entry)) a (now (memory .exit)) (now (out .exit))) r ⌝ }
 {
-    coding::coded_sender(sender::add_adu(memory, flow, adu, out))
+    coding::coded_answer(sender::add_adu(memory, flow, adu, out))
 }
 
 #[no_mangle]
@@ -94,7 +94,7 @@ pub extern "C" fn rlc_sender_make_repair(
 pub extern "C" fn rlc_receiver_open(memory: &mut [u8], scheme: u32, size: u32, width: u32) -> i64
     ensures { λ r. ⌜ Codes said (Opened receiverLayout scheme size width (now (memory .entry)) (now (memory .exit))) r ⌝ }
 {
-    coding::coded_receiver(receiver::open(memory, scheme as usize, size as usize, width as usize))
+    coding::coded_answer(receiver::open(memory, scheme as usize, size as usize, width as usize))
 }
 
 #[no_mangle]
@@ -122,14 +122,14 @@ pub extern "C" fn rlc_receive_repair(memory: &mut [u8], work: &mut [u8], packet:
 pub extern "C" fn rlc_symbol(memory: &[u8], esi: u32) -> i64
     ensures { λ r. ⌜ Codes said (SymbolAnswered receiverLayout (now (memory .entry)) esi) r ⌝ }
 {
-    coding::coded_receiver(receiver::symbol(memory, Esi(esi)))
+    coding::coded_answer(receiver::symbol(memory, Esi(esi)))
 }
 
 #[no_mangle]
 pub extern "C" fn rlc_symbol_place(memory: &[u8], esi: u32) -> i64
     ensures { λ r. ⌜ Codes said (PlaceAnswered receiverLayout (now (memory .entry)) esi) r ⌝ }
 {
-    coding::coded_receiver(receiver::symbol_place(memory, Esi(esi)))
+    coding::coded_answer(receiver::symbol_place(memory, Esi(esi)))
 }
 
 #[no_mangle]

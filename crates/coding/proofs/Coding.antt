@@ -1,11 +1,10 @@
 -- Laws of the coding: of a value, of a refusal, of an answer whose case is known, and of the sizes.
-use mathlib.Core.Path.{_≡_, refl, sym, ap, _∙_, subst}
+use mathlib.Core.Path.{_≡_, refl, sym, ap, ap₂, _∙_, subst}
 use mathlib.Core.Logic.{_≢_}
-use mathlib.Core.Option.{Option, none, some}
 use Prim.Native.Nat.{ℕ, zero, suc, _+_, _*_, _^_, _≤_, _<_, min}
-use native.Mathlib.Nat.{mul-le-mul}
 use native.Mathlib.Omega.{arith}
-use lib.IntN.{ℤ, pos, negsuc, natAbs}
+use lib.Dec.{lit<}
+use lib.IntN.{ℤ, pos, negsuc, negℤ, natAbs, _-ℤ_, +ℤ-idl}
 use mir.Syntax.{w64}
 use lib.Signed.{mag}
 use mir.Val.{toZ, ofZ}
@@ -49,9 +48,16 @@ handed fits e = toZ-ofZ {w = w64} (record { sfits = fits }) ∙ e
 pub coded-case : {A : Type 0} (said : A → Said) {a b : A} {z : ℤ} → mag z < 2 ^ 63 → a ≡ b → z ≡ coded (said b) → toZ w64 (ofZ w64 z) ≡ coded (said a)
 coded-case said fits e h = handed fits h ∙ ap (λ x. coded (said x)) (sym e)
 
--- The refusal that was matched, as it is coded.
-pub refusal-case : {why one : Refusal} → why ≡ one → coded (refusal (numberOf one)) ≡ coded (refusal (numberOf why))
-refusal-case e = ap (λ x. coded (refusal (numberOf x))) (sym e)
+-- A number taken from 0 is the code of the refusal with that number, and has 63 bits and a sign.
+pub negated : (n : ℕ) → n < 2 ^ 63 → toZ w64 0 -ℤ toZ w64 n ≡ coded (refusal n)
+negated n h = ap₂ _-ℤ_ (toZ-pos w64 (lit< tt)) (toZ-pos w64 h) ∙ +ℤ-idl (negℤ (pos n))
+
+refusal-small : (n : ℕ) → n < 2 ^ 63 → mag (coded (refusal n)) < 2 ^ 63
+refusal-small zero h = h
+refusal-small (suc n) h = omega arith
+
+pub negated-fits : (n : ℕ) → n < 2 ^ 63 → mag (toZ w64 0 -ℤ toZ w64 n) < 2 ^ 63
+negated-fits n h = rw (negated n h) (refusal-small n h)
 
 -- ---- reading a code back
 
@@ -108,10 +114,6 @@ readable = record {
 
 -- ---- the sizes
 
--- A header and its stretches are far from filling 64 bits.
-pub area : (count bytes : ℕ) → count ≤ 256 → bytes ≤ 1759 → count * bytes ≤ 450304
-area count bytes a b = mul-le-mul a b
-
 -- The numbers named a setting, whose E and width have their values.
 pub asked-valid : (size width : ℕ) {r : Checked} → r ≡ checkedOf (settingOf 10 size width) → (s : Setting) → r ≡ Good s → Valid s
 asked-valid size width e s good = setting-names _ _ _ s (setting-good _ s e good) .valid
@@ -122,5 +124,5 @@ module _ (size width : ℕ) {r : Checked} (e : r ≡ checkedOf (settingOf 10 siz
   asked-none bad h = rw (setting-bad (settingOf 10 size width) e bad) (handed fits h)
 
   -- They named this one.
-  pub asked-some : (s : Setting) → r ≡ Good s → z ≡ coded (value (f s)) → toZ w64 (ofZ w64 z) ≡ coded (asked f (settingOf 10 size width))
-  asked-some s good h = rw (setting-good (settingOf 10 size width) s e good) (handed fits h)
+  pub asked-some : (s : Setting) → r ≡ Good s → (n : ℕ) → n ≡ f s → z ≡ coded (value n) → toZ w64 (ofZ w64 z) ≡ coded (asked f (settingOf 10 size width))
+  asked-some s good n is h = rw (setting-good (settingOf 10 size width) s e good) (handed fits (rw is at h))

@@ -1,12 +1,13 @@
 // How what a call answers is coded as one signed number.
 ghost use mathlib.Core.Path.{_≡_};
-ghost use Prim.Native.Nat.{_+_, _*_, _≤_};
+ghost use Prim.Native.Nat.{_+_, _*_};
 ghost use Rattle.wire.specs.Numbers.{numberOf};
 ghost use Rattle.wire.specs.Answers.{value, refusal, said};
 ghost use Rattle.receiver.specs.Promises.{handedSaid};
 ghost use Rattle.coding.specs.Coding.{coded, withDraws, packetSaid, repairSaid, windowSaid, remainderAfter};
 use latency::WindowAnswer;
 use starts::Handed;
+use wire::Answer;
 use wire::Refusal;
 
 // A value as it is coded.
@@ -23,41 +24,16 @@ pub fn coded_value(n: usize) -> i64
 pub fn coded_refusal(why: Refusal) -> i64
     ensures { λ r. ⌜ r ≡ coded (refusal (numberOf why)) ⌝ }
 {
-    match why {
-        Refusal::Values => -1,
-        Refusal::Short => -2,
-        Refusal::Unopened => -3,
-        Refusal::Long => -4,
-        Refusal::Form => -5,
-        Refusal::Range => -6,
-        Refusal::Empty => -7,
-        Refusal::Behind => -8,
-        Refusal::Ahead => -9,
-        Refusal::Draws => -10,
-        Refusal::Contradiction => -11,
-        Refusal::Unknown => -12,
-        Refusal::NoStart => -13,
-        Refusal::Padding => -14,
-    }
+    -(wire::refusal_number(why) as i64)
 }
 
-// An answer of the sender.
-pub fn coded_sender(answer: sender::Answer) -> i64
+// An answer of opening, of adding an ADU, or of a call for a symbol.
+pub fn coded_answer(answer: Answer) -> i64
     ensures { λ r. ⌜ r ≡ coded (said answer) ⌝ }
 {
     match answer {
-        sender::Answer::Done(n) => coded_value(n),
-        sender::Answer::Refused(why) => coded_refusal(why),
-    }
-}
-
-// An answer of the receiver.
-pub fn coded_receiver(answer: receiver::Answer) -> i64
-    ensures { λ r. ⌜ r ≡ coded (said answer) ⌝ }
-{
-    match answer {
-        receiver::Answer::Done(n) => coded_value(n),
-        receiver::Answer::Refused(why) => coded_refusal(why),
+        Answer::Done(n) => coded_value(n),
+        Answer::Refused(why) => coded_refusal(why),
     }
 }
 
@@ -128,12 +104,4 @@ pub fn coded_window(answer: WindowAnswer, remainder: &mut u64) -> i64
         }
         WindowAnswer::NotDivided(why) => coded_refusal(why),
     }
-}
-
-// The size of a memory: a header, and so many stretches of so many bytes.
-pub fn coded_size(header: usize, count: usize, bytes: usize) -> i64
-    requires { ⌜ (header ≤ 64) × (count ≤ 256) × (bytes ≤ 1759) ⌝ }
-    ensures { λ r. ⌜ r ≡ coded (value (header + count * bytes)) ⌝ }
-{
-    coded_value(header + count * bytes)
 }

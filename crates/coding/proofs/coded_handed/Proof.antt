@@ -5,19 +5,9 @@ use borrow.Author.Needs.{needs}
 use Rattle.coding.proofs.coded_handed.Statement.{statement}
 use Rattle.coding.proofs.coded_handed.Tie as tie
 
-returns : tie.Need-returns
-returns c = coded-case handedSaid (c .coded-adu .ok) (c .before .before .handed .given .1) (c .coded-adu .ensures)
-
-returns-2 : tie.Need-returns-2
-returns-2 c = coded-case handedSaid (c .coded-refusal .ok) (c .before .before .handed2 .given .1) (c .coded-refusal .ensures)
-
 pub coded-handed-spec : {M : Type 1} → statement M
 coded-handed-spec =
     tie.close
-    (tie.spec
-    (λ c. search needs)
-    (λ c κs. search needs)
-    (λ c. search needs)
-    (λ c κs. search needs)
-    returns
-    returns-2)
+    (tie.spec (λ c. search needs) (λ c κs. search needs) (λ c. search needs) (λ c κs. search needs)
+    (λ c. coded-case handedSaid (c .coded-adu .ok) (c .before .before .handed .given .1) (c .coded-adu .ensures))
+    (λ c. coded-case handedSaid (c .coded-refusal .ok) (c .before .before .handed2 .given .1) (c .coded-refusal .ensures)))

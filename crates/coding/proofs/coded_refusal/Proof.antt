@@ -1,38 +1,20 @@
 -- `coding::coded_refusal` meets its contract.
-use Rattle.coding.proofs.Coding.{refusal-case}
+use mathlib.Core.Path.{ap, _∙_}
+use native.Mathlib.Omega.{arith}
+use Rattle.wire.specs.Answers.{refusal}
+use Rattle.coding.specs.Coding.{coded}
+use Rattle.coding.proofs.Coding.{handed, negated, negated-fits}
 use borrow.Author.Needs.{needs}
 use Rattle.coding.proofs.coded_refusal.Statement.{statement}
 use Rattle.coding.proofs.coded_refusal.Tie as tie
 
+sub-result : tie.Need-sub-result
+sub-result c = record { sfits = negated-fits (c .refusal-number .result) (omega arith) }
+
+returns : tie.Need-returns
+returns c =
+    let n = c .refusal-number in
+    handed (negated-fits (n .result) (omega arith)) (negated (n .result) (omega arith) ∙ ap (λ x. coded (refusal x)) (n .ensures))
+
 pub coded-refusal-spec : {M : Type 1} → statement M
-coded-refusal-spec =
-    tie.close
-    (tie.spec
-    (λ c. search needs)
-    (λ c. search needs)
-    (λ c. search needs)
-    (λ c. search needs)
-    (λ c. search needs)
-    (λ c. search needs)
-    (λ c. search needs)
-    (λ c. search needs)
-    (λ c. search needs)
-    (λ c. search needs)
-    (λ c. search needs)
-    (λ c. search needs)
-    (λ c. search needs)
-    (λ c. search needs)
-    (λ c. refusal-case (c .enum-told .given .1))
-    (λ c. refusal-case (c .enum-told2 .given .1))
-    (λ c. refusal-case (c .enum-told3 .given .1))
-    (λ c. refusal-case (c .enum-told4 .given .1))
-    (λ c. refusal-case (c .enum-told5 .given .1))
-    (λ c. refusal-case (c .enum-told6 .given .1))
-    (λ c. refusal-case (c .enum-told7 .given .1))
-    (λ c. refusal-case (c .enum-told8 .given .1))
-    (λ c. refusal-case (c .enum-told9 .given .1))
-    (λ c. refusal-case (c .enum-told10 .given .1))
-    (λ c. refusal-case (c .enum-told11 .given .1))
-    (λ c. refusal-case (c .enum-told12 .given .1))
-    (λ c. refusal-case (c .enum-told13 .given .1))
-    (λ c. refusal-case (c .enum-told14 .given .1)))
+coded-refusal-spec = tie.close (tie.spec (λ c κs. search needs) (λ c. search needs) sub-result returns)

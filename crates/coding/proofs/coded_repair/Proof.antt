@@ -5,19 +5,9 @@ use borrow.Author.Needs.{needs}
 use Rattle.coding.proofs.coded_repair.Statement.{statement}
 use Rattle.coding.proofs.coded_repair.Tie as tie
 
-returns : tie.Need-returns
-returns c = coded-case repairSaid (c .coded-count .ok) (c .before .before .answer .given .1) (c .coded-count .ensures)
-
-returns-2 : tie.Need-returns-2
-returns-2 c = coded-case repairSaid (c .coded-refusal .ok) (c .before .before .answer2 .given .1) (c .coded-refusal .ensures)
-
 pub coded-repair-spec : {M : Type 1} → statement M
 coded-repair-spec =
     tie.close
-    (tie.spec
-    (λ c. search needs)
-    (λ c κs. search needs)
-    (λ c. search needs)
-    (λ c κs. search needs)
-    returns
-    returns-2)
+    (tie.spec (λ c. search needs) (λ c κs. search needs) (λ c. search needs) (λ c κs. search needs)
+    (λ c. coded-case repairSaid (c .coded-count .ok) (c .before .before .answer .given .1) (c .coded-count .ensures))
+    (λ c. coded-case repairSaid (c .coded-refusal .ok) (c .before .before .answer2 .given .1) (c .coded-refusal .ensures)))

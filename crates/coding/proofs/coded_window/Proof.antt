@@ -9,12 +9,14 @@ use Rattle.coding.proofs.coded_window.Tie as tie
 returns : tie.Need-returns
 returns c =
     let given = c .before .before .answer .given .1 in
-    (coded-case windowSaid (c .coded-value .ok) given (c .coded-value .ensures), ap (λ a. remainderAfter a (c .before .before .before .before .args .remainder .now)) (sym given))
+    let rest = ap (λ a. remainderAfter a (c .before .before .before .before .args .remainder .now)) (sym given) in
+    (coded-case windowSaid (c .coded-value .ok) given (c .coded-value .ensures), rest)
 
 returns-2 : tie.Need-returns-2
 returns-2 c =
     let given = c .before .before .answer2 .given .1 in
-    (coded-case windowSaid (c .coded-refusal .ok) given (c .coded-refusal .ensures), ap (λ a. remainderAfter a (c .before .before .before .before .args .remainder .now)) (sym given))
+    let rest = ap (λ a. remainderAfter a (c .before .before .before .before .args .remainder .now)) (sym given) in
+    (coded-case windowSaid (c .coded-refusal .ok) given (c .coded-refusal .ensures), rest)
 
 pub coded-window-spec : {M : Type 1} → statement M
 coded-window-spec =
