@@ -15,13 +15,13 @@ use Rattle.decoder.specs.Packets as packets
 use Rattle.decoder.specs.Stretch.{symbol-at}
 use Rattle.table.specs.Window.{rowOffset, row}
 use Rattle.table.specs.Packet as packet
+use Rattle.table.specs.RowSteps.{RowOf}
 use Rattle.gather.proofs.Spelling.{spells-one}
 use Rattle.admission.specs.declared.packet.Location.{Location}
 use Rattle.admission.specs.declared.packet.Gathered.{Gathered}
 use Rattle.history.specs.Symbol.{Symbol, symbolOf}
 use Rattle.history.specs.History.{source}
 use Rattle.history.specs.Model.{packetOf}
-use Rattle.holding.specs.Inner.{RowOf}
 use Rattle.admission.specs.Steps.{firsts, Lies, EquationAdmitted, Admits}
 use Rattle.admission.specs.SourceSteps.{equationOf}
 use Rattle.admission.proofs.Gathering.{stored-admitted, firsts-same, firsts-cons}
@@ -42,12 +42,12 @@ module _ (at : Location) (kept flow i r : ℕ) (adu m work work₁ work′ : Lis
   n = symbolCount E (length adu)
 
   -- The row of the symbol's position.
-  column : (b d : ℕ) → RowOf (at .first) i w r → Lies at (at .first) n b d → (b + at .rise + (d + i)) % w ≡ r
+  column : (b d : ℕ) → RowOf w (at .first) i r → Lies at (at .first) n b d → (b + at .rise + (d + i)) % w ≡ r
   column b d f l =
       let e : b + at .rise + (d + i) ≡ b + at .rise + d + i = omega arith in
       ap (λ k. k % w) e ∙ sym (mod-add-mod (b + at .rise + d) w i) ∙ ap (λ k. (k + i) % w) (l .column) ∙ sym (f .is)
 
-  pub symbol-admitted : packet.Works w E kept work → i < n → RowOf (at .first) i w r
+  pub symbol-admitted : packet.Works w E kept work → i < n → RowOf w (at .first) i r
       → work₁ ≡ splice (rowOffset w E kept + w) (symbolAt flow adu E i) work
       → EquationAdmitted at kept r (1 ∷ []) answer m work₁ work′
       → Admits at n (λ d. equationOf w E flow adu d i) kept answer m work work′

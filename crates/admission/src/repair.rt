@@ -9,7 +9,6 @@ ghost use Rattle.admission.specs.RepairSteps.{repairEquation, equationAt
 use super::packet;
 use super::packet::Gathered;
 use super::packet::Location;
-use holding::find;
 
 // One more equation, in the row after those that are kept: a repair symbol, and its coefficients of the positions from the packet's first on.
 fn admit_symbol(
@@ -27,9 +26,9 @@ fn admit_symbol(
         (repairEquation (location .shape .width) (location .shape .size) (length (now (list .entry))) (now (list .entry)) (now (symbol .entry)))
         kept r (now (mem .entry)) (now (work .entry)) (now (work .exit)) ⌝ }
 {
-    let size = location.shape.size;
-    let at = find::symbol_start(location.shape.width, size, kept);
-    memory::copy_part(work, at, symbol, 0, size);
+    let shape = location.shape;
+    let at = table::symbol_offset(shape, kept);
+    memory::copy_part(work, at, symbol, 0, shape.size);
     packet::admit_equation(mem, work, list, location, kept, location.first)
 }
 

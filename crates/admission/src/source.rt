@@ -11,7 +11,6 @@ ghost use Rattle.admission.specs.SourceSteps.{equationOf};
 use super::packet;
 use super::packet::Gathered;
 use super::packet::Location;
-use holding::find;
 use table::Shape;
 
 // The i-th symbol of an ADU in the row `k` of working memory.
@@ -20,7 +19,7 @@ fn write_row(work: &mut [u8], shape: Shape, k: usize, flow: u8, adu: &[u8], i: u
     ensures { λ _. ⌜ now (work .exit)
         ≡ splice (rowOffset (shape .width) (shape .size) k + shape .width) (symbolAt flow (now (adu .entry)) (shape .size) i) (now (work .entry)) ⌝ }
 {
-    let at = find::symbol_start(shape.width, shape.size, k);
+    let at = table::symbol_offset(shape, k);
     wire::write_symbol(&mut work[at..at + shape.size], flow, adu, i);
 }
 
@@ -42,7 +41,7 @@ fn admit_symbol(
         kept r (now (mem .entry)) (now (work .entry)) (now (work .exit)) ⌝ }
 {
     let shape = location.shape;
-    let row = find::row_after(location.first, i, shape.width);
+    let row = table::row_after(shape, location.first, i);
     write_row(work, shape, kept, flow, adu, i);
     packet::admit_equation(mem, work, &[1], location, kept, row)
 }

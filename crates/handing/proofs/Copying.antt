@@ -13,19 +13,18 @@ use Rattle.memory.specs.Part.{part, splice}
 use Rattle.memory.proofs.Parts.{length-part, length-splice, part-add, splice-next, row-fits}
 use Rattle.wire.proofs.Adui.{room, least}
 use Rattle.table.specs.Window.{rowOffset, Fits}
-use Rattle.table.specs.RowSteps.{Zero-from}
+use Rattle.table.specs.RowSteps.{RowOf, SymbolAt, Zero-from}
+use Rattle.table.proofs.Rows.{row-end}
 use Rattle.starts.specs.Adu.{allZero}
-use Rattle.handing.specs.HandSteps.{symbolOffset, text, SymbolAt, Spans}
-use Rattle.marks.proofs.Only.{row-area}
+use Rattle.handing.specs.HandSteps.{symbolOffset, text, SymbolOf, Spans}
 use Rattle.handing.proofs.Texts.{text-length, text-offset, text-rest, zero-test, symbol-ends}
 
 -- Where the code finds a symbol.
-pub symbol-found : (w E oldest i r at : ℕ) → (w ≤ 255) × (E ≤ 1500) → r ≡ (oldest + i) % w → (at ≡ rowOffset w E r + w) × (at + E ≤ rowOffset w E w)
-    → SymbolAt w E oldest i at
-symbol-found w E oldest i r at h e k = record {
-  start = k .0 ∙ ap (λ x. rowOffset w E x + w) e;
-  end = k .1;
-  small = omega (arith, row-area w E w (omega arith) (omega arith) (omega arith));
+pub symbol-found : (w E oldest i r at : ℕ) → RowOf w oldest i r → SymbolAt w E r at → SymbolOf w E oldest i at
+symbol-found w E oldest i r at e k = record {
+  start = k .start ∙ ap (λ x. rowOffset w E x + w) (e .is);
+  end = omega (arith, k .start, row-end w E r (e .small));
+  small = k .small;
 }
 
 module _ (w E d n L : ℕ) (z : 4 ≤ E) (s : Spans w E d n L) where

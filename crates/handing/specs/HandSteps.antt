@@ -26,10 +26,10 @@ text w E oldest m i zero = []
 text w E oldest m i (suc n) = symbolIn w E oldest m i ++ text w E oldest m (suc i) n
 
 -- The symbol of the i-th position begins at `at`, and ends within the rows.
-pub record SymbolAt (w E oldest i at : ℕ) : Type 0 where
+pub record SymbolOf (w E oldest i at : ℕ) : Type 0 where
   pub start : at ≡ symbolOffset w E oldest i
   pub end : at + E ≤ rowOffset w E w
-  pub small : at ≤ 500000
+  pub small : at ≤ 450255
 
 -- Whether all n symbols from the d-th on are known, and then what they make up.
 abbrev pub AllKnown : (w E oldest d n : ℕ) → Bool → List ℕ → Type 0

@@ -6,7 +6,7 @@ ghost use Rattle.memory.specs.Part.{part, splice};
 ghost use Rattle.table.specs.Window.{Fits};
 ghost use Rattle.starts.specs.Adu.{allZero};
 ghost use Rattle.handing.specs.Contracts.{HandedOut};
-ghost use Rattle.handing.specs.HandSteps.{text, SymbolAt, AllKnown, Spans};
+ghost use Rattle.handing.specs.HandSteps.{text, SymbolOf, AllKnown, Spans};
 use starts::Handed;
 use table::Shape;
 use wire::Refusal;
@@ -14,10 +14,10 @@ use wire::Refusal;
 // Where the symbol of the i-th position of the window begins.
 fn symbol_of(shape: Shape, i: usize) -> usize
     requires { ⌜ (shape .oldest < shape .width) × (i < shape .width) × (shape .width ≤ 255) × (shape .size ≤ 1500) ⌝ }
-    ensures { λ at. ⌜ SymbolAt (shape .width) (shape .size) (shape .oldest) i at ⌝ }
+    ensures { λ at. ⌜ SymbolOf (shape .width) (shape .size) (shape .oldest) i at ⌝ }
 {
-    let r = marks::row_of(shape, i);
-    marks::symbol_at(shape, r)
+    let r = table::row_of(shape, i);
+    table::symbol_offset(shape, r)
 }
 
 // Whether the `n` positions from the d-th on are all known. None past the window is.
@@ -29,7 +29,7 @@ fn all_known(mem: &[u8], shape: Shape, d: usize, n: usize) -> bool
         return false;
     }
     for i in 0..n {
-        let r = marks::row_of(shape, d + i);
+        let r = table::row_of(shape, d + i);
         if !placing::is_known(mem, shape, r) {
             return false;
         }
@@ -74,7 +74,7 @@ pub fn hand_out(mem: &[u8], shape: Shape, d: usize, out: &mut [u8]) -> Handed
     if !marks::is_marked(mem, shape, d) {
         return Handed::Withheld(Refusal::NoStart);
     }
-    let r = marks::row_of(shape, d);
+    let r = table::row_of(shape, d);
     if !placing::is_known(mem, shape, r) {
         return Handed::Withheld(Refusal::Unknown);
     }

@@ -4,8 +4,8 @@ use mathlib.Core.Logic.{_≢_}
 use mathlib.Core.Bool.{Bool, true, false, true≢false}
 use mathlib.Core.Option.{Option, none, some, Option·none-ne-some, Option·some-injective}
 use mathlib.Core.List.{List}
-use Prim.Native.Nat.{ℕ, _+_, _-_, _*_, _%_, _^_, _≤_, _<_}
-use native.Mathlib.Nat.{mod-eq-of-lt, mod-eq-sub-mod, mod-add-mod, mul-le-mul, mul-le-mul-right, suc-mul}
+use Prim.Native.Nat.{ℕ, _+_, _%_, _^_, _≤_, _<_}
+use native.Mathlib.Nat.{mod-add-mod, mul-le-mul-right, suc-mul}
 use native.Mathlib.Omega.{arith}
 use lib.ListN.{length}
 use borrow.Author.Tests.{lt-ltb, le-ltb}
@@ -17,6 +17,7 @@ use Rattle.wire.specs.declared.Refusal.the-variants.{Unopened, Behind, Unknown}
 use Rattle.wire.specs.Numbers.{distanceOf, numberOf}
 use Rattle.decoder.specs.Model.{known}
 use Rattle.table.specs.Window as window
+use Rattle.table.specs.RowSteps.{RowOf}
 use Rattle.placing.specs.Place.{Known}
 use Rattle.placing.proofs.Showing.{symbol-bytes}
 use Rattle.holding.specs.declared.Header.{Header}
@@ -26,23 +27,8 @@ use Rattle.history.specs.Symbol.{bytesOf}
 use Rattle.history.specs.History.{sideOf}
 use Rattle.history.specs.Model.{Joined, hides, shown, finding}
 use Rattle.holding.specs.Header.{headerIn}
-use Rattle.holding.specs.Inner.{RowOf, SpottedFor, Spotted}
+use Rattle.holding.specs.Inner.{SpottedFor, Spotted}
 use Rattle.holding.proofs.Headers.{header-fits, of-header, of-joined}
-
--- ---- The row of a position
-
-pub row-near : (row d width : ℕ) → row + d < width → RowOf row d width (row + d)
-row-near row d width h = record { is = sym (mod-eq-of-lt h); small = h }
-
-pub row-wrapped : (row d width : ℕ) → row < width → d < width → width ≤ row + d → RowOf row d width (row + d - width)
-row-wrapped row d width a b h = record { is = sym (mod-eq-sub-mod h ∙ mod-eq-of-lt (omega arith)); small = omega arith }
-
--- A row lies below the window's area.
-pub row-area : (w E r : ℕ) → r ≤ w → w ≤ 255 → E ≤ 1500 → r * (w + E + 4) ≤ 448545
-row-area w E r h a b =
-    let x : r ≤ 255 = omega arith in
-    let y : w + E + 4 ≤ 1759 = omega arith in
-    mul-le-mul x y
 
 -- ---- What is found
 
@@ -93,7 +79,7 @@ module _ (m : List ℕ) (e : ℕ) (h : Header) (k : headerIn m ≡ some h) (join
         le-ltb (distanceOf e (t .base % 2 ^ 32)) width (subst (λ x. width ≤ distanceOf e x) b l),
       ))
 
-  module _ (near : d < 2 ^ 31) (inside : d < width) (r : ℕ) (w : RowOf (h .oldest) d width r) where
+  module _ (near : d < 2 ^ 31) (inside : d < width) (r : ℕ) (w : RowOf width (h .oldest) d r) where
     -- In the window the symbol call goes by what is known there.
     looked : (t : Joined (h .setting)) → h .esi .0 ≡ t .base % 2 ^ 32
         → finding (h .setting) (some t) e ≡ shown (h .setting) (t .base + d) (known (t .window) d)
@@ -135,9 +121,9 @@ module _ (m : List ℕ) (e : ℕ) (h : Header) (k : headerIn m ≡ some h) (join
     }
 
   -- The same with the distance, the row and the test as the code has them.
-  module _ (x : ℕ) (q : x ≡ d) (near : x < 2 ^ 31) (inside : x < width) (r : ℕ) (w : RowOf (h .oldest) x width r) (t : Bool) (u : Known width size r t m) where
-    row-is : RowOf (h .oldest) d width r
-    row-is = subst (λ y. RowOf (h .oldest) y width r) q w
+  module _ (x : ℕ) (q : x ≡ d) (near : x < 2 ^ 31) (inside : x < width) (r : ℕ) (w : RowOf width (h .oldest) x r) (t : Bool) (u : Known width size r t m) where
+    row-is : RowOf width (h .oldest) d r
+    row-is = subst (λ y. RowOf width (h .oldest) y r) q w
 
     pub finds-unknown : t ≡ false → Spotted m e (Nowhere Unknown)
     finds-unknown f = unknown (rw q at near) (rw q at inside) r row-is (subst (λ y. Known width size r y m) f u)

@@ -3,7 +3,7 @@ use mathlib.Core.Path.{_≡_}
 use mathlib.Core.Logic.{_≢_}
 use mathlib.Core.Option.{Option, none, some}
 use mathlib.Core.List.{List}
-use Prim.Native.Nat.{ℕ, _+_, _%_, _≤_, _<_}
+use Prim.Native.Nat.{ℕ, _+_, _≤_}
 use lib.ListN.{length}
 use Rattle.memory.specs.Part.{part, splice}
 use Rattle.wire.specs.declared.Setting.{Setting}
@@ -28,11 +28,6 @@ foundOf (some h) = HeaderIs h
 -- The memory with the header of a receiver that has no base.
 unfoldable pub freshHeader : Setting → List ℕ → List ℕ
 freshHeader s m = splice 8 (zeros 56) (splice 0 (settingBytes 2 s) m)
-
--- The row of the position d after that of a row.
-pub record RowOf (row d width r : ℕ) : Type 0 where
-  pub is : r ≡ (row + d) % width
-  pub small : r < width
 
 -- Of a state that the memory holds, a spot is where the symbol stands, and nowhere is why it is not shown.
 abbrev pub SpottedFor : (m : List ℕ) (e : ℕ) (s : Setting) → State s → Spot → Type 0

@@ -3,8 +3,8 @@ use mathlib.Core.Path.{_≡_, refl, sym, ap, _∙_}
 use mathlib.Core.Logic.{_≢_}
 use mathlib.Core.Bool.{true, false}
 use mathlib.Core.List.{List}
-use Prim.Native.Nat.{ℕ, _+_, _-_, _*_, _%_, _≤_, _<_}
-use native.Mathlib.Nat.{mod-lt, mod-eq-of-lt, mod-eq-sub-mod, mul-le-mul}
+use Prim.Native.Nat.{ℕ, _+_, _*_, _%_, _≤_, _<_}
+use native.Mathlib.Nat.{mod-lt}
 use native.Mathlib.Decide.{decLt}
 use native.Mathlib.Omega.{arith}
 use lib.Dec.{ltb}
@@ -19,22 +19,9 @@ use Rattle.marks.specs.Marks.{flagAt, markAt, NoMark, OnlyMarks, OnlySta
 
 -- ---- where marks stand
 
-pub row-wrapped : (oldest i w : ℕ) → oldest < w → i < w → w ≤ oldest + i → oldest + i - w ≡ (oldest + i) % w
-row-wrapped oldest i w a b h = sym (mod-eq-sub-mod h ∙ mod-eq-of-lt (omega arith))
-
--- A row lies below the window's area.
-pub row-area : (w E r : ℕ) → r ≤ w → w ≤ 255 → E ≤ 1500 → r * (w + E + 4) ≤ 448545
-row-area w E r h a b =
-    let x : r ≤ 255 = omega arith in
-    let y : w + E + 4 ≤ 1759 = omega arith in
-    mul-le-mul x y
-
--- A mark lies among the rows, and so does a symbol.
+-- A mark lies among the rows.
 pub flag-inside : (w E r : ℕ) → r < w → flagAt w E r < rowOffset w E w
 flag-inside w E r h = omega (arith, row-fits w (stride w E) r h)
-
-pub symbol-inside : (w E r : ℕ) → r < w → rowOffset w E r + w + E ≤ rowOffset w E w
-symbol-inside w E r h = omega (arith, row-fits w (stride w E) r h)
 
 -- The mark of a position of the window, and of the one just past it.
 pub mark-row : (w E oldest i r : ℕ) → i < w → r ≡ (oldest + i) % w → flagAt w E r ≡ markAt w E oldest i

@@ -8,37 +8,17 @@ ghost use Rattle.marks.specs.MarkSteps.{Written, Dropped, Noted, Stepped
 ghost use Rattle.marks.specs.Contracts.{Cleared, Added, Moved, Passed};
 use table::Shape;
 
-// The row of the i-th position of the window.
-pub fn row_of(shape: Shape, i: usize) -> usize
-    requires { ⌜ (shape .oldest < shape .width) × (i < shape .width) × (shape .width ≤ 255) ⌝ }
-    ensures { λ r. ⌜ (r ≡ (shape .oldest + i) % shape .width) × (r < shape .width) ⌝ }
-{
-    let r = shape.oldest + i;
-    if r < shape.width { r } else { r - shape.width }
-}
-
 // Where the mark of the i-th position of the window, or of the one just past it, stands.
 fn mark_at(shape: Shape, i: usize) -> usize
     requires { ⌜ (shape .oldest < shape .width) × (i ≤ shape .width) × (shape .width ≤ 255) × (shape .size ≤ 1500) ⌝ }
     ensures { λ at. ⌜ (at ≡ markAt (shape .width) (shape .size) (shape .oldest) i) × (at < rowOffset (shape .width) (shape .size) (shape .width)) ⌝ }
 {
-    let w = shape.width;
-    if i < w {
-        let n = w + shape.size;
-        let r = row_of(shape, i);
-        64 + r * (n + 4) + (n + 1)
+    if i < shape.width {
+        let r = table::row_of(shape, i);
+        table::row_offset(shape, r) + (shape.width + shape.size + 1)
     } else {
         10
     }
-}
-
-// Where the symbol of the row `r` begins.
-pub fn symbol_at(shape: Shape, r: usize) -> usize
-    requires { ⌜ (r < shape .width) × (shape .width ≤ 255) × (shape .size ≤ 1500) ⌝ }
-    ensures { λ at. ⌜ (at ≡ rowOffset (shape .width) (shape .size) r + shape .width)
-        × (at + shape .size ≤ rowOffset (shape .width) (shape .size) (shape .width)) ⌝ }
-{
-    64 + r * (shape.width + shape.size + 4) + shape.width
 }
 
 // One if the i-th position is one of the window and known, else zero.
@@ -49,7 +29,7 @@ fn one_known(mem: &[u8], shape: Shape, i: usize) -> usize
     if shape.width <= i {
         return 0;
     }
-    let r = row_of(shape, i);
+    let r = table::row_of(shape, i);
     if placing::is_known(mem, shape, r) {
         1
     } else {
@@ -150,11 +130,11 @@ fn step(mem: &mut [u8], shape: Shape, i: usize) -> usize
     if !is_marked(mem, shape, i) {
         return w;
     }
-    let r = row_of(shape, i);
+    let r = table::row_of(shape, i);
     if !placing::is_known(mem, shape, r) {
         return w;
     }
-    let at = symbol_at(shape, r);
+    let at = table::symbol_offset(shape, r);
     let n = wire::symbol_count(shape.size, memory::load_u16(mem, at + 1) as usize);
     if w < n {
         return w;

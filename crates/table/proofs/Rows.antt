@@ -11,8 +11,8 @@ use Rattle.memory.specs.Part.{part, splice}
 use Rattle.memory.proofs.Parts.{length-part, length-splice, take-splice, past-splice, part-before, part-past, part-splice, splice-within, getD-part, getD-past, row-fits}
 use Rattle.table.specs.Window.{stride, rowOffset, row, Fits, Kept}
 
--- No row begins later than the last of the widest window and the longest symbols.
-pub small-row : (w E r : ℕ) → r ≤ w → (w ≤ 255) × (E ≤ 1500) → rowOffset w E r ≤ rowOffset 255 1500 255
+-- No row begins later than the last of the widest window with the longest symbols.
+pub small-row : (w E r : ℕ) → r ≤ w → (w ≤ 255) × (E ≤ 1500) → rowOffset w E r ≤ 450000
 small-row w E r h k = let l : r ≤ 255 = omega arith in omega (arith, mul-le-mul-right (stride w E) l)
 
 -- A row ends within the rows.

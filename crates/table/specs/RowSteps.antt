@@ -4,7 +4,7 @@ use mathlib.Core.Path.{_≡_}
 use mathlib.Core.Logic.{_≢_, _↔_}
 use mathlib.Core.Bool.{true, false}
 use mathlib.Core.List.{List, [], _∷_}
-use Prim.Native.Nat.{ℕ, zero, suc, _+_, _*_, _≤_, _<_}
+use Prim.Native.Nat.{ℕ, zero, suc, _+_, _*_, _%_, _≤_, _<_}
 use lib.ListN.{length, getD}
 use Rattle.memory.specs.Part.{splice}
 use Rattle.decoder.specs.Bytes.{byte, Coded}
@@ -14,11 +14,22 @@ use Rattle.decoder.specs.Chain.{Chain, place-rows}
 use Rattle.table.specs.Window.{stride, rowOffset, row, flag, inUse, line, Alone, Flagged, Flags, Window, Kept}
 use Rattle.table.specs.Packet.{spelled, PivotMarked}
 
--- The row `r` of `w + 1` begins at `at`.
+-- The row of the i-th position from that of the row `oldest` on is `r`.
+pub record RowOf (w oldest i r : ℕ) : Type 0 where
+  pub is : r ≡ (oldest + i) % w
+  pub small : r < w
+
+-- The row `r` of `w + 1` begins at `at`. No offset is larger than the last.
 pub record RowAt (w E r at : ℕ) : Type 0 where
   pub start : at ≡ rowOffset w E r
   pub end : at + stride w E ≤ rowOffset w E (w + 1)
-  pub small : at ≤ rowOffset 255 1500 255
+  pub small : at ≤ 450000
+
+-- The symbol of the row `r` of `w + 1` begins at `at`.
+pub record SymbolAt (w E r at : ℕ) : Type 0 where
+  pub start : at ≡ rowOffset w E r + w
+  pub end : at + E ≤ rowOffset w E (w + 1)
+  pub small : at ≤ 450255
 
 -- Every byte from `a` on and before `z` is zero.
 abbrev pub Zero-from : (a z : ℕ) → List ℕ → Type 0

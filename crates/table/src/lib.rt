@@ -2,9 +2,9 @@
 // Row and column of a position are its remainder by the width, so nothing moves when the base rises.
 ghost use mathlib.Core.Path.{_≡_};
 ghost use mathlib.Core.Logic.{_↔_};
-ghost use Prim.Native.Nat.{_≤_};
+ghost use Prim.Native.Nat.{_≤_, _<_};
 ghost use lib.ListN.{length};
-ghost use Rattle.table.specs.RowSteps.{RowAt, Zero-from};
+ghost use Rattle.table.specs.RowSteps.{RowOf, RowAt, SymbolAt, Zero-from};
 
 // A window: how many positions it has, how many bytes a symbol has, and the row of the oldest position.
 pub struct Shape {
@@ -13,12 +13,37 @@ pub struct Shape {
     pub oldest: usize,
 }
 
+// The row of the position `d` after that of the row `row`.
+pub fn row_after(shape: Shape, row: usize, d: usize) -> usize
+    requires { ⌜ (row < shape .width) × (d < shape .width) × (shape .width ≤ 255) ⌝ }
+    ensures { λ r. ⌜ RowOf (shape .width) row d r ⌝ }
+{
+    let r = row + d;
+    if r < shape.width { r } else { r - shape.width }
+}
+
+// The row of the i-th position of the window.
+pub fn row_of(shape: Shape, i: usize) -> usize
+    requires { ⌜ (shape .oldest < shape .width) × (i < shape .width) × (shape .width ≤ 255) ⌝ }
+    ensures { λ r. ⌜ RowOf (shape .width) (shape .oldest) i r ⌝ }
+{
+    row_after(shape, shape.oldest, i)
+}
+
 // Where the row `r` begins.
 pub fn row_offset(shape: Shape, r: usize) -> usize
     requires { ⌜ (r ≤ shape .width) × (shape .width ≤ 255) × (shape .size ≤ 1500) ⌝ }
     ensures { λ at. ⌜ RowAt (shape .width) (shape .size) r at ⌝ }
 {
     64 + r * (shape.width + shape.size + 4)
+}
+
+// Where the symbol of the row `r` begins: after the coefficients.
+pub fn symbol_offset(shape: Shape, r: usize) -> usize
+    requires { ⌜ (r ≤ shape .width) × (shape .width ≤ 255) × (shape .size ≤ 1500) ⌝ }
+    ensures { λ at. ⌜ SymbolAt (shape .width) (shape .size) r at ⌝ }
+{
+    row_offset(shape, r) + shape.width
 }
 
 // The bytes from `from` on and before `to`, or-ed: zero just where all are.

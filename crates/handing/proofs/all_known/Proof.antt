@@ -32,7 +32,7 @@ returns-2 c =
     let known = c .before .is-known in
     known-not _ _ _ _ (start .pre .0) (λ i. c .before .before .before .before .before .before .before .shared-slice-known .given i .fits) _ _ (loop .i)
     (omega arith) (omega arith)
-    (known-is _ _ _ _ (start .args .d + loop .i) _ _ false (c .before .before .row-of .ensures .0) (not-true (known .result) (c .if2 .taken)) (known .ensures))
+    (known-is _ _ _ _ (start .args .d + loop .i) _ _ false (c .before .before .row-of .ensures .is) (not-true (known .result) (c .if2 .taken)) (known .ensures))
 
 loop-again : tie.Need-loop-again Inv-loop μ-loop
 loop-again c =
@@ -42,7 +42,7 @@ loop-again c =
     let known = c .before .is-known in (
       search needs,
       known-more (s .width) (s .size) (s .oldest) (a .mem .now) (a .d) (loop .i) (loop .inv .1)
-          (known-is _ _ _ _ (a .d + loop .i) _ _ true (c .before .before .row-of .ensures .0) (not-false (known .result) (c .if2 .left)) (known .ensures)),
+          (known-is _ _ _ _ (a .d + loop .i) _ _ true (c .before .before .row-of .ensures .is) (not-false (known .result) (c .if2 .left)) (known .ensures)),
     )
 
 returns-3 : tie.Need-returns-3 Inv-loop μ-loop

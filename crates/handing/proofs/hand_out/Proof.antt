@@ -32,7 +32,7 @@ read p =
       bytes = λ i. p .before .before .before .before .before .before .before .before .before .shared-slice-known .given i .fits;
       inside = s .pre .2;
       start = sym (marked .ensures) ∙ not-false (marked .result) (p .before .before .before .before .before .before .if1 .left);
-      first = known-is _ _ _ _ _ _ _ true (row .ensures .0) (not-false (known .result) (p .before .before .before .if2 .left)) (known .ensures);
+      first = known-is _ _ _ _ _ _ _ true (row .ensures .is) (not-false (known .result) (p .before .before .before .if2 .left)) (known .ensures);
       here = p .before .before .symbol-of .ensures .start;
       end = p .before .before .symbol-of .ensures .end;
       size = p .before .load-u16 .ensures;
@@ -57,7 +57,7 @@ returns-2 c =
     let start = c .before .before .before .before .before .before .before in
     first-unknown _ _ _ _ _ _ (start .pre .0) (λ i. c .before .before .before .before .before .before .shared-slice-known .given i .fits) (start .pre .2)
     (sym (marked .ensures) ∙ not-false (marked .result) (c .before .before .before .if1 .left))
-    (known-is _ _ _ _ _ _ _ false (c .before .before .row-of .ensures .0) (not-true (known .result) (c .if2 .taken)) (known .ensures))
+    (known-is _ _ _ _ _ _ _ false (c .before .before .row-of .ensures .is) (not-true (known .result) (c .if2 .taken)) (known .ensures))
 
 returns-3 : tie.Need-returns-3
 returns-3 c = too-many _ _ _ _ _ _ _ _ _ (read (c .before .before)) (c .if3 .taken)

@@ -23,7 +23,7 @@ returns-2 c =
     let p1 = c .before in
     let p2 = p1 .before in
     let p6 = p2 .before .before .before .before in
-    one-known _ _ _ (p6 .args .i) _ _ (omega arith) (p2 .row-of .ensures .0) (p1 .is-known .result) (c .if2 .taken) (p1 .is-known .ensures)
+    one-known _ _ _ (p6 .args .i) _ _ (omega arith) (p2 .row-of .ensures .is) (p1 .is-known .result) (c .if2 .taken) (p1 .is-known .ensures)
 
 -- src/marks.rt:45:1
 returns-3 : tie.Need-returns-3
@@ -31,7 +31,7 @@ returns-3 c =
     let p1 = c .before in
     let p2 = p1 .before in
     let p6 = p2 .before .before .before .before in
-    one-unknown _ _ _ (p6 .args .i) _ _ (omega arith) (p2 .row-of .ensures .0) (p1 .is-known .result) (c .if2 .left) (p1 .is-known .ensures)
+    one-unknown _ _ _ (p6 .args .i) _ _ (omega arith) (p2 .row-of .ensures .is) (p1 .is-known .result) (c .if2 .left) (p1 .is-known .ensures)
 
 pub one-known-spec : {M : Type 1} → statement M
 one-known-spec = tie.close (tie.spec returns row-of-requires is-known-requires returns-2 returns-3)

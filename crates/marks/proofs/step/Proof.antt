@@ -1,6 +1,7 @@
 -- `marks::step` meets its contract.
 use native.Mathlib.Omega.{arith}
 use borrow.Author.Tests.{not-true, not-false}
+use Rattle.table.proofs.Rows.{row-end}
 use Rattle.marks.proofs.Passing.{step-unmarked, step-unknown, step-long, step-far, step-again, step-near}
 use borrow.Author.Needs.{needs}
 use Rattle.marks.proofs.step.Statement.{statement}
@@ -39,12 +40,12 @@ returns-2 c =
     let p1 = c .before in
     let p3 = p1 .before .before in
     let p8 = p3 .before .before .before .before .before in
-    step-unknown _ _ _ (p8 .args .i) _ _ (p8 .pre .2) (p3 .row-of .ensures .0) (p1 .is-known .result)
+    step-unknown _ _ _ (p8 .args .i) _ _ (p8 .pre .2) (p3 .row-of .ensures .is) (p1 .is-known .result)
     (not-true (p1 .is-known .result) (c .if2 .taken)) (p1 .is-known .ensures)
 
 -- src/marks.rt:132:9
-symbol-at-requires : tie.Need-symbol-at-requires
-symbol-at-requires c κs = search needs
+symbol-offset-requires : tie.Need-symbol-offset-requires
+symbol-offset-requires c κs = search needs
 
 -- src/marks.rt:133:66
 add-load-u16 : tie.Need-add-load-u16
@@ -52,7 +53,10 @@ add-load-u16 c = search needs
 
 -- src/marks.rt:133:44
 load-u16-requires : tie.Need-load-u16-requires
-load-u16-requires c κs = search needs
+load-u16-requires c κs =
+    let p5 = c .before .before .before .before .before in
+    let s = p5 .before .before .before .before .before .args .shape in
+    omega (arith, row-end (s .width) (s .size) (p5 .row-of .result) (p5 .row-of .ensures .small))
 
 -- src/marks.rt:133:44
 cast-symbol-count : tie.Need-cast-symbol-count
@@ -79,8 +83,8 @@ returns-3 c =
     let p10 = p9 .before in
     let p12 = p10 .before .before in
     let p13 = p12 .before in
-    step-long _ _ _ (p13 .args .i) _ _ (p13 .pre .2) (p8 .row-of .ensures .0) _ _ _ (p13 .pre .0) (λ i. p12 .slice-known .given i .fits)
-    (p4 .symbol-at .ensures .0) (p6 .is-known .result) (not-false (p6 .is-known .result) (p5 .if2 .left)) (p6 .is-known .ensures)
+    step-long _ _ _ (p13 .args .i) _ _ (p13 .pre .2) (p8 .row-of .ensures .is) _ _ _ (p13 .pre .0) (λ i. p12 .slice-known .given i .fits)
+    (p4 .symbol-offset .ensures .start) (p6 .is-known .result) (not-false (p6 .is-known .result) (p5 .if2 .left)) (p6 .is-known .ensures)
     (p2 .load-u16 .ensures) (p1 .symbol-count .ensures)
     (p10 .is-marked .result) (p10 .is-marked .ensures) (not-false (p10 .is-marked .result) (p9 .if1 .left)) (c .if3 .taken)
 
@@ -111,8 +115,8 @@ returns-4 c =
     let p15 = p14 .before in
     let p17 = p15 .before .before in
     let p18 = p17 .before in
-    step-far _ _ _ (p18 .args .i) _ _ (p18 .pre .2) (p13 .row-of .ensures .0) _ _ _ (p18 .pre .0) (λ i. p17 .slice-known .given i .fits)
-    (p9 .symbol-at .ensures .0) (p11 .is-known .result) (not-false (p11 .is-known .result) (p10 .if2 .left)) (p11 .is-known .ensures)
+    step-far _ _ _ (p18 .args .i) _ _ (p18 .pre .2) (p13 .row-of .ensures .is) _ _ _ (p18 .pre .0) (λ i. p17 .slice-known .given i .fits)
+    (p9 .symbol-offset .ensures .start) (p11 .is-known .result) (not-false (p11 .is-known .result) (p10 .if2 .left)) (p11 .is-known .ensures)
     (p7 .load-u16 .ensures) (p6 .symbol-count .ensures)
     (p15 .is-marked .result) (p15 .is-marked .ensures) (not-false (p15 .is-marked .result) (p14 .if1 .left)) _ (p4 .if4 .taken) (p2 .note .ensures)
 
@@ -145,8 +149,8 @@ returns-5 c =
     let p14 = p13 .before in
     let p16 = p14 .before .before in
     let p17 = p16 .before in
-    step-again _ _ _ (p17 .args .i) _ _ (p17 .pre .2) (p12 .row-of .ensures .0) _ _ _ (p17 .pre .0) (λ i. p16 .slice-known .given i .fits)
-    (p8 .symbol-at .ensures .0) (p10 .is-known .result) (not-false (p10 .is-known .result) (p9 .if2 .left)) (p10 .is-known .ensures)
+    step-again _ _ _ (p17 .args .i) _ _ (p17 .pre .2) (p12 .row-of .ensures .is) _ _ _ (p17 .pre .0) (λ i. p16 .slice-known .given i .fits)
+    (p8 .symbol-offset .ensures .start) (p10 .is-known .result) (not-false (p10 .is-known .result) (p9 .if2 .left)) (p10 .is-known .ensures)
     (p6 .load-u16 .ensures) (p5 .symbol-count .ensures)
     (p14 .is-marked .result) (p14 .is-marked .ensures) (not-false (p14 .is-marked .result) (p13 .if1 .left))
     (p3 .if4 .left) (p1 .is-marked2 .result) (p1 .is-marked2 .ensures) (c .if5 .taken)
@@ -185,8 +189,8 @@ returns-6 c =
     let p18 = p17 .before in
     let p20 = p18 .before .before in
     let p21 = p20 .before in
-    step-near _ _ _ (p21 .args .i) _ _ (p21 .pre .2) (p16 .row-of .ensures .0) _ _ _ (p21 .pre .0) (λ i. p20 .slice-known .given i .fits)
-    (p12 .symbol-at .ensures .0) (p14 .is-known .result) (not-false (p14 .is-known .result) (p13 .if2 .left)) (p14 .is-known .ensures)
+    step-near _ _ _ (p21 .args .i) _ _ (p21 .pre .2) (p16 .row-of .ensures .is) _ _ _ (p21 .pre .0) (λ i. p20 .slice-known .given i .fits)
+    (p12 .symbol-offset .ensures .start) (p14 .is-known .result) (not-false (p14 .is-known .result) (p13 .if2 .left)) (p14 .is-known .ensures)
     (p10 .load-u16 .ensures) (p9 .symbol-count .ensures)
     (p18 .is-marked .result) (p18 .is-marked .ensures) (not-false (p18 .is-marked .result) (p17 .if1 .left)) _ (p7 .if4 .left) (p2 .set .ensures)
 
@@ -201,7 +205,7 @@ step-spec =
     is-known-requires
     same-length-2
     returns-2
-    symbol-at-requires
+    symbol-offset-requires
     add-load-u16
     load-u16-requires
     cast-symbol-count

@@ -13,17 +13,17 @@ use Rattle.admission.proofs.source.write_row.Statement.{statement}
 use Rattle.admission.proofs.source.write_row.Tie as tie
 
 -- the row lies in working memory
-inside : (p : tie.After-symbol-start) → p .symbol-start .result + p .before .before .before .args .shape .size ≤ length (p .before .before .before .args .work .now)
+inside : (p : tie.After-symbol-offset) → p .symbol-offset .result + p .before .before .before .args .shape .size ≤ length (p .before .before .before .args .work .now)
 inside p =
     let a = p .before .before .before .args in
-    omega (arith, p .symbol-start .ensures, row-room (a .shape .width) (a .shape .size) (a .k) (a .work .now) (p .before .before .before .pre .0))
+    omega (arith, p .symbol-offset .ensures .start, row-room (a .shape .width) (a .shape .size) (a .k) (a .work .now) (p .before .before .before .pre .0))
 
-lent : (p : tie.After-symbol-start)
-    → length (take (p .symbol-start .result + p .before .before .before .args .shape .size - p .symbol-start .result) (drop (p .symbol-start .result) (p .before .before .before .args .work .now)))
+lent : (p : tie.After-symbol-offset)
+    → length (take (p .symbol-offset .result + p .before .before .before .args .shape .size - p .symbol-offset .result) (drop (p .symbol-offset .result) (p .before .before .before .args .work .now)))
     ≡ p .before .before .before .args .shape .size
 lent p =
     let a = p .before .before .before .args in
-    rw (cut (p .symbol-start .result) (a .shape .size) (a .work .now)) (length-part (p .symbol-start .result) (a .shape .size) (a .work .now) (inside p))
+    rw (cut (p .symbol-offset .result) (a .shape .size) (a .work .now)) (length-part (p .symbol-offset .result) (a .shape .size) (a .work .now) (inside p))
 
 add-write-symbol : tie.Need-add-write-symbol
 add-write-symbol c = omega (arith, inside (c .before))
@@ -39,9 +39,9 @@ returns c =
     let p = c .before .before .before .before .before in
     let a = p .before .before .before .args in
     let written = c .before .before .write-symbol in
-    put (p .symbol-start .result) (a .shape .size) (written .last .0) (a .work .now) (inside p) (written .kept .0)
-    ∙ ap (λ (x : List ℕ). splice (p .symbol-start .result) x (a .work .now)) (rw (lent p) at (written .ensures))
-    ∙ ap (λ (at : ℕ). splice at (symbolAt (a .flow) (a .adu .now) (a .shape .size) (a .i)) (a .work .now)) (p .symbol-start .ensures)
+    put (p .symbol-offset .result) (a .shape .size) (written .last .0) (a .work .now) (inside p) (written .kept .0)
+    ∙ ap (λ (x : List ℕ). splice (p .symbol-offset .result) x (a .work .now)) (rw (lent p) at (written .ensures))
+    ∙ ap (λ (at : ℕ). splice at (symbolAt (a .flow) (a .adu .now) (a .shape .size) (a .i)) (a .work .now)) (p .symbol-offset .ensures .start)
 
 pub write-row-spec : {M : Type 1} → statement M
 write-row-spec =

@@ -44,8 +44,8 @@ returns-4 c =
     let d = c .before .before .distance .ensures in
     finds-past _ _ (header p) (has p) (joined e) (rw d at (c .before .if2 .left)) (rw d at (c .if3 .taken))
 
-row-after-requires : tie.Need-row-after-requires
-row-after-requires c κs =
+row-of-requires : tie.Need-row-of-requires
+row-of-requires c κs =
     let p = c .before .before .before .before .before .before in
     let k = headed _ (header p) (has p) in
     (k .row-lt, c .if3 .left, k .valid .width-most)
@@ -53,7 +53,7 @@ row-after-requires c κs =
 is-known-requires : tie.Need-is-known-requires
 is-known-requires c κs =
     let p = c .before .before .before .before .before .before .before in
-    (header-fits _ (header p) (has p), c .row-after .ensures .small)
+    (header-fits _ (header p) (has p), c .row-of .ensures .small)
 
 returns-5 : tie.Need-returns-5
 returns-5 c =
@@ -61,13 +61,13 @@ returns-5 c =
     let e = inside .before .before .before in
     let p = e .before .before .before in
     finds-unknown _ _ (header p) (has p) (joined e) _ (inside .before .before .distance .ensures) (inside .before .if2 .left) (inside .if3 .left)
-    _ (c .before .before .row-after .ensures) _ (c .before .is-known .ensures) (not-true (c .before .is-known .result) (c .if4 .taken))
+    _ (c .before .before .row-of .ensures) _ (c .before .is-known .ensures) (not-true (c .before .is-known .result) (c .if4 .taken))
 
-symbol-start-requires : tie.Need-symbol-start-requires
-symbol-start-requires c κs =
+symbol-offset-requires : tie.Need-symbol-offset-requires
+symbol-offset-requires c κs =
     let p = c .before .before .before .before .before .before .before .before .before in
     let k = headed _ (header p) (has p) in
-    (omega (arith, c .before .before .row-after .ensures .small), k .valid .width-most, k .valid .size-most)
+    (omega (arith, c .before .before .row-of .ensures .small), k .valid .width-most, k .valid .size-most)
 
 returns-6 : tie.Need-returns-6
 returns-6 c =
@@ -76,8 +76,8 @@ returns-6 c =
     let p = e .before .before .before in
     let slice = p .before .before .before .shared-slice-known in
     finds-at _ _ (header p) (has p) (joined e) _ (inside .before .before .distance .ensures) (inside .before .if2 .left) (inside .if3 .left)
-    _ (c .before .before .before .row-after .ensures) _ (c .before .before .is-known .ensures)
-    (not-false (c .before .before .is-known .result) (c .before .if4 .left)) (λ i. slice .given i .fits) _ (c .symbol-start .ensures)
+    _ (c .before .before .before .row-of .ensures) _ (c .before .before .is-known .ensures)
+    (not-false (c .before .before .is-known .result) (c .before .if4 .left)) (λ i. slice .given i .fits) _ (c .symbol-offset .ensures .start)
 
 pub find-spec : {M : Type 1} → statement M
 find-spec =
@@ -92,8 +92,8 @@ find-spec =
     (λ c. search needs)
     returns-3
     returns-4
-    row-after-requires
+    row-of-requires
     is-known-requires
     returns-5
-    symbol-start-requires
+    symbol-offset-requires
     returns-6)
