@@ -20,6 +20,8 @@ use Rattle.decoder.specs.Model as model
 use Rattle.decoder.specs.Receiver as decoder
 use Rattle.decoder.proofs.Bytes.{laws}
 use Rattle.decoder.proofs.History as history
+use Rattle.table.specs.Window.{headerSize}
+use Rattle.table.proofs.Offsets.{header-long}
 use Rattle.table.specs.Window as window
 use Rattle.placing.specs.Place.{Committed}
 use Rattle.table.proofs.Rows.{fits-kept}
@@ -47,7 +49,7 @@ taken-reduced w E rise S T es pos r e =
 abbrev pub rebased : (row esi : ℕ) → List ℕ → List ℕ
 rebased row esi m = splice 12 (bytes 4 esi) (splice 8 (bytes 2 row) m)
 
-module _ (row esi : ℕ) (m : List ℕ) (long : 64 ≤ length m) where
+module _ (row esi : ℕ) (m : List ℕ) (long : 16 ≤ length m) where
   abbrev m₁ : List ℕ
   m₁ = splice 8 (bytes 2 row) m
 
@@ -60,7 +62,7 @@ module _ (row esi : ℕ) (m : List ℕ) (long : 64 ≤ length m) where
   pub rebased-front : take 8 (rebased row esi m) ≡ take 8 m
   rebased-front = take-splice 8 12 (bytes 4 esi) m₁ (omega arith) (omega (arith, length-first)) ∙ take-splice 8 8 (bytes 2 row) m (omega arith) (omega arith)
 
-  pub rebased-past : (n : ℕ) → 64 ≤ n → drop n (rebased row esi m) ≡ drop n m
+  pub rebased-past : (n : ℕ) → 16 ≤ n → drop n (rebased row esi m) ≡ drop n m
   rebased-past n h =
       past-splice n 12 (bytes 4 esi) m₁ (omega (arith, length-bytes 4 esi)) (omega (arith, length-first))
       ∙ past-splice n 8 (bytes 2 row) m (omega (arith, length-bytes 2 row)) (omega arith)
@@ -88,7 +90,7 @@ module _ (row esi : ℕ) (m : List ℕ) (long : 64 ≤ length m) where
   rebased-window w E b S f v =
       window-header w E 12 b (bytes 4 esi) m₁ S
       (record { some-width = f .some-width; wide = f .wide; some-symbol = f .some-symbol; long = f .long; room = omega (arith, f .room, length-first) })
-      (omega (arith, length-bytes 4 esi)) (window-header w E 8 b (bytes 2 row) m S f (omega (arith, length-bytes 2 row)) v)
+      (omega (arith, header-long, length-bytes 4 esi)) (window-header w E 8 b (bytes 2 row) m S f (omega (arith, header-long, length-bytes 2 row)) v)
 
 module _ (h : Header) (location : Location) (kept count esi : ℕ) (work m m₁ m′ : List ℕ) (has : Based m h)
     (f : Committed (h .setting .width) (h .setting .size) (h .oldest) (location .rise) kept count work m m₁)
@@ -96,23 +98,24 @@ module _ (h : Header) (location : Location) (kept count esi : ℕ) (work m m₁ 
   room : window.Fits (h .setting .width) (h .setting .size) m₁
   room = fits-kept (based-fits m h has) (f .unchanged)
 
-  long : 64 ≤ length m₁
-  long = omega (arith, room .room)
+  long : 16 ≤ length m₁
+  long = omega (arith, header-long, room .room)
 
   -- The memory holds the state with the base that was stored.
   held : (s : Setting) (t : Joined s) (T : model.State (Coded (s .size)) (s .width)) → h ≡ headerFrom s t → model.Rref T
       → location .shape .oldest ≡ (t .base + location .rise) % s .width → window.Window (s .width) (s .size) m₁ (t .base + location .rise) T
       → Holds m′ s (some (record { base = t .base + location .rise; window = T }))
+  unfolding headerSize window.stride
   held s t T is reduced row v =
       let b = location .shape .oldest in
       let n : ℕ = b + 1 in
       let same : h .setting ≡ s = ap (λ x. x .setting) is in
       let base : h .esi .0 ≡ t .base % 2 ^ 32 = ap (λ x. x .esi .0) is in
       let e : esi ≡ (t .base + location .rise) % 2 ^ 32 = omega (arith, next, base) in
-      let l : 64 ≤ length m₁ = long in
+      let l : 16 ≤ length m₁ = long in
       let fits : window.Fits (s .width) (s .size) m₁ = subst (λ x. window.Fits (x .width) (x .size) m₁) same room in
       let front : take 8 (rebased n esi m₁) ≡ take 8 m =
-      rebased-front n esi m₁ l ∙ sym (take-take 8 64 m₁ (omega arith)) ∙ ap (take 8) (f .unchanged .header) ∙ take-take 8 64 m (omega arith) in
+      rebased-front n esi m₁ l ∙ sym (take-take 8 headerSize m₁ (omega (arith, header-long))) ∙ ap (take 8) (f .unchanged .header) ∙ take-take 8 headerSize m (omega (arith, header-long)) in
       let set : settingIn 2 (rebased n esi m₁) ≡ some s =
       setting-kept 2 (rebased n esi m₁) m front ∙ has .setting ∙ ap some same in
       let at : rowIn (rebased n esi m₁) ≡ (t .base + location .rise) % s .width + 1 = rebased-row n esi m₁ l (omega arith) ∙ ap (λ x. x + 1) row in
@@ -126,6 +129,7 @@ module _ (h : Header) (location : Location) (kept count esi : ℕ) (work m m₁ 
       })
 
   pub finished : Finished h location kept count work m m′
+  unfolding headerSize window.stride
   finished = record {
     contained = record {
       same = ap length stored ∙ rebased-length (location .shape .oldest + 1) esi m₁ long ∙ f .unchanged .size;
@@ -136,7 +140,7 @@ module _ (h : Header) (location : Location) (kept count esi : ℕ) (work m m₁ 
     marks = record {
       header = λ k l g.
           ap (λ x. getD x k 0) stored ∙ rebased-spare (location .shape .oldest + 1) esi m₁ long k l g
-          ∙ sym (getD-take 64 m₁ k 0 (omega arith)) ∙ ap (λ x. getD x k 0) (f .unchanged .header) ∙ getD-take 64 m k 0 (omega arith);
+          ∙ sym (getD-take headerSize m₁ k 0 (omega (arith, header-long))) ∙ ap (λ x. getD x k 0) (f .unchanged .header) ∙ getD-take headerSize m k 0 (omega (arith, header-long));
       rows = λ r l.
           let w = h .setting .width in
           let E = h .setting .size in

@@ -18,6 +18,7 @@ use Rattle.gather.specs.declared.Verdict.the-variants as verdict
 use Rattle.table.specs.Window.{stride, rowOffset, row, equation}
 use Rattle.table.specs.Packet as packet
 use Rattle.gather.specs.Gather.{Only, LaidIn, Admitted, Agrees, count-kept}
+use Rattle.table.proofs.Offsets.{flags-fit}
 use Rattle.gather.proofs.Framing.{only-trans, only-wider, only-splice, works-only, row-room}
 use Rattle.gather.proofs.Admitting.{gathered-only, gathered-none}
 use Rattle.gather.proofs.Laying.{laid-symbol}
@@ -53,7 +54,7 @@ stored-symbol w E k x work size h =
     symbol-moved E w 0 (row w E k (splice (rowOffset w E k + w) x work)) x
     (λ i l.
     let e : rowOffset w E k + (w + i) ≡ rowOffset w E k + w + i = omega arith in
-    getD-part (rowOffset w E k) (stride w E) (w + i) _ (omega arith) ∙ ap (λ a. getD (splice (rowOffset w E k + w) x work) a 0) e
+    getD-part (rowOffset w E k) (stride w E) (w + i) _ (omega (arith, flags-fit w E)) ∙ ap (λ a. getD (splice (rowOffset w E k + w) x work) a 0) e
     ∙ getD-within (rowOffset w E k + w) i x work (omega arith) h ∙ ap (λ a. getD x a 0) (sym (zero-plus i)))
   where
     zero-plus : (i : ℕ) → 0 + i ≡ i
@@ -67,13 +68,13 @@ module _ (w E kept : ℕ) (x work work₁ : List ℕ) (g : packet.Works w E kept
   pub stored-only : Only (rowOffset w E kept) (rowOffset w E kept + stride w E) work work₁
   stored-only =
       subst (λ m₁. Only (rowOffset w E kept) (rowOffset w E kept + stride w E) work m₁) (sym stored)
-      (only-splice (rowOffset w E kept) (rowOffset w E kept + stride w E) (rowOffset w E kept + w) x work (omega arith) (omega (arith, size)) inside)
+      (only-splice (rowOffset w E kept) (rowOffset w E kept + stride w E) (rowOffset w E kept + w) x work (omega arith) (omega (arith, flags-fit w E, size)) inside)
 
   pub works-stored : packet.Works w E kept work₁
   works-stored = works-only (omega arith) stored-only g
 
   pub stored-is : symbol-at E w (row w E kept work₁) ≡ symbolOf E x
-  stored-is = ap (λ m₁. symbol-at E w (row w E kept m₁)) stored ∙ stored-symbol w E kept x work size (omega (arith, inside))
+  stored-is = ap (λ m₁. symbol-at E w (row w E kept m₁)) stored ∙ stored-symbol w E kept x work size (omega (arith, flags-fit w E, inside))
 
 -- ---- One equation
 
@@ -100,13 +101,13 @@ module _ (at : Location) (kept first : ℕ) (cs : List ℕ) (v : Verdict) (m wor
       → EquationAdmitted at kept first cs (gatheredBy kept v) m work work′
   equation-admitted g l a = record {
     contained =
-        contained-row w E kept (rowOffset w E kept + (w + E + 1)) work work′ (g .within) (omega arith)
+        contained-row w E kept (rowOffset w E kept + (w + E + 1)) work work′ (g .within) (omega (arith, flags-fit w E))
         (only-trans (only-wider (rowOffset w E kept + w) (rowOffset w E kept + (w + E + 1)) (omega arith) (l .only)) (a .only));
     works = works-by v (a .works);
     outcome = λ b d S es e lies held reduced spells gathered.
         let pos : 0 < E = omega (arith, g .some-symbol) in
         let q : ℕ = b + at .rise in
-        let before = gathered-only w E q kept (rowOffset w E kept + w) (decoder.advance-by (at .rise) S) work work₁ es pos (l .only) (omega arith) gathered in
+        let before = gathered-only w E q kept (rowOffset w E kept + w) (decoder.advance-by (at .rise) S) work work₁ es pos (l .only) (omega (arith, flags-fit w E)) gathered in
         let same = symbol-moved E w w (row w E kept work₁) (row w E kept work) (laid-symbol w E kept first cs work work₁ l) in
         let is : equation w E q (row w E kept work₁) ≡ e = spells (row w E kept work₁) (l .laid) same in
         comes-by v q (decoder.advance-by (at .rise) S) (es ++ (e ∷ []))

@@ -18,6 +18,7 @@ use Rattle.wire.proofs.Settings.{setting-kept}
 use Rattle.decoder.specs.Bytes.{Coded}
 use Rattle.decoder.specs.Model as model
 use Rattle.decoder.specs.Receiver as decoder
+use Rattle.table.proofs.Offsets.{header-long}
 use Rattle.table.specs.Window as window
 use Rattle.starts.specs.Starts.{Starts, owning, moved, pass, seen}
 use Rattle.starts.specs.Settled.{Settled, Old}
@@ -40,15 +41,15 @@ use Rattle.admission.proofs.Gathering.{contained-more}
 
 -- ---- nothing but marks has changed
 
-module _ (w E : ℕ) (m m′ : List ℕ) (o : marks.OnlyStarts w E m m′) (long : 64 ≤ length m) where
+module _ (w E : ℕ) (m m′ : List ℕ) (o : marks.OnlyStarts w E m m′) (long : 16 ≤ length m) where
   -- A part of the header without the bytes 10 and 11.
-  part-kept : (a n : ℕ) → a + n ≤ 64 → ((i : ℕ) → i < n → (a + i ≡ 10 → ⊥) × (a + i ≡ 11 → ⊥)) → part a n m′ ≡ part a n m
+  part-kept : (a n : ℕ) → a + n ≤ 16 → ((i : ℕ) → i < n → (a + i ≡ 10 → ⊥) × (a + i ≡ 11 → ⊥)) → part a n m′ ≡ part a n m
   part-kept a n h away =
       let l : length (part a n m′) ≡ n = length-part a n m′ (omega (arith, o .size)) in
       ext-getD 0 (part a n m′) (part a n m) (l ∙ sym (length-part a n m (omega arith)))
       (λ i k.
       let j : i < n = omega (arith, l) in
-      getD-part a n i m′ j ∙ o .others (a + i) (header-no-mark w E (a + i) (omega arith) (away i j .0)) (away i j .1) ∙ sym (getD-part a n i m j))
+      getD-part a n i m′ j ∙ o .others (a + i) (header-no-mark w E (a + i) (omega (arith, header-long)) (away i j .0)) (away i j .1) ∙ sym (getD-part a n i m j))
 
   setting-same : settingIn 2 m′ ≡ settingIn 2 m
   unfolding part
@@ -66,6 +67,7 @@ module _ (w E : ℕ) (m m′ : List ℕ) (o : marks.OnlyStarts w E m m′) (long
   header-same = ap (headerWith m′) setting-same ∙ head-same (settingIn 2 m)
 
 pub starts-contained : (s : Setting) (m m′ : List ℕ) → marks.OnlyStarts (s .width) (s .size) m m′ → Contained (memorySize s) m m′
+unfolding window.headerSize window.stride
 starts-contained s m m′ o = record {
   same = o .size;
   past =
@@ -85,7 +87,7 @@ pub starts-holds : (s : Setting) (t : State s) (m m′ : List ℕ) → Holds m s
 starts-holds s t m m′ k o =
     let f = subst (λ (x : Setting). window.Fits (x .width) (x .size) m) (setting-of s t) (header-fits m (headerOf s t) (k .header)) in
     record {
-      header = header-same (s .width) (s .size) m m′ o (omega (arith, f .room)) ∙ k .header;
+      header = header-same (s .width) (s .size) m m′ o (omega (arith, header-long, f .room)) ∙ k .header;
       rows = starts-rows s t m m′ (f .some-width) (k .rows) o;
     }
 

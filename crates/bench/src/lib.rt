@@ -220,7 +220,12 @@ pub extern "C" fn bench_marks(mem: &mut [u8], size: usize, width: usize, oldest:
     if width <= oldest {
         return;
     }
-    if mem.len() < 64 + width * (width + size + 4) {
+    let shape = Shape {
+        width,
+        size,
+        oldest,
+    };
+    if mem.len() < table::row_offset(shape, width) {
         return;
     }
     mark_new(mem, size, width, oldest);

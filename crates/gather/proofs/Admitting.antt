@@ -38,6 +38,7 @@ use Rattle.gather.specs.declared.Verdict.{Verdict}
 use Rattle.gather.specs.declared.Verdict.the-variants.{Kept, Implied, Contradiction}
 use Rattle.table.proofs.Rows.{set-splice}
 use Rattle.table.proofs.Zero.{else-zero}
+use Rattle.table.proofs.Offsets.{flags-fit}
 use Rattle.memory.proofs.Number.{bytes-part}
 use Rattle.gather.proofs.Framing.{only-refl, only-trans, only-wider, only-splice, only-row, works-only, row-room}
 use Rattle.gather.proofs.Reducing.{part-row, state-only, state-reduced, no-coefficient}
@@ -59,7 +60,7 @@ module _ (w E k c at : ℕ) (m m₁ m′ : List ℕ) (g : Works w E k m) (h : c 
   room = row-room w E k m g
 
   length-part-k : length (part (rowOffset w E k) (w + E) m) ≡ w + E
-  length-part-k = length-part (rowOffset w E k) (w + E) m (omega (arith, room))
+  length-part-k = length-part (rowOffset w E k) (w + E) m (omega (arith, flags-fit w E, room))
 
   length-divided : length divided ≡ w + E
   length-divided = length-scaled factor (part (rowOffset w E k) (w + E) m) ∙ length-part-k
@@ -69,19 +70,19 @@ module _ (w E k c at : ℕ) (m m₁ m′ : List ℕ) (g : Works w E k m) (h : c 
       p
       ∙ ap (λ a. splice a (scaled (inverse (getD m (a + c) 0)) (part a (w + E) m)) m) here
       ∙ ap (λ x. splice (rowOffset w E k) (scaled (inverse x) (part (rowOffset w E k) (w + E) m)) m)
-      (sym (getD-part (rowOffset w E k) (stride w E) c m (omega arith)))
+      (sym (getD-part (rowOffset w E k) (stride w E) c m (omega (arith, flags-fit w E))))
 
   size : length m₁ ≡ length m
-  size = ap length first ∙ length-splice (rowOffset w E k) divided m (omega (arith, length-divided, room))
+  size = ap length first ∙ length-splice (rowOffset w E k) divided m (omega (arith, flags-fit w E, length-divided, room))
 
   second : m′ ≡ splice (rowOffset w E k + (w + E)) (c ∷ []) m₁
-  second = q ∙ ap (λ a. set m₁ (a + (w + E)) c) here ∙ set-splice m₁ (rowOffset w E k + (w + E)) c (omega (arith, size, room))
+  second = q ∙ ap (λ a. set m₁ (a + (w + E)) c) here ∙ set-splice m₁ (rowOffset w E k + (w + E)) c (omega (arith, flags-fit w E, size, room))
 
   cell : (i : ℕ) → i < w + E → getD (row w E k m′) i 0 ≡ getD divided i 0
   cell i l =
-      getD-part (rowOffset w E k) (stride w E) i m′ (omega arith)
+      getD-part (rowOffset w E k) (stride w E) i m′ (omega (arith, flags-fit w E))
       ∙ ap (λ x. getD x (rowOffset w E k + i) 0) second
-      ∙ getD-before (rowOffset w E k + i) (rowOffset w E k + (w + E)) (c ∷ []) m₁ (omega arith) (omega (arith, size, room))
+      ∙ getD-before (rowOffset w E k + i) (rowOffset w E k + (w + E)) (c ∷ []) m₁ (omega arith) (omega (arith, flags-fit w E, size, room))
       ∙ ap (λ x. getD x (rowOffset w E k + i) 0) first
       ∙ getD-within (rowOffset w E k) i divided m (omega (arith, length-divided)) (omega (arith, room))
 
@@ -90,9 +91,9 @@ module _ (w E k c at : ℕ) (m m₁ m′ : List ℕ) (g : Works w E k m) (h : c 
     only =
         only-trans
         (subst (Only (rowOffset w E k) (rowOffset w E k + (w + E + 1)) m) (sym first)
-        (only-splice (rowOffset w E k) (rowOffset w E k + (w + E + 1)) (rowOffset w E k) divided m (omega arith) (omega (arith, length-divided)) (omega (arith, room))))
+        (only-splice (rowOffset w E k) (rowOffset w E k + (w + E + 1)) (rowOffset w E k) divided m (omega arith) (omega (arith, length-divided)) (omega (arith, flags-fit w E, room))))
         (subst (Only (rowOffset w E k) (rowOffset w E k + (w + E + 1)) m₁) (sym second)
-        (only-splice (rowOffset w E k) (rowOffset w E k + (w + E + 1)) (rowOffset w E k + (w + E)) (c ∷ []) m₁ (omega arith) (omega arith) (omega (arith, size, room))));
+        (only-splice (rowOffset w E k) (rowOffset w E k + (w + E + 1)) (rowOffset w E k + (w + E)) (c ∷ []) m₁ (omega arith) (omega arith) (omega (arith, flags-fit w E, size, room))));
     scaled =
         line-scale w E (g .some-width) factor (row w E k m) (row w E k m′) (bytes-part (rowOffset w E k) (stride w E) m bytes)
         (inverse-lt (getD (row w E k m) c 0))
@@ -102,10 +103,10 @@ module _ (w E k c at : ℕ) (m m₁ m′ : List ℕ) (g : Works w E k m) (h : c 
         ∙ ap (product factor) (part-row w E k i m l));
     flag =
         let e : rowOffset w E k + (w + E) ≡ rowOffset w E k + (w + E) + 0 = omega arith in
-        getD-part (rowOffset w E k) (stride w E) (w + E) m′ (omega arith)
+        getD-part (rowOffset w E k) (stride w E) (w + E) m′ (omega (arith, flags-fit w E))
         ∙ ap (λ x. getD x (rowOffset w E k + (w + E)) 0) second
         ∙ ap (λ a. getD (splice (rowOffset w E k + (w + E)) (c ∷ []) m₁) a 0) e
-        ∙ getD-within (rowOffset w E k + (w + E)) 0 (c ∷ []) m₁ (omega arith) (omega (arith, size, room));
+        ∙ getD-within (rowOffset w E k + (w + E)) 0 (c ∷ []) m₁ (omega arith) (omega (arith, flags-fit w E, size, room));
   }
 
 -- ---- where a row leads
@@ -167,7 +168,7 @@ module _ (w E first k : ℕ) (m : List ℕ) (g : Works w E k m) (bytes : Bytes m
 
     works : Works w E (k + 1) m′
     works =
-        let old = works-only {z = rowOffset w E k + (w + E + 1)} (omega arith) (done .only) g in
+        let old = works-only {z = rowOffset w E k + (w + E + 1)} (omega (arith, flags-fit w E)) (done .only) g in
         record {
           some-width = old .some-width;
           wide = old .wide;
@@ -233,7 +234,7 @@ module _ (w E first k : ℕ) (m : List ℕ) (g : Works w E k m) (bytes : Bytes m
     symbol-cell : (i : ℕ) → w ≤ i → i < w + E → getD (row w E k m) i 0 ≡ getD m (at + (i - w)) 0
     symbol-cell i l u =
         let e : rowOffset w E k + i ≡ at + (i - w) = omega arith in
-        getD-part (rowOffset w E k) (stride w E) i m (omega arith) ∙ ap (λ x. getD m x 0) e
+        getD-part (rowOffset w E k) (stride w E) i m (omega (arith, flags-fit w E)) ∙ ap (λ x. getD m x 0) e
 
     pub settled-implied : Zero-from at (at + E) m → Settled w E first k Implied m m
     settled-implied z = record {
@@ -321,13 +322,13 @@ module _ (w E oldest stay kept first count n : ℕ) (verdict : Verdict) (m work 
     -- What the rows before give, in all four memories.
     f′ : Gathered w E q S₀ work′ kept es
     f′ =
-        gathered-only w E q kept (rowOffset w E kept + (w + E + 1)) S₀ work work′ es (omega (arith, fits .some-symbol)) only₃ (omega arith) f
+        gathered-only w E q kept (rowOffset w E kept + (w + E + 1)) S₀ work work′ es (omega (arith, fits .some-symbol)) only₃ (omega (arith, flags-fit w E)) f
 
     abbrev T : State (Coded E) w
     T = place-rows (spelled w E q work′) kept S₀
 
     row-before : (j : ℕ) → j < kept → row w E j work₁ ≡ row w E j work
-    row-before j l = only-row w E kept j (rowOffset w E kept + (w + E)) work work₁ only₁ (omega arith) (omega arith)
+    row-before j l = only-row w E kept j (rowOffset w E kept + (w + E)) work work₁ only₁ (omega (arith, flags-fit w E)) (omega arith)
 
     reduced : spelled w E q work₂ kept ≡ reduce T e
     reduced =
@@ -339,7 +340,7 @@ module _ (w E oldest stay kept first count n : ℕ) (verdict : Verdict) (m work 
         ∙ ap (λ X. reduce X e)
         (place-rows-same L (spelled w E q work) (spelled w E q work′) kept S₀
         (λ j l.
-        ap (equation w E q) (sym (only-row w E kept j (rowOffset w E kept + (w + E + 1)) work work′ only₃ (omega arith) (omega arith)))))
+        ap (equation w E q) (sym (only-row w E kept j (rowOffset w E kept + (w + E + 1)) work work′ only₃ (omega (arith, flags-fit w E)) (omega arith)))))
 
     -- No coefficient before the equation's first.
     front : (j : ℕ) → q ≤ j → j < q + d → line w E (row w E kept work₂) .cells j ≡ Coded E .𝟘

@@ -11,6 +11,7 @@ use Rattle.memory.specs.Part.{part, splice}
 use Rattle.memory.proofs.Parts.{length-part, length-splice, getD-part, getD-before, getD-within, getD-past}
 use Rattle.table.specs.Window.{stride, rowOffset, row}
 use Rattle.table.specs.Packet.{Works}
+use Rattle.table.proofs.Offsets.{flags-fit}
 use Rattle.gather.specs.Gather.{Only, LaidIn}
 use Rattle.gather.proofs.Framing.{only-splice, only-trans, only-past, row-room}
 
@@ -27,17 +28,17 @@ module _ (w E k first : ℕ) (cs work : List ℕ) (g : Works w E k work) (h : fi
   blank = splice at (replicate w 0) work
 
   length-blank : length blank ≡ length work
-  length-blank = length-splice at (replicate w 0) work (omega (arith, room, length-replicate {A = ℕ} w 0))
+  length-blank = length-splice at (replicate w 0) work (omega (arith, flags-fit w E, room, length-replicate {A = ℕ} w 0))
 
   blank-at : (j : ℕ) → j < w → getD blank (at + j) 0 ≡ 0
   blank-at j l = getD-within at j (replicate w 0) work (omega (arith, length-replicate {A = ℕ} w 0)) (omega (arith, room)) ∙ getD-replicate w j 0 0 l
 
   only-blank : Only at (at + w) work blank
-  only-blank = only-splice at (at + w) at (replicate w 0) work (omega arith) (omega (arith, length-replicate {A = ℕ} w 0)) (omega (arith, room))
+  only-blank = only-splice at (at + w) at (replicate w 0) work (omega arith) (omega (arith, length-replicate {A = ℕ} w 0)) (omega (arith, flags-fit w E, room))
 
   -- A byte of the row.
   cell : (m : List ℕ) (j : ℕ) → j < w → getD (row w E k m) j 0 ≡ getD m (at + j) 0
-  cell m j l = getD-part (rowOffset w E k) (stride w E) j m (omega arith) ∙ ap (λ a. getD m (a + j) 0) (sym here)
+  cell m j l = getD-part (rowOffset w E k) (stride w E) j m (omega (arith, flags-fit w E)) ∙ ap (λ a. getD m (a + j) 0) (sym here)
 
   -- Some of the coefficients, from column `c` on.
   module _ (c i s : ℕ) (m : List ℕ) (fits : i + s ≤ length cs) (size : length m ≡ length work) (inside : c + s ≤ w) where
@@ -48,23 +49,23 @@ module _ (w E k first : ℕ) (cs work : List ℕ) (g : Works w E k work) (h : fi
     length-cut = length-part i s cs fits
 
     length-laid : length laid ≡ length work
-    length-laid = length-splice (at + c) (part i s cs) m (omega (arith, length-cut, room)) ∙ size
+    length-laid = length-splice (at + c) (part i s cs) m (omega (arith, flags-fit w E, length-cut, room)) ∙ size
 
     only-laid : Only at (at + w) m laid
-    only-laid = only-splice at (at + w) (at + c) (part i s cs) m (omega arith) (omega (arith, length-cut)) (omega (arith, room))
+    only-laid = only-splice at (at + w) (at + c) (part i s cs) m (omega arith) (omega (arith, length-cut)) (omega (arith, flags-fit w E, room))
 
     on-laid : (j : ℕ) → j < s → getD laid (at + (c + j)) 0 ≡ getD cs (i + j) 0
     on-laid j l =
         let e : at + (c + j) ≡ at + c + j = omega arith in
         ap (λ a. getD laid a 0) e
-        ∙ getD-within (at + c) j (part i s cs) m (omega (arith, length-cut)) (omega (arith, room))
+        ∙ getD-within (at + c) j (part i s cs) m (omega (arith, length-cut)) (omega (arith, flags-fit w E, room))
         ∙ getD-part i s j cs l
 
     before-laid : (j : ℕ) → j < c → getD laid (at + j) 0 ≡ getD m (at + j) 0
-    before-laid j l = getD-before (at + j) (at + c) (part i s cs) m (omega arith) (omega (arith, room))
+    before-laid j l = getD-before (at + j) (at + c) (part i s cs) m (omega arith) (omega (arith, flags-fit w E, room))
 
     past-laid : (j : ℕ) → c + s ≤ j → getD laid (at + j) 0 ≡ getD m (at + j) 0
-    past-laid j l = getD-past (at + j) (at + c) (part i s cs) m (omega (arith, length-cut)) (omega (arith, room))
+    past-laid j l = getD-past (at + j) (at + c) (part i s cs) m (omega (arith, length-cut)) (omega (arith, flags-fit w E, room))
 
   framed : (m : List ℕ) → Only at (at + w) work m → Only (rowOffset w E k) (rowOffset w E k + w) work m
   framed m f = subst (λ a. Only a (a + w) work m) here f
@@ -183,7 +184,7 @@ laid-symbol w E k first cs work work′ f i h =
     let same : (m : List ℕ) → getD (row w E k m) (w + i) 0 ≡ getD (part (rowOffset w E k + w) E m) i 0 =
     (λ m.
     let e : rowOffset w E k + (w + i) ≡ rowOffset w E k + w + i = omega arith in
-    getD-part (rowOffset w E k) (stride w E) (w + i) m (omega arith) ∙ ap (λ a. getD m a 0) e ∙ sym (getD-part (rowOffset w E k + w) E i m h)) in
+    getD-part (rowOffset w E k) (stride w E) (w + i) m (omega (arith, flags-fit w E)) ∙ ap (λ a. getD m a 0) e ∙ sym (getD-part (rowOffset w E k + w) E i m h)) in
     same work′
     ∙ ap (λ x. getD x i 0) (only-past (rowOffset w E k) (rowOffset w E k + w) (rowOffset w E k + w) E work work′ (f .only) (omega arith))
     ∙ sym (same work)

@@ -30,8 +30,9 @@ use Rattle.decoder.specs.Chain.{eliminate}
 use Rattle.decoder.proofs.Bytes.{laws, byte-zero}
 use Rattle.decoder.proofs.Stretch.{remainders, line-same, line-add}
 use Rattle.decoder.proofs.Combining.{stays-lines, eliminate-line}
-use Rattle.table.specs.Window.{stride, rowOffset, row, inUse, line, table, equation, Window, Fits}
+use Rattle.table.specs.Window.{headerSize, stride, rowOffset, row, inUse, line, table, equation, Window, Fits}
 use Rattle.table.specs.Packet.{Works, spelled, PivotMarked}
+use Rattle.table.proofs.Offsets.{flags-fit}
 use Rattle.gather.specs.Gather.{Only, Spans}
 use Rattle.gather.specs.GatherSteps.{if-used, multiplier, Zeros, Collected, StateReduced, Eliminated, PacketReduced, Staying}
 use Rattle.memory.proofs.Number.{bytes-part}
@@ -44,11 +45,11 @@ module _ (w E k : ℕ) (x m : List ℕ) (h : rowOffset w E k ≤ length m) where
   new-cell i l g = getD-part (rowOffset w E k) (stride w E) i (splice (rowOffset w E k) x m) g ∙ getD-within (rowOffset w E k) i x m l h
 
   pub new-line : 0 < w → length x ≡ w + E → line w E (row w E k (splice (rowOffset w E k) x m)) ≡ line w E x
-  new-line pos n = line-same w E pos (row w E k (splice (rowOffset w E k) x m)) x (λ i l. new-cell i (omega arith) (omega arith))
+  new-line pos n = line-same w E pos (row w E k (splice (rowOffset w E k) x m)) x (λ i l. new-cell i (omega arith) (omega (arith, flags-fit w E)))
 
 -- The same bytes as a part of `w + E` and as a row.
 pub part-row : (w E k i : ℕ) (m : List ℕ) → i < w + E → getD (part (rowOffset w E k) (w + E) m) i 0 ≡ getD (row w E k m) i 0
-part-row w E k i m h = getD-part (rowOffset w E k) (w + E) i m h ∙ sym (getD-part (rowOffset w E k) (stride w E) i m (omega arith))
+part-row w E k i m h = getD-part (rowOffset w E k) (w + E) i m h ∙ sym (getD-part (rowOffset w E k) (stride w E) i m (omega (arith, flags-fit w E)))
 
 pub bytes-addScaled : (c : ℕ) (d s : List ℕ) → Bytes d → Bytes (addScaled c d s)
 unfolding addScaled
@@ -62,20 +63,20 @@ bytes-addScaled c (x ∷ d) (y ∷ s) f (suc i) = bytes-addScaled c d s (λ j. f
 -- The code reads the row `j` from `from` on and its flag, and the row `k` from `at` on.
 module _ (w E k j at from : ℕ) (m : List ℕ) (p : at ≡ rowOffset w E k) (q : from ≡ rowOffset w E j) (g : Works w E k m) (h : j < k) where
   flag : getD m (from + (w + E)) 0 ≡ getD (row w E j m) (w + E) 0
-  flag = ap (λ a. getD m (a + (w + E)) 0) q ∙ sym (getD-part (rowOffset w E j) (stride w E) (w + E) m (omega arith))
+  flag = ap (λ a. getD m (a + (w + E)) 0) q ∙ sym (getD-part (rowOffset w E j) (stride w E) (w + E) m (omega (arith, flags-fit w E)))
 
   pub flag-lt : getD m (from + (w + E)) 0 < w
   flag-lt = omega (arith, flag, g .columns j h)
 
   pub rows-apart : from + (w + E) ≤ at
-  rows-apart = omega (arith, row-fits k (stride w E) j h)
+  rows-apart = omega (arith, flags-fit w E, row-fits k (stride w E) j h)
 
   pub eliminated : (m′ : List ℕ)
       → m′ ≡ splice at (addScaled (getD m (at + getD m (from + (w + E)) 0) 0) (part at (w + E) m) (part from (w + E) m)) m → Eliminated w E k j m m′
   eliminated m′ s =
       let c = getD (row w E j m) (w + E) 0 in
       let e : getD m (at + getD m (from + (w + E)) 0) 0 ≡ getD (row w E k m) c 0 =
-      ap (λ x. getD m (at + x) 0) flag ∙ ap (λ a. getD m (a + c) 0) p ∙ sym (getD-part (rowOffset w E k) (stride w E) c m (omega (arith, g .columns j h))) in
+      ap (λ x. getD m (at + x) 0) flag ∙ ap (λ a. getD m (a + c) 0) p ∙ sym (getD-part (rowOffset w E k) (stride w E) c m (omega (arith, flags-fit w E, g .columns j h))) in
       s
       ∙ ap (λ y. splice at (addScaled y (part at (w + E) m) (part from (w + E) m)) m) e
       ∙ ap (λ a. splice a (addScaled (getD (row w E k m) c 0) (part a (w + E) m) (part from (w + E) m)) m) p
@@ -100,10 +101,10 @@ module _ (w E k : ℕ) (work : List ℕ) where
     room-j = omega (arith, room, row-fits k (stride w E) j h)
 
     length-k : length (part (rowOffset w E k) (w + E) m) ≡ w + E
-    length-k = length-part (rowOffset w E k) (w + E) m (omega (arith, room))
+    length-k = length-part (rowOffset w E k) (w + E) m (omega (arith, flags-fit w E, room))
 
     length-j : length (part (rowOffset w E j) (w + E) m) ≡ w + E
-    length-j = length-part (rowOffset w E j) (w + E) m (omega (arith, room-j))
+    length-j = length-part (rowOffset w E j) (w + E) m (omega (arith, flags-fit w E, room-j))
 
     length-sum : length sum ≡ w + E
     length-sum = length-addScaled factor (part (rowOffset w E k) (w + E) m) (part (rowOffset w E j) (w + E) m) ∙ length-k
@@ -120,7 +121,7 @@ module _ (w E k : ℕ) (work : List ℕ) where
         ∙ ap₂ (λ x y. bitXor x (product factor y)) (part-row w E k i m l) (part-row w E j i m l))
 
     same-row : row w E j m ≡ row w E j work
-    same-row = only-row w E k j (rowOffset w E k + (w + E)) work m (f .only) (omega arith) (omega arith)
+    same-row = only-row w E k j (rowOffset w E k + (w + E)) work m (f .only) (omega (arith, flags-fit w E)) (omega arith)
 
     module _ (b : ℕ) (marks : (i : ℕ) → i < k → PivotMarked w E b (row w E i work)) where
       mark : PivotMarked w E b (row w E j m)
@@ -145,7 +146,7 @@ module _ (w E k : ℕ) (work : List ℕ) where
       only =
           only-trans (f .only)
           (subst (Only (rowOffset w E k) (rowOffset w E k + (w + E)) m) (sym s)
-          (only-splice (rowOffset w E k) (rowOffset w E k + (w + E)) (rowOffset w E k) sum m (omega arith) (omega (arith, length-sum)) (omega (arith, room))));
+          (only-splice (rowOffset w E k) (rowOffset w E k + (w + E)) (rowOffset w E k) sum m (omega arith) (omega (arith, length-sum)) (omega (arith, flags-fit w E, room))));
       sum = λ b marks. all b marks ∙ ap (λ i. eliminate (Coded E) w (spelled w E b work) i (spelled w E b work k)) (sym (add-one j));
     }
 
@@ -166,19 +167,24 @@ zeros (suc n) (suc i) = zeros n i
 pub length-lent : (a n : ℕ) (m : List ℕ) → a + n ≤ length m → length (take (a + n - a) (drop a m)) ≡ n
 length-lent a n m h = ap length (cut a n m) ∙ length-part a n m h
 
-pub rows-added : (w E k a : ℕ) (m work cs x : List ℕ) → a ≡ rowOffset w E k → a + (w + E) ≤ length work → w ≤ length cs
-    → x ≡ combined (coefficient (take w cs)) (rowAt m 64 (w + E + 4) (length (take (a + (w + E) - a) (drop a work)))) (length (take w cs)) (take (a + (w + E) - a) (drop a work))
-    → length x ≡ length (take (a + (w + E) - a) (drop a work))
-    → take a work ++ (x ++ drop (a + (w + E) - a) (drop a work))
-    ≡ splice (rowOffset w E k) (combined (coefficient (take w cs)) (rowAt m 64 (stride w E) (w + E)) w (part (rowOffset w E k) (w + E) work)) work
-rows-added w E k a m work cs x here room h s n =
-    put a (w + E) x work room n
-    ∙ ap (λ y. splice a y work)
-    (s
-    ∙ ap₂ (λ l c. combined (coefficient (take w cs)) (rowAt m 64 (stride w E) l) c (take (a + (w + E) - a) (drop a work)))
-    (length-lent a (w + E) work room) (length-take-le w cs h)
-    ∙ ap (combined (coefficient (take w cs)) (rowAt m 64 (stride w E) (w + E)) w) (cut a (w + E) work))
-    ∙ ap (λ y. splice y (combined (coefficient (take w cs)) (rowAt m 64 (stride w E) (w + E)) w (part y (w + E) work)) work) here
+module _ (w E k a b s : ℕ) (m work cs x : List ℕ) where
+  abbrev lent : List ℕ
+  lent = take (a + (w + E) - a) (drop a work)
+
+  abbrev summed : (b s l n : ℕ) → List ℕ → List ℕ
+  summed b s l n d = combined (coefficient (take w cs)) (rowAt m b s l) n d
+
+  pub rows-added : a ≡ rowOffset w E k → b ≡ headerSize → s ≡ stride w E → a + (w + E) ≤ length work → w ≤ length cs
+      → x ≡ summed b s (length lent) (length (take w cs)) lent → length x ≡ length lent
+      → take a work ++ (x ++ drop (a + (w + E) - a) (drop a work))
+      ≡ splice (rowOffset w E k) (summed headerSize (stride w E) (w + E) w (part (rowOffset w E k) (w + E) work)) work
+  rows-added here first each room h e n =
+      put a (w + E) x work room n
+      ∙ ap (λ y. splice a y work)
+      (e ∙ ap₂ (λ b s. summed b s (length lent) (length (take w cs)) lent) first each
+      ∙ ap₂ (λ l n. summed headerSize (stride w E) l n lent) (length-lent a (w + E) work room) (length-take-le w cs h)
+      ∙ ap (summed headerSize (stride w E) (w + E) w) (cut a (w + E) work))
+      ∙ ap (λ y. splice y (summed headerSize (stride w E) (w + E) w (part y (w + E) work)) work) here
 
 -- What `collect` has read is the row.
 module _ (w E k first n at any : ℕ) (m work cs cs′ : List ℕ) (here : at ≡ rowOffset w E k) (g : Works w E k work) (zeros : Zeros cs)
@@ -186,7 +192,7 @@ module _ (w E k first n at any : ℕ) (m work cs cs′ : List ℕ) (here : at �
   same : (c : ℕ) → c < w → multiplier w E c m (part at w work) ≡ multiplier w E c m (row w E k work)
   same c h =
       ap (if-used (inUse w E (row w E c m)))
-      (getD-part at w c work h ∙ ap (λ a. getD work (a + c) 0) here ∙ sym (getD-part (rowOffset w E k) (stride w E) c work (omega arith)))
+      (getD-part at w c work h ∙ ap (λ a. getD work (a + c) 0) here ∙ sym (getD-part (rowOffset w E k) (stride w E) c work (omega (arith, flags-fit w E))))
 
   inside : (i : ℕ) → (first + i) % w < w
   inside i = mod-lt (first + i) (g .some-width)
@@ -198,12 +204,12 @@ module _ (w E k first n at any : ℕ) (m work cs cs′ : List ℕ) (here : at �
     on = λ i h. sym (f .none z i h) ∙ same ((first + i) % w) (inside i);
     off = λ j h d. refl;
     sum =
-        sym (splice-part (rowOffset w E k) (w + E) work (omega (arith, row-room w E k work g)))
-        ∙ ap (λ x. splice (rowOffset w E k) x work) (sym (combined-none (rowAt m 64 (stride w E) (w + E)) w (part (rowOffset w E k) (w + E) work)));
+        sym (splice-part (rowOffset w E k) (w + E) work (omega (arith, flags-fit w E, row-room w E k work g)))
+        ∙ ap (λ x. splice (rowOffset w E k) x work) (sym (combined-none (rowAt m headerSize (stride w E) (w + E)) w (part (rowOffset w E k) (w + E) work)));
   }
 
   pub state-some : (work′ : List ℕ)
-      → work′ ≡ splice (rowOffset w E k) (combined (coefficient (take w cs′)) (rowAt m 64 (stride w E) (w + E)) w (part (rowOffset w E k) (w + E) work)) work
+      → work′ ≡ splice (rowOffset w E k) (combined (coefficient (take w cs′)) (rowAt m headerSize (stride w E) (w + E)) w (part (rowOffset w E k) (w + E) work)) work
       → StateReduced w E k first n m work work′
   unfolding part
   state-some work′ s = record {
@@ -216,29 +222,29 @@ module _ (w E k first n at any : ℕ) (m work cs cs′ : List ℕ) (here : at �
 
 -- The sum of the rows as lines.
 module _ (w E : ℕ) (m : List ℕ) (fits : Fits w E m) (bytes : Bytes m) where
-  length-state : (r : ℕ) → r < w → length (rowAt m 64 (stride w E) (w + E) r) ≡ w + E
+  length-state : (r : ℕ) → r < w → length (rowAt m headerSize (stride w E) (w + E) r) ≡ w + E
   unfolding rowAt
-  length-state r h = length-part (rowOffset w E r) (w + E) m (omega (arith, fits .room, row-fits w (stride w E) r h))
+  length-state r h = length-part (rowOffset w E r) (w + E) m (omega (arith, flags-fit w E, fits .room, row-fits w (stride w E) r h))
 
-  state-cell : (r i : ℕ) → i < w + E → getD (rowAt m 64 (stride w E) (w + E) r) i 0 ≡ getD (row w E r m) i 0
+  state-cell : (r i : ℕ) → i < w + E → getD (rowAt m headerSize (stride w E) (w + E) r) i 0 ≡ getD (row w E r m) i 0
   unfolding rowAt
   state-cell r i h = part-row w E r i m h
 
-  bytes-combined : (cs : List ℕ) (n : ℕ) (d : List ℕ) → Bytes d → Bytes (combined (coefficient cs) (rowAt m 64 (stride w E) (w + E)) n d)
+  bytes-combined : (cs : List ℕ) (n : ℕ) (d : List ℕ) → Bytes d → Bytes (combined (coefficient cs) (rowAt m headerSize (stride w E) (w + E)) n d)
   unfolding combined
   bytes-combined cs zero d f = f
   bytes-combined cs (suc n) d f =
-      bytes-addScaled (getD cs n 0) (combined (coefficient cs) (rowAt m 64 (stride w E) (w + E)) n d) (rowAt m 64 (stride w E) (w + E) n) (bytes-combined cs n d f)
+      bytes-addScaled (getD cs n 0) (combined (coefficient cs) (rowAt m headerSize (stride w E) (w + E)) n d) (rowAt m headerSize (stride w E) (w + E) n) (bytes-combined cs n d f)
 
   combined-line : (cs : List ℕ) → Bytes cs → (n : ℕ) → n ≤ w → (d : List ℕ) → Bytes d → length d ≡ w + E
-      → line w E (combined (coefficient cs) (rowAt m 64 (stride w E) (w + E)) n d)
+      → line w E (combined (coefficient cs) (rowAt m headerSize (stride w E) (w + E)) n d)
       ≡ add-lines (λ r. byte (getD cs r 0)) (λ r. line w E (row w E r m)) n (line w E d)
   unfolding combined add-lines
   combined-line cs small zero h d f n = refl
   combined-line cs small (suc k) h d f n =
-      let x = combined (coefficient cs) (rowAt m 64 (stride w E) (w + E)) k d in
-      let y = rowAt m 64 (stride w E) (w + E) k in
-      let lx : length x ≡ w + E = length-combined (rowAt m 64 (stride w E) (w + E)) (coefficient cs) k d ∙ n in
+      let x = combined (coefficient cs) (rowAt m headerSize (stride w E) (w + E)) k d in
+      let y = rowAt m headerSize (stride w E) (w + E) k in
+      let lx : length x ≡ w + E = length-combined (rowAt m headerSize (stride w E) (w + E)) (coefficient cs) k d ∙ n in
       line-add w E (fits .some-width) (getD cs k 0) x (row w E k m) (addScaled (getD cs k 0) x y) (bytes-combined cs k d f)
       (bytes-part (rowOffset w E k) (stride w E) m bytes) (small k)
       (λ i l.
@@ -252,19 +258,19 @@ module _ (w E k first n : ℕ) (m work work′ : List ℕ) (g : Works w E k work
   before = part (rowOffset w E k) (w + E) work
 
   length-before : length before ≡ w + E
-  length-before = length-part (rowOffset w E k) (w + E) work (omega (arith, row-room w E k work g))
+  length-before = length-part (rowOffset w E k) (w + E) work (omega (arith, flags-fit w E, row-room w E k work g))
 
   abbrev after : List ℕ
-  after = combined (coefficient (f .multipliers)) (rowAt m 64 (stride w E) (w + E)) w before
+  after = combined (coefficient (f .multipliers)) (rowAt m headerSize (stride w E) (w + E)) w before
 
   length-after : length after ≡ w + E
-  length-after = length-combined (rowAt m 64 (stride w E) (w + E)) (coefficient (f .multipliers)) w before ∙ length-before
+  length-after = length-combined (rowAt m headerSize (stride w E) (w + E)) (coefficient (f .multipliers)) w before ∙ length-before
 
   pub state-only : Only (rowOffset w E k) (rowOffset w E k + (w + E)) work work′
   state-only =
       subst (Only (rowOffset w E k) (rowOffset w E k + (w + E)) work) (sym (f .sum))
       (only-splice (rowOffset w E k) (rowOffset w E k + (w + E)) (rowOffset w E k) after work (omega arith) (omega (arith, length-after))
-      (omega (arith, row-room w E k work g)))
+      (omega (arith, flags-fit w E, row-room w E k work g)))
 
   state-line : Fits w E m → Bytes m → Bytes work
       → line w E (row w E k work′) ≡ add-lines (λ r. byte (getD (f .multipliers) r 0)) (λ r. line w E (row w E r m)) w (line w E (row w E k work))

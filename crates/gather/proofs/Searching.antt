@@ -8,6 +8,7 @@ use native.Mathlib.Omega.{arith}
 use lib.ListN.{getD}
 use Rattle.memory.proofs.Parts.{getD-part}
 use Rattle.table.specs.Window.{stride, rowOffset, row}
+use Rattle.table.proofs.Offsets.{flags-fit}
 use Rattle.gather.specs.GatherSteps.{Leading}
 
 -- No coefficient in the first `i` columns of a row.
@@ -43,7 +44,7 @@ rows-more w E first from r m f z k g l = go (ℕ-discrete k r)
 
 -- The code reads the row from `at` on.
 pub read-cell : (w E r at c : ℕ) (m : List ℕ) → at ≡ rowOffset w E r → c < w → getD m (at + c) 0 ≡ getD (row w E r m) c 0
-read-cell w E r at c m here h = ap (λ a. getD m (a + c) 0) here ∙ sym (getD-part (rowOffset w E r) (stride w E) c m (omega arith))
+read-cell w E r at c m here h = ap (λ a. getD m (a + c) 0) here ∙ sym (getD-part (rowOffset w E r) (stride w E) c m (omega (arith, flags-fit w E)))
 
 -- The first coefficient.
 pub leading-here : (w first i c : ℕ) (l : List ℕ) → i < w → c ≡ (first + i) % w → getD l c 0 ≢ 0 → Blank w first i l → Leading w first i l

@@ -15,7 +15,7 @@ use Rattle.decoder.specs.Bytes.{byte, Coded}
 use Rattle.decoder.specs.Model.{lead, symbol, scale}
 use Rattle.decoder.specs.TableSteps.{scale-line}
 use Rattle.decoder.specs.Chain.{eliminate}
-use Rattle.table.specs.Window.{stride, rowOffset, row, inUse, line}
+use Rattle.table.specs.Window.{headerSize, stride, rowOffset, row, inUse, line}
 use Rattle.table.specs.Packet.{Works, spelled, PivotMarked}
 use Rattle.gather.specs.Gather.{Only, count-kept}
 use Rattle.gather.specs.declared.Pivot.{Pivot}
@@ -47,7 +47,7 @@ pub record Collected (w E first n any : ℕ) (m l cs cs′ : List ℕ) : Type 0 
 -- The sum of the state's rows, each times its multiplier of `cs`, has been added to the row `k` of working memory.
 abbrev pub RowsAdded : (w E k : ℕ) (cs m work work′ : List ℕ) → Type 0
 RowsAdded w E k cs m work work′ =
-    work′ ≡ splice (rowOffset w E k) (combined (coefficient cs) (rowAt m 64 (stride w E) (w + E)) w (part (rowOffset w E k) (w + E) work)) work
+    work′ ≡ splice (rowOffset w E k) (combined (coefficient cs) (rowAt m headerSize (stride w E) (w + E)) w (part (rowOffset w E k) (w + E) work)) work
 
 -- So it has with multipliers by column: those for the `n` columns from `first` on, and else zero.
 pub record StateReduced (w E k first n : ℕ) (m work work′ : List ℕ) : Type 0 where

@@ -93,7 +93,15 @@ fn add_rows(mem: &[u8], work: &mut [u8], multipliers: &[u8], shape: Shape, k: us
     let w = shape.width;
     let n = w + shape.size;
     let at = table::row_offset(shape, k);
-    rows::combination::add_combination(&mut work[at..at + n], &multipliers[..w], mem, 64, n + 4);
+    let first = table::row_offset(shape, 0);
+    let stride = table::stride(shape);
+    rows::combination::add_combination(
+        &mut work[at..at + n],
+        &multipliers[..w],
+        mem,
+        first,
+        stride,
+    );
 }
 
 // Reduces the row `k` of working memory by the state's rows of `n` of its columns, from `first` on. Since the state is reduced, the multipliers

@@ -14,7 +14,7 @@ use Rattle.memory.proofs.Parts.{length-part, length-splice, part-add, splice-ne
 use Rattle.wire.proofs.Adui.{room, least}
 use Rattle.table.specs.Window.{rowOffset, Fits}
 use Rattle.table.specs.RowSteps.{RowOf, SymbolAt, Zero-from}
-use Rattle.table.proofs.Rows.{row-end}
+use Rattle.table.proofs.Offsets.{row-end, flags-fit}
 use Rattle.starts.specs.Adu.{allZero}
 use Rattle.handing.specs.HandSteps.{symbolOffset, text, SymbolOf, Spans}
 use Rattle.handing.proofs.Texts.{text-length, text-offset, text-rest, zero-test, symbol-ends}
@@ -23,7 +23,7 @@ use Rattle.handing.proofs.Texts.{text-length, text-offset, text-rest, z
 pub symbol-found : (w E oldest i r at : ℕ) → RowOf w oldest i r → SymbolAt w E r at → SymbolOf w E oldest i at
 symbol-found w E oldest i r at e k = record {
   start = k .start ∙ ap (λ x. rowOffset w E x + w) (e .is);
-  end = omega (arith, k .start, row-end w E r (e .small));
+  end = omega (arith, flags-fit w E, k .start, row-end w E r (e .small));
   small = k .small;
 }
 

@@ -18,6 +18,7 @@ use Rattle.memory.proofs.Parts.{length-part, part-part, getD-part, row-fits}
 use Rattle.wire.proofs.Settings.{both}
 use Rattle.table.specs.Window.{stride, rowOffset, Fits}
 use Rattle.table.specs.RowSteps.{Zero-from}
+use Rattle.table.proofs.Offsets.{flags-fit}
 use Rattle.starts.proofs.Packing.{part-front}
 use Rattle.starts.specs.Adu.{View, before, joint, allZero, lengthIn, flowIn}
 use Rattle.handing.specs.HandSteps.{symbolOffset, symbolIn, text}
@@ -54,7 +55,7 @@ part-later a k v y = ap (take k) (drop-append-add v y a)
 module _ (w E oldest : ℕ) (m : List ℕ) (fits : Fits w E m) where
   -- A symbol ends within the rows.
   pub symbol-ends : (i : ℕ) → symbolOffset w E oldest i + E ≤ rowOffset w E w
-  symbol-ends i = omega (arith, row-fits w (stride w E) ((oldest + i) % w) (mod-lt (oldest + i) (fits .some-width)))
+  symbol-ends i = omega (arith, flags-fit w E, row-fits w (stride w E) ((oldest + i) % w) (mod-lt (oldest + i) (fits .some-width)))
 
   pub symbol-length : (i : ℕ) → length (symbolIn w E oldest m i) ≡ E
   symbol-length i = length-part (symbolOffset w E oldest i) E m (omega (arith, symbol-ends i, fits .room))

@@ -30,6 +30,7 @@ use Rattle.decoder.specs.Model.{Row, end, free, pivot, Rref}
 use Rattle.decoder.specs.Stretch.{symbol-at}
 use Rattle.decoder.specs.Table.{Line, Table, read, slot, view, Echelon}
 use Rattle.decoder.proofs.Bytes.{byte-of}
+use Rattle.table.specs.Window.{headerSize, stride}
 use Rattle.table.specs.Window as window
 use Rattle.history.specs.Symbol.{Symbol, bytesOf}
 use Rattle.history.specs.History.{memorySize}
@@ -218,6 +219,7 @@ module _ (w E b : ℕ) (z : 0 < w) (S : model.State (Coded E) w) where
   length-columns r = length-tabulate (column r) w
 
   length-row : (r : ℕ) → length (rowBytes r) ≡ window.stride w E
+  unfolding window.stride
   length-row r =
       let v = symbol-of E S (index w b z r) in
       length-append (tabulate (column r) w) (bytesOf E v ++ (rowFlag r ∷ 0 ∷ 0 ∷ 0 ∷ []))
@@ -322,6 +324,7 @@ module _ (s : Setting) (v : Valid s) (t : Joined s) (past : List ℕ) where
   length-head = refl
 
   length-rows : length (joined (rowsFrom 0 w)) ≡ w * (w + E + 4)
+  unfolding stride
   length-rows = length-joined (window.stride w E) (rowsFrom 0 w) (rows-sized 0 w) ∙ ap (λ n. n * window.stride w E) (rows-length 0 w)
 
   length-memory : length memory ≡ memorySize s + length past
@@ -333,6 +336,7 @@ module _ (s : Setting) (v : Valid s) (t : Joined s) (past : List ℕ) where
       ∙ drop-at (joined (rowsFrom 0 w)) past (w * (w + E + 4)) length-rows
 
   row-is : (r : ℕ) → r < w → window.row w E r memory ≡ rowBytes w E (t .base) wide (t .window) r
+  unfolding headerSize stride
   row-is r h =
       let k = window.stride w E in
       part-drop 64 (r * k) k memory ∙ ap (part (r * k) k) (drop-at head body 64 length-head)

@@ -5,7 +5,7 @@ use mathlib.Core.Bool.{Bool, true, false, true≢false}
 use mathlib.Core.Option.{Option, none, some, Option·none-ne-some, Option·some-injective}
 use mathlib.Core.List.{List}
 use Prim.Native.Nat.{ℕ, _+_, _%_, _^_, _≤_, _<_}
-use native.Mathlib.Nat.{mod-add-mod, mul-le-mul-right, suc-mul}
+use native.Mathlib.Nat.{mod-add-mod}
 use native.Mathlib.Omega.{arith}
 use lib.ListN.{length}
 use borrow.Author.Tests.{lt-ltb, le-ltb}
@@ -18,6 +18,7 @@ use Rattle.wire.specs.Numbers.{distanceOf, numberOf}
 use Rattle.decoder.specs.Model.{known}
 use Rattle.table.specs.Window as window
 use Rattle.table.specs.RowSteps.{RowOf}
+use Rattle.table.proofs.Offsets.{flags-fit, row-end}
 use Rattle.placing.specs.Place.{Known}
 use Rattle.placing.proofs.Showing.{symbol-bytes}
 use Rattle.holding.specs.declared.Header.{Header}
@@ -98,9 +99,7 @@ module _ (m : List ℕ) (e : ℕ) (h : Header) (k : headerIn m ≡ some h) (join
     }
 
     row-ends : window.rowOffset width size r + window.stride width size ≤ length m
-    row-ends =
-        let f = header-fits m h k in
-        omega (arith, f .room, mul-le-mul-right (window.stride width size) (w .small), suc-mul r (window.stride width size))
+    row-ends = let f = header-fits m h k in omega (arith, f .room, row-end width size r (w .small))
 
     symbol-is : Bytes m → bytesOf size (window.line width size (window.row width size r m) .sym) ≡ part (window.rowOffset width size r + width) size m
     symbol-is b = symbol-bytes width size r m (header-fits m h k) (w .small) b
@@ -108,7 +107,7 @@ module _ (m : List ℕ) (e : ℕ) (h : Header) (k : headerIn m ≡ some h) (join
     known-at : Bytes m → Known width size r true m → Spotted m e (At (window.rowOffset width size r + width) size)
     known-at b u = record {
       unopened = λ z. absurd (Option·none-ne-some h (sym z ∙ k));
-      lies = λ y z. let i : h ≡ y = Option·some-injective _ _ (sym k ∙ z) in (ap (λ (x : Header). x .setting .size) i, omega (arith, row-ends));
+      lies = λ y z. let i : h ≡ y = Option·some-injective _ _ (sym k ∙ z) in (ap (λ (x : Header). x .setting .size) i, omega (arith, flags-fit width size, row-ends));
       told = of-joined m h k joined (λ s t. SpottedFor m e s t (At (window.rowOffset width size r + width) size))
           (λ t g a c. (
             t .base + d,

@@ -18,7 +18,7 @@ use Rattle.wire.specs.declared.Checked.the-variants.{Good, Bad}
 use Rattle.wire.specs.Packets.{zeros}
 use Rattle.wire.specs.Settings.{settingIn, Valid, checkedOf}
 use Rattle.wire.proofs.Settings.{both, setting-found, setting-kept, zeros-none, one-kind}
-use Rattle.table.specs.Window.{Fits}
+use Rattle.table.specs.Window.{headerSize, stride, Fits}
 use Rattle.holding.specs.declared.Header.{Header}
 use Rattle.holding.specs.declared.Found.{Found}
 use Rattle.holding.specs.declared.Found.the-variants.{HeaderIs, NoHeader}
@@ -116,6 +116,7 @@ header-room m h e = headed m h e .room
 
 -- The memory has room for the window's rows.
 pub setting-fits : (s : Setting) (m : List ℕ) → Valid s → memorySize s ≤ length m → Fits (s .width) (s .size) m
+unfolding headerSize stride
 setting-fits s m v h = record {
   some-width = omega (arith, v .width-least);
   wide = v .width-most;

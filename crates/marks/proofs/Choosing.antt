@@ -10,6 +10,7 @@ use native.Mathlib.Omega.{arith}
 use lib.Dec.{ltb}
 use lib.ListN.{length, getD, set}
 use Rattle.table.specs.Window.{rowOffset}
+use Rattle.table.proofs.Offsets.{header-long}
 use Rattle.starts.specs.Starts.{Starts}
 use Rattle.marks.specs.Marks.{markAt, Marks, OnlyMarks, notedIn, OnlyStarts}
 use Rattle.marks.specs.MarkSteps.{markByte}
@@ -26,7 +27,7 @@ module _ (w E oldest : ℕ) (M : Starts) (pos : 0 < w) where
       go (yes a) =
           let r = (oldest + i) % w in
           omega (arith, mark-row w E oldest i r a refl, flag-inside w E r (mod-lt (oldest + i) pos))
-      go (no a) = omega (arith, mark-past w E oldest i (omega arith))
+      go (no a) = omega (arith, header-long, mark-past w E oldest i (omega arith))
 
   -- The first n positions are marked so.
   record Chosen (n : ℕ) (m m′ : List ℕ) : Type 0 where
@@ -66,5 +67,5 @@ module _ (w E oldest : ℕ) (M : Starts) (pos : 0 < w) where
   pub with-starts : (m : List ℕ) → rowOffset w E w ≤ length m → (m′ : List ℕ) × OnlyStarts w E m m′ × Marks w E oldest m′ M × (notedIn m′ ≡ 1)
   with-starts m h =
       let (m′, only, marks) = with-marks m h in
-      let f = noted-byte 1 m′ (omega (arith, h, only .size)) in
+      let f = noted-byte 1 m′ (omega (arith, header-long, h, only .size)) in
       (set m′ 11 1, starts-trans (starts-of only) (noted-only f), noted-marks w E oldest 1 m′ (set m′ 11 1) M pos f marks, f .here)

@@ -2,7 +2,7 @@
 ghost use mathlib.Core.Path.{_≡_};
 ghost use Prim.Native.Nat.{_+_, _%_, _≤_, _<_};
 ghost use lib.ListN.{length};
-ghost use Rattle.table.specs.Window.{rowOffset, Fits};
+ghost use Rattle.table.specs.Window.{headerSize, rowOffset, Fits};
 ghost use Rattle.marks.specs.Marks.{markAt, marked};
 ghost use Rattle.marks.specs.MarkSteps.{Written, Dropped, Noted, Stepped, Followed, Owned, Decided, Extended, Updated, OneKnown, Tallied};
 ghost use Rattle.marks.specs.Contracts.{Cleared, Added, Moved, Passed};
@@ -114,7 +114,7 @@ fn move_on(mem: &mut [u8], shape: Shape, rise: usize)
 
 // Whether an ADU ends past the window is noted.
 fn note(mem: &mut [u8], v: u8)
-    requires { ⌜ 64 ≤ length (now mem) ⌝ }
+    requires { ⌜ headerSize ≤ length (now mem) ⌝ }
     ensures { λ _. ⌜ Noted v (now (mem .entry)) (now (mem .exit)) ⌝ }
 {
     mem[11] = v;
@@ -206,7 +206,7 @@ fn set_own(mem: &mut [u8], shape: Shape, first: usize, named: usize)
 
 // Whether only the pass will do: positions other than the packet's own have become known, or an ADU that ended past the window may end in it.
 fn must_pass(mem: &[u8], rise: usize, others: bool) -> bool
-    requires { ⌜ 64 ≤ length (now mem) ⌝ }
+    requires { ⌜ headerSize ≤ length (now mem) ⌝ }
     ensures { λ r. ⌜ Decided rise others (now (mem .entry)) r ⌝ }
 {
     if others {

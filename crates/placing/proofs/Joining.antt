@@ -29,6 +29,7 @@ use Rattle.placing.specs.Place.{Moved, Committed}
 use Rattle.table.specs.RowSteps.{known-flags, Settled, PlacedKept, Joined}
 use Rattle.table.specs.Packet.{spelled, PivotMarked}
 use Rattle.table.proofs.Rows.{kept-refl, kept-trans, fits-kept}
+use Rattle.table.proofs.Offsets.{flags-fit}
 use Rattle.placing.proofs.Placing.{places}
 use Rattle.placing.proofs.Showing.{count-known}
 
@@ -48,7 +49,7 @@ settled-line {w} {E} {r} {n} {l} {l′} {m} {m′} e s = record {
 pub without-flags : (w E k at : ℕ) (work : List ℕ) → 0 < w → at ≡ rowOffset w E k → line w E (part at (w + E) work) ≡ line w E (row w E k work)
 without-flags w E k at work pos here =
     line-same w E pos (part at (w + E) work) (row w E k work)
-    (λ i l. getD-part at (w + E) i work l ∙ ap (λ a. getD work (a + i) 0) here ∙ sym (getD-part (rowOffset w E k) (stride w E) i work (omega arith)))
+    (λ i l. getD-part at (w + E) i work l ∙ ap (λ a. getD work (a + i) 0) here ∙ sym (getD-part (rowOffset w E k) (stride w E) i work (omega (arith, flags-fit w E))))
 
 -- A reduced row that leads with one is placed.
 module _ (w E b n : ℕ) (T : State (Coded E) w) (l m m′ : List ℕ) (fits : Fits w E m) (v : Window w E m b T) (s : Settled w E (flag w E l) n l m m′)

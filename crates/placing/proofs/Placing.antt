@@ -26,6 +26,7 @@ use Rattle.table.specs.RowSteps.{one-if-known, known-flag, known-flags, Marked,
 use Rattle.table.proofs.Rows.{row-store, row-other, kept-store, kept-refl, kept-trans, fits-kept}
 use Rattle.table.proofs.Flags.{flag-at, unused, used, unused-flag, not-known, flags-changed, count-changed}
 use Rattle.table.proofs.Flags.{flagged-flag, flagged-cell, flagged-line, flagged-rest, flagged-kept}
+use Rattle.table.proofs.Offsets.{flags-fit}
 use Rattle.placing.proofs.Moving.{other}
 
 -- A byte of a row whose first bytes have been replaced.
@@ -153,7 +154,7 @@ module _ (w E r q : ℕ) (l m : List ℕ) where
     pub cleared-zero : 0 < E → r < w → getD m (at + r) 0 ≡ 0 → ClearedRow w E r q 0 l m m
     cleared-zero pos h z =
         idle (λ _. sym (add-line-zero (laws E pos) (byte (getD (row w E q m) r 0)) (line w E l) (line w E (row w E q m))
-        (byte-zero (getD (row w E q m) r 0) (getD-part (rowOffset w E q) (stride w E) r m (omega arith) ∙ ap (λ a. getD m (a + r) 0) (sym here) ∙ z))))
+        (byte-zero (getD (row w E q m) r 0) (getD-part (rowOffset w E q) (stride w E) r m (omega (arith, flags-fit w E)) ∙ ap (λ a. getD m (a + r) 0) (sym here) ∙ z))))
 
     pub cleared-unused : getD m (at + (w + E)) 0 ≡ 0 → ClearedRow w E r q 0 l m m
     cleared-unused z =
@@ -167,7 +168,7 @@ module _ (w E r q n : ℕ) (l m m₁ m′ : List ℕ) (fits : Fits w E m) (c : r
   coefficient = getD (row w E q m) r 0
 
   same : getD m (at + r) 0 ≡ coefficient
-  same = ap (λ a. getD m (a + r) 0) here ∙ sym (getD-part (rowOffset w E q) (stride w E) r m (omega arith))
+  same = ap (λ a. getD m (a + r) 0) here ∙ sym (getD-part (rowOffset w E q) (stride w E) r m (omega (arith, flags-fit w E)))
 
   abbrev added : List ℕ
   added = addScaled coefficient (part (rowOffset w E q) (w + E) m) (part 0 (w + E) l)
@@ -177,7 +178,7 @@ module _ (w E r q n : ℕ) (l m m₁ m′ : List ℕ) (fits : Fits w E m) (c : r
 
   length-added : length added ≡ w + E
   length-added =
-      length-addScaled coefficient (part (rowOffset w E q) (w + E) m) (part 0 (w + E) l) ∙ length-part (rowOffset w E q) (w + E) m (omega (arith, within))
+      length-addScaled coefficient (part (rowOffset w E q) (w + E) m) (part 0 (w + E) l) ∙ length-part (rowOffset w E q) (w + E) m (omega (arith, flags-fit w E, within))
 
   bytes : m₁ ≡ splice (rowOffset w E q) added m
   bytes =
@@ -187,10 +188,10 @@ module _ (w E r q n : ℕ) (l m m₁ m′ : List ℕ) (fits : Fits w E m) (c : r
   element : (j : ℕ) → j < w + E → getD added j 0 ≡ bitXor (getD (row w E q m) j 0) (product coefficient (getD l j 0))
   element j b =
       let o : getD (part (rowOffset w E q) (w + E) m) j 0 ≡ getD (row w E q m) j 0 =
-      getD-part (rowOffset w E q) (w + E) j m b ∙ sym (getD-part (rowOffset w E q) (stride w E) j m (omega arith)) in
+      getD-part (rowOffset w E q) (w + E) j m b ∙ sym (getD-part (rowOffset w E q) (stride w E) j m (omega (arith, flags-fit w E))) in
       let y : getD (part 0 (w + E) l) j 0 ≡ getD l j 0 = ap (λ z. getD z j 0) (whole (w + E) l size) in
       getD-addScaled coefficient (part (rowOffset w E q) (w + E) m) (part 0 (w + E) l) j
-      (omega (arith, length-part (rowOffset w E q) (w + E) m (omega (arith, within))))
+      (omega (arith, length-part (rowOffset w E q) (w + E) m (omega (arith, flags-fit w E, within))))
       (omega (arith, ap length (whole (w + E) l size)))
       ∙ ap₂ (λ a b. bitXor a (product coefficient b)) o y
 

@@ -30,6 +30,7 @@ use Rattle.placing.specs.Place.{Known}
 use Rattle.table.specs.RowSteps.{one-if-known, known-flag, known-flags}
 use Rattle.table.proofs.Zero.{else-zero}
 use Rattle.table.proofs.Flags.{length-row, unused, used, not-known}
+use Rattle.table.proofs.Offsets.{flags-fit}
 use Rattle.placing.proofs.Moving.{other, position}
 
 module _ (w E r : ℕ) (m : List ℕ) (fits : Fits w E m) (h : r < w) (f : Bytes m) where
@@ -94,8 +95,8 @@ module _ (w E r : ℕ) (m : List ℕ) (fits : Fits w E m) (h : r < w) (f : Bytes
 pub symbol-bytes : (w E r : ℕ) (m : List ℕ) → Fits w E m → r < w → Bytes m → bytes-of E (line w E (row w E r m) .sym) ≡ part (rowOffset w E r + w) E m
 unfolding part
 symbol-bytes w E r m fits h f =
-    bytes-of-symbol E w (row w E r m) (bytes-part (rowOffset w E r) (stride w E) m f) (omega (arith, length-row w E m fits r h))
-    ∙ part-part (rowOffset w E r) (stride w E) w E m (omega arith)
+    bytes-of-symbol E w (row w E r m) (bytes-part (rowOffset w E r) (stride w E) m f) (omega (arith, flags-fit w E, length-row w E m fits r h))
+    ∙ part-part (rowOffset w E r) (stride w E) w E m (omega (arith, flags-fit w E))
 
 -- ---- counting
 

@@ -16,6 +16,8 @@ use Rattle.wire.specs.declared.Refusal.the-variants.{Values, Short}
 use Rattle.wire.specs.Packets.{zeros}
 use Rattle.wire.specs.Settings.{settingOf, settingIn, settingBytes, Valid}
 use Rattle.wire.proofs.Settings.{setting-names, setting-written, setting-kept}
+use Rattle.table.specs.Window.{stride, headerSize}
+use Rattle.table.proofs.Offsets.{header-long}
 use Rattle.placing.specs.Place.{Emptied}
 use Rattle.starts.specs.Starts.{nowhere}
 use Rattle.marks.specs.Contracts.{Cleared}
@@ -61,13 +63,15 @@ module _ (s : Setting) (v : Valid s) (m m′ : List ℕ) (room : memorySize s �
       let l : length x ≡ length m = length-splice 0 (settingBytes 2 s) m (omega arith) in
       length-splice 8 (zeros 56) x (omega (arith, l)) ∙ l
 
-  front : (i : ℕ) → i ≤ 64 → take i m′ ≡ take i (freshHeader s m)
-  front i h = sym (take-take i 64 m′ h) ∙ ap (take i) (k .kept .header) ∙ take-take i 64 (freshHeader s m) h
+  front : (i : ℕ) → i ≤ 16 → take i m′ ≡ take i (freshHeader s m)
+  front i h =
+      let l : i ≤ headerSize = omega (arith, header-long) in
+      sym (take-take i headerSize m′ l) ∙ ap (take i) (k .kept .header) ∙ take-take i headerSize (freshHeader s m) l
 
-  part-front : (a i : ℕ) → a + i ≤ 64 → part a i m′ ≡ part a i (freshHeader s m)
+  part-front : (a i : ℕ) → a + i ≤ 16 → part a i m′ ≡ part a i (freshHeader s m)
   unfolding part
   part-front a i h =
-      let e : (l : List ℕ) → part a i (part 0 64 l) ≡ part a i l = λ l. part-part 0 64 a i l h ∙ ap (λ x. part x i l) (zero-add a) in
+      let e : (l : List ℕ) → part a i (part 0 headerSize l) ≡ part a i l = λ l. part-part 0 headerSize a i l (omega (arith, header-long)) ∙ ap (λ x. part x i l) (zero-add a) in
       sym (e m′) ∙ ap (part a i) (k .kept .header) ∙ e (freshHeader s m)
 
   setting-is : settingIn 2 m′ ≡ some s
@@ -92,7 +96,7 @@ module _ (s : Setting) (v : Valid s) (m m′ : List ℕ) (room : memorySize s �
   held = record { header = header-is; rows = k .free }
 
   past-is : drop (memorySize s) m′ ≡ drop (memorySize s) m
-  unfolding freshHeader settingBytes
+  unfolding freshHeader settingBytes splice headerSize stride
   past-is =
       let x = splice 0 (settingBytes 2 s) m in
       k .kept .past ∙ past-splice (memorySize s) 8 (zeros 56) x (omega arith) (omega (arith, length-splice 0 (settingBytes 2 s) m (omega arith)))

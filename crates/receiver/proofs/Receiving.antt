@@ -16,7 +16,7 @@ use Rattle.decoder.specs.Bytes.{Coded}
 use Rattle.decoder.specs.Model as model
 use Rattle.decoder.specs.Receiver as decoder
 use Rattle.decoder.specs.Packets as packets
-use Rattle.table.specs.Window.{rowOffset, Fits}
+use Rattle.table.specs.Window.{headerSize, stride, rowOffset, Fits}
 use Rattle.table.specs.Packet as packet
 use Rattle.starts.specs.Starts.{Starts, owning, moved, pass, seen}
 use Rattle.starts.proofs.Settling.{unseen-settled}
@@ -88,6 +88,7 @@ module _ (h : Header) (e n : ℕ) (at : Location) (q : LocationIs at ≡ locatio
 
   module _ (m v : List ℕ) (has : Based m h) (room : workingSize (h .setting) ≤ length v) where
     pub ready : Ready at m v
+    unfolding headerSize stride
     ready =
         let f = found-at h e n at q in
         let g = based-fits m h has in
@@ -238,6 +239,7 @@ module _ (c : Call) (m v : List ℕ) (h : Header) (has : headerIn m ≡ some h) 
         ≡ firsts (rows (h .setting .width) (h .setting .size) i) count)
         (v′ : List ℕ) (r : Gathered) (f : Gathers at n (rows (at .shape .width) (at .shape .size)) count r m v v′) where
       work-kept : Contained (workingSize (h .setting)) v v′
+      unfolding headerSize stride
       work-kept = subst (λ (p : Location). Contained (rowOffset (p .shape .width) (p .shape .size) (p .shape .width + 1)) v v′) is (f .contained)
 
       module _ (s : Setting) (t : Joined s) (is-header : g ≡ headerFrom s t) (k : Stands m s t) where

@@ -17,6 +17,7 @@ use Rattle.table.specs.Window.{stride, rowOffset, row, flag, inUse, line
 use Rattle.table.specs.RowSteps.{one-if-known, known-flag, flagged}
 use Rattle.table.proofs.Rows.{row-store, row-other, kept-store}
 use Rattle.table.proofs.Holding.{getD-before}
+use Rattle.table.proofs.Offsets.{flags-fit}
 
 -- The byte that was stored.
 stored-at : (l : List ℕ) (i v : ℕ) → i < length l → getD (splice i (v ∷ []) l) i 0 ≡ v
@@ -30,7 +31,7 @@ length-row w E m fits r h = length-part (rowOffset w E r) (stride w E) m (omega 
 
 -- Where the flag lies in the memory.
 pub flag-at : (w E r : ℕ) (m : List ℕ) → flag w E (row w E r m) ≡ getD m (rowOffset w E r + (w + E)) 0
-flag-at w E r m = getD-part (rowOffset w E r) (stride w E) (w + E) m (omega arith)
+flag-at w E r m = getD-part (rowOffset w E r) (stride w E) (w + E) m (omega (arith, flags-fit w E))
 
 pub unused : (w E : ℕ) (l : List ℕ) → flag w E l ≡ 0 → inUse w E l ≡ false
 unused w E l z = ap (ltb 0) z
@@ -62,10 +63,10 @@ module _ (w E r v : ℕ) (m : List ℕ) (fits : Fits w E m) (h : r < w) where
   new-row = row-store w E r (w + E) (v ∷ []) m (fits .room) h (omega arith)
 
   pub flagged-flag : flag w E (row w E r (flagged w E r v m)) ≡ v
-  flagged-flag = ap (flag w E) new-row ∙ stored-at (row w E r m) (w + E) v (omega (arith, length-row w E m fits r h))
+  flagged-flag = ap (flag w E) new-row ∙ stored-at (row w E r m) (w + E) v (omega (arith, flags-fit w E, length-row w E m fits r h))
 
   pub flagged-cell : (i : ℕ) → i < w + E → getD (row w E r (flagged w E r v m)) i 0 ≡ getD (row w E r m) i 0
-  flagged-cell i l = ap (λ x. getD x i 0) new-row ∙ getD-before i (w + E) (v ∷ []) (row w E r m) l (omega (arith, length-row w E m fits r h))
+  flagged-cell i l = ap (λ x. getD x i 0) new-row ∙ getD-before i (w + E) (v ∷ []) (row w E r m) l (omega (arith, flags-fit w E, length-row w E m fits r h))
 
   pub flagged-line : line w E (row w E r (flagged w E r v m)) ≡ line w E (row w E r m)
   flagged-line = line-same w E (fits .some-width) (row w E r (flagged w E r v m)) (row w E r m) flagged-cell

@@ -12,13 +12,15 @@ use Rattle.decoder.specs.Bytes.{Coded}
 use Rattle.decoder.specs.Model.{State}
 use Rattle.decoder.specs.Table.{Echelon, view}
 use Rattle.decoder.proofs.Stretch.{line-same}
-use Rattle.table.specs.Window.{stride, rowOffset, row, inUse, line, table, Flags, Window, Fits}
+use Rattle.table.specs.Window.{headerSize, stride, rowOffset, row, inUse, line, table, Flags, Window, Fits}
+use Rattle.table.proofs.Offsets.{flags-fit}
 
 -- Two memories whose rows agree up to their first flag hold the same system.
 module _ (w E : ℕ) (m m′ : List ℕ) (pos : 0 < w)
     (same : (r : ℕ) → r < w → (k : ℕ) → k < w + E + 1 → getD m′ (rowOffset w E r + k) 0 ≡ getD m (rowOffset w E r + k) 0) where
   cell : (r : ℕ) → r < w → (k : ℕ) → k < w + E + 1 → getD (row w E r m) k 0 ≡ getD (row w E r m′) k 0
   cell r h k l =
+      let g = flags-fit w E in
       getD-part (rowOffset w E r) (stride w E) k m (omega arith) ∙ sym (same r h k l) ∙ sym (getD-part (rowOffset w E r) (stride w E) k m′ (omega arith))
 
   used : (r : ℕ) → r < w → inUse w E (row w E r m) ≡ inUse w E (row w E r m′)
@@ -46,7 +48,7 @@ module _ (w E : ℕ) (m m′ : List ℕ) (pos : 0 < w)
   }
 
 -- What is stored in the header, as the base, leaves the system as it is.
-pub window-header : (w E a b : ℕ) (x m : List ℕ) (S : State (Coded E) w) → Fits w E m → a + length x ≤ 64 → Window w E m b S → Window w E (splice a x m) b S
+pub window-header : (w E a b : ℕ) (x m : List ℕ) (S : State (Coded E) w) → Fits w E m → a + length x ≤ headerSize → Window w E m b S → Window w E (splice a x m) b S
 window-header w E a b x m S fits h =
     window-same w E m (splice a x m) (fits .some-width)
     (λ r l k n. getD-past (rowOffset w E r + k) a x m (omega arith) (omega (arith, fits .room)))

@@ -1,3 +1,4 @@
+pub mod Offsets
 pub mod Rows
 pub mod Zero
 pub mod Holding

@@ -10,6 +10,7 @@ use lib.Bits.{bitOr, or-add-and, and-le-l, and-le-r}
 use Rattle.memory.proofs.Parts.{getD-part}
 use Rattle.table.specs.Window.{stride, rowOffset, row, Alone}
 use Rattle.table.specs.RowSteps.{Zero-from, Tested}
+use Rattle.table.proofs.Offsets.{flags-fit}
 
 -- Two numbers or-ed are zero just where both are.
 or-zero : (a b : ℕ) → bitOr a b ≡ 0 → (a ≡ 0) × (b ≡ 0)
@@ -37,7 +38,7 @@ or-done a i z x l e f = subst (λ k. (x ≡ 0) ↔ Zero-from a k l) e f
 -- The code reads the row `r` from `at` on: `x` is the coefficients before its own or-ed, `y` those after.
 module _ (w E r : ℕ) (m : List ℕ) (h : r < w) (at : ℕ) (here : at ≡ rowOffset w E r) where
   cell : (j : ℕ) → j < w → getD (row w E r m) j 0 ≡ getD m (at + j) 0
-  cell j l = getD-part (rowOffset w E r) (stride w E) j m (omega arith) ∙ ap (λ a. getD m (a + j) 0) (sym here)
+  cell j l = getD-part (rowOffset w E r) (stride w E) j m (omega (arith, flags-fit w E)) ∙ ap (λ a. getD m (a + j) 0) (sym here)
 
   module _ (x y : ℕ) (f : (x ≡ 0) ↔ Zero-from at (at + r) m) (g : (y ≡ 0) ↔ Zero-from (at + (r + 1)) (at + w) m) where
     pub tested-alone : bitOr x y ≡ 0 → Tested w E r 1 m

@@ -9,15 +9,8 @@ use native.Mathlib.Omega.{arith}
 use lib.ListN.{length, getD, set}
 use Rattle.memory.specs.Part.{part, splice}
 use Rattle.memory.proofs.Parts.{length-part, length-splice, take-splice, past-splice, part-before, part-past, part-splice, splice-within, getD-part, getD-past, row-fits}
-use Rattle.table.specs.Window.{stride, rowOffset, row, Fits, Kept}
-
--- No row begins later than the last of the widest window with the longest symbols.
-pub small-row : (w E r : ℕ) → r ≤ w → (w ≤ 255) × (E ≤ 1500) → rowOffset w E r ≤ 450000
-small-row w E r h k = let l : r ≤ 255 = omega arith in omega (arith, mul-le-mul-right (stride w E) l)
-
--- A row ends within the rows.
-pub row-end : (w E r : ℕ) → r < w → rowOffset w E r + stride w E ≤ rowOffset w E w
-row-end w E r h = omega (arith, row-fits w (stride w E) r h)
+use Rattle.table.specs.Window.{headerSize, stride, rowOffset, row, Fits, Kept}
+use Rattle.table.proofs.Offsets.{flags-fit}
 
 -- One byte stored.
 pub set-splice : (l : List ℕ) (i v : ℕ) → i < length l → set l i v ≡ splice i (v ∷ []) l
@@ -51,6 +44,7 @@ module _ (w E r b : ℕ) (x m : List ℕ) (room : rowOffset w E w ≤ length m) 
   pub row-store : row w E r (splice (rowOffset w E r + b) x m) ≡ splice b x (row w E r m)
   row-store =
       let f = row-fits w (stride w E) r h in
+      let g = flags-fit w E in
       let a = rowOffset w E r in
       let p = part a (stride w E) m in
       let n : length p ≡ stride w E = length-part a (stride w E) m (omega arith) in
@@ -62,17 +56,18 @@ module _ (w E r b : ℕ) (x m : List ℕ) (room : rowOffset w E w ≤ length m) 
   pub row-other : (q : ℕ) → q < w → q ≢ r → row w E q (splice (rowOffset w E r + b) x m) ≡ row w E q m
   row-other q g n = go (decLt q r)
     where
-      f : r * stride w E + stride w E ≤ w * stride w E
-      f = row-fits w (stride w E) r h
+      f : rowOffset w E r + (b + length x) ≤ rowOffset w E w
+      f = omega (arith, row-fits w (stride w E) r h, flags-fit w E)
 
       go : Dec (q < r) → row w E q (splice (rowOffset w E r + b) x m) ≡ row w E q m
       go (yes d) = part-before (rowOffset w E q) (stride w E) (rowOffset w E r + b) x m (omega (arith, row-fits r (stride w E) q d)) (omega (arith, f))
-      go (no d) = part-past (rowOffset w E q) (stride w E) (rowOffset w E r + b) x m (omega (arith, row-fits q (stride w E) r (omega arith))) (omega (arith, f))
+      go (no d) = part-past (rowOffset w E q) (stride w E) (rowOffset w E r + b) x m (omega (arith, row-fits q (stride w E) r (omega arith), flags-fit w E)) (omega (arith, f))
 
   flag : (q k : ℕ) → q < w → w + E < k → k < stride w E → Dec (q ≡ r)
       → getD (row w E q (splice (rowOffset w E r + b) x m)) k 0 ≡ getD (row w E q m) k 0
   flag q k g c d (yes e) =
       let f = row-fits w (stride w E) r h in
+      let g = flags-fit w E in
       ap (λ y. getD (row w E y (splice (rowOffset w E r + b) x m)) k 0) e
       ∙ ap (λ y. getD y k 0) row-store
       ∙ getD-past k b x (row w E r m) (omega arith) (omega (arith, length-part (rowOffset w E r) (stride w E) m (omega arith)))
@@ -82,9 +77,10 @@ module _ (w E r b : ℕ) (x m : List ℕ) (room : rowOffset w E w ≤ length m) 
   pub kept-store : Kept w E m (splice (rowOffset w E r + b) x m)
   kept-store =
       let f = row-fits w (stride w E) r h in
+      let g = flags-fit w E in
       record {
         size = length-splice (rowOffset w E r + b) x m (omega arith);
-        header = take-splice 64 (rowOffset w E r + b) x m (omega arith) (omega arith);
+        header = take-splice headerSize (rowOffset w E r + b) x m (omega arith) (omega arith);
         past = past-splice (rowOffset w E w) (rowOffset w E r + b) x m (omega arith) (omega arith);
         flags = λ q k g c d.
             sym (getD-part (rowOffset w E q) (stride w E) k (splice (rowOffset w E r + b) x m) d) ∙ flag q k g c d (ℕ-discrete q r)

@@ -1,4 +1,4 @@
--- A packet's equations in working memory: 64 bytes, then `w + 1` rows laid out as the state's, in order of arrival. Row `k` holds the `k`th
+-- A packet's equations in working memory: a header's bytes, then `w + 1` rows laid out as the state's, in order of arrival. Row `k` holds the `k`th
 -- equation that was kept, and its first flag the column of its pivot. The state stays as it is until all are known to agree with it.
 use mathlib.Core.Path.{_≡_}
 use mathlib.Core.List.{List}

@@ -23,6 +23,7 @@ pub record RowOf (w oldest i r : ℕ) : Type 0 where
 pub record RowAt (w E r at : ℕ) : Type 0 where
   pub start : at ≡ rowOffset w E r
   pub end : at + stride w E ≤ rowOffset w E (w + 1)
+  pub wide : w + E + 4 ≤ stride w E
   pub small : at ≤ 450000
 
 -- The symbol of the row `r` of `w + 1` begins at `at`.

@@ -1,4 +1,4 @@
--- The window's equations in lent memory: 64 bytes of header, then `w` rows, each of `w` coefficients, `E` bytes of symbol and 4 flags.
+-- The window's equations in lent memory: a header, then `w` rows, each of `w` coefficients, `E` bytes of symbol and some flags.
 -- Row and column of a position are its remainder by `w`. A row's first flag: 0 no row, 1 a row, 2 a row with no coefficient but its pivot's.
 use mathlib.Core.Path.{_≡_}
 use mathlib.Core.Logic.{_≢_, _↔_}
@@ -13,12 +13,16 @@ use Rattle.decoder.specs.Model.{Row, State}
 use Rattle.decoder.specs.Table.{Line, Table, read, view, Echelon}
 use Rattle.decoder.specs.Stretch.{line-of}
 
--- How many bytes a row has, and where row `r` begins.
-abbrev pub stride : ℕ → ℕ → ℕ
+-- How many bytes the header has, and a row, with its flags.
+unfoldable pub headerSize : ℕ
+headerSize = 64
+
+unfoldable pub stride : ℕ → ℕ → ℕ
 stride w E = w + E + 4
 
+-- Where row `r` begins.
 abbrev pub rowOffset : ℕ → ℕ → ℕ → ℕ
-rowOffset w E r = 64 + r * stride w E
+rowOffset w E r = headerSize + r * stride w E
 
 -- The bytes of row `r`.
 abbrev pub row : ℕ → ℕ → ℕ → List ℕ → List ℕ
@@ -70,6 +74,6 @@ pub record Fits (w E : ℕ) (m : List ℕ) : Type 0 where
 -- Nothing but the rows has changed, and of their flags only the first.
 pub record Kept (w E : ℕ) (m m′ : List ℕ) : Type 0 where
   pub size : length m′ ≡ length m
-  pub header : take 64 m′ ≡ take 64 m
+  pub header : take headerSize m′ ≡ take headerSize m
   pub past : drop (rowOffset w E w) m′ ≡ drop (rowOffset w E w) m
   pub flags : (r k : ℕ) → r < w → w + E < k → k < stride w E → getD m′ (rowOffset w E r + k) 0 ≡ getD m (rowOffset w E r + k) 0

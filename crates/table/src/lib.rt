@@ -4,6 +4,7 @@ ghost use mathlib.Core.Path.{_≡_};
 ghost use mathlib.Core.Logic.{_↔_};
 ghost use Prim.Native.Nat.{_≤_, _<_};
 ghost use lib.ListN.{length};
+ghost use Rattle.table.specs.Window.{headerSize, stride};
 ghost use Rattle.table.specs.RowSteps.{RowOf, RowAt, SymbolAt, Zero-from};
 
 // A window: how many positions it has, how many bytes a symbol has, and the row of the oldest position.
@@ -30,12 +31,27 @@ pub fn row_of(shape: Shape, i: usize) -> usize
     row_after(shape, shape.oldest, i)
 }
 
+// How many bytes the header has.
+fn header_size() -> usize
+    ensures { λ n. ⌜ n ≡ headerSize ⌝ }
+{
+    64
+}
+
+// How many bytes a row has: its coefficients, its symbol and its flags.
+pub fn stride(shape: Shape) -> usize
+    requires { ⌜ (shape .width ≤ 255) × (shape .size ≤ 1500) ⌝ }
+    ensures { λ n. ⌜ n ≡ stride (shape .width) (shape .size) ⌝ }
+{
+    shape.width + shape.size + 4
+}
+
 // Where the row `r` begins.
 pub fn row_offset(shape: Shape, r: usize) -> usize
     requires { ⌜ (r ≤ shape .width) × (shape .width ≤ 255) × (shape .size ≤ 1500) ⌝ }
     ensures { λ at. ⌜ RowAt (shape .width) (shape .size) r at ⌝ }
 {
-    64 + r * (shape.width + shape.size + 4)
+    header_size() + r * stride(shape)
 }
 
 // Where the symbol of the row `r` begins: after the coefficients.

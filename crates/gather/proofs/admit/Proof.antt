@@ -1,4 +1,5 @@
 -- `gather::admit` meets its contract.
+use Rattle.table.proofs.Offsets.{flags-fit}
 use native.Mathlib.Omega.{arith}
 use Rattle.gather.proofs.Framing.{works-only}
 use Rattle.gather.proofs.Reducing.{state-only}
@@ -25,13 +26,13 @@ reduce-within-requires : tie.Need-reduce-within-requires
 reduce-within-requires c κs =
     let start = c .before .before .before .before .before .before .before .before in
     let a = start .args in
-    works-only (omega arith) (state-only (a .shape .width) (a .shape .size) (a .kept) (a .first) (c .before .before .before .before .before .staying .result) (a .mem .now) (a .work .now) (c .before .before .before .reduce .last .1 .0) (start .pre .1) (c .before .before .before .reduce .ensures)) (start .pre .1)
+    works-only (omega (arith, flags-fit (a .shape .width) (a .shape .size))) (state-only (a .shape .width) (a .shape .size) (a .kept) (a .first) (c .before .before .before .before .before .staying .result) (a .mem .now) (a .work .now) (c .before .before .before .reduce .last .1 .0) (start .pre .1) (c .before .before .before .reduce .ensures)) (start .pre .1)
 
 settle-requires : tie.Need-settle-requires
 settle-requires c κs =
     let start = c .before .before .before .before .before .before .before .before .before .before .before .before in
     let a = start .args in
-    (works-only (omega arith) (c .before .before .before .reduce-within .ensures .only) (works-only (omega arith) (state-only (a .shape .width) (a .shape .size) (a .kept) (a .first) (c .before .before .before .before .before .before .before .before .before .staying .result) (a .mem .now) (a .work .now) (c .before .before .before .before .before .before .before .reduce .last .1 .0) (start .pre .1) (c .before .before .before .before .before .before .before .reduce .ensures)) (start .pre .1)), search needs)
+    (works-only (omega (arith, flags-fit (a .shape .width) (a .shape .size))) (c .before .before .before .reduce-within .ensures .only) (works-only (omega (arith, flags-fit (a .shape .width) (a .shape .size))) (state-only (a .shape .width) (a .shape .size) (a .kept) (a .first) (c .before .before .before .before .before .before .before .before .before .staying .result) (a .mem .now) (a .work .now) (c .before .before .before .before .before .before .before .reduce .last .1 .0) (start .pre .1) (c .before .before .before .before .before .before .before .reduce .ensures)) (start .pre .1)), search needs)
 
 same-length : tie.Need-same-length
 same-length c = search needs

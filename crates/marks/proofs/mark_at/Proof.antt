@@ -2,6 +2,7 @@
 use mathlib.Core.Path.{ap, _∙_}
 use Prim.Native.Nat.{_+_}
 use native.Mathlib.Omega.{arith}
+use Rattle.table.proofs.Offsets.{header-long}
 use Rattle.marks.proofs.Only.{flag-inside, mark-row, mark-past}
 use borrow.Author.Needs.{needs}
 use Rattle.marks.proofs.mark_at.Statement.{statement}
@@ -17,7 +18,7 @@ returns c =
     )
 
 returns-2 : tie.Need-returns-2
-returns-2 c = (mark-past _ _ _ _ (c .if1 .left), omega arith)
+returns-2 c = (mark-past _ _ _ _ (c .if1 .left), omega (arith, header-long))
 
 pub mark-at-spec : {M : Type 1} → statement M
 mark-at-spec =

@@ -1,5 +1,6 @@
 -- `marks::move_on` meets its contract.
 use native.Mathlib.Omega.{arith}
+use Rattle.table.proofs.Offsets.{header-long}
 use mathlib.Core.Path.{refl}
 use Rattle.marks.proofs.Only.{only-fits, only-trans}
 use Rattle.marks.proofs.Marking.{written-only, moved-none, moved-far, moved-near}
@@ -33,7 +34,7 @@ returns-2 c =
 
 -- src/marks.rt:101:16
 slice-read-past : tie.Need-slice-read-past
-slice-read-past c = omega arith
+slice-read-past c = omega (arith, header-long)
 
 -- src/marks.rt:102:5
 drop-first-requires-2 : tie.Need-drop-first-requires-2

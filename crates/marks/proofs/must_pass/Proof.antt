@@ -1,6 +1,7 @@
 -- `marks::must_pass` meets its contract.
 use Rattle.marks.proofs.Passing.{not-noted}
 use native.Mathlib.Omega.{arith}
+use Rattle.table.proofs.Offsets.{header-long}
 use mathlib.Core.Bool.{true≢false}
 use mathlib.Core.Logic.{inl, inr}
 use Rattle.marks.proofs.must_pass.Statement.{statement}
@@ -16,7 +17,7 @@ returns-2 c = record { walks = λ _. (c .before .if1 .left, inl (c .if2 .taken))
 
 -- src/marks.rt:211:9
 shared-slice-read-result : tie.Need-shared-slice-read-result
-shared-slice-read-result c = omega arith
+shared-slice-read-result c = omega (arith, header-long)
 
 -- src/marks.rt:201:1
 returns-3 : tie.Need-returns-3

@@ -1,5 +1,6 @@
 -- `marks::note` meets its contract.
 use native.Mathlib.Omega.{arith}
+use Rattle.table.proofs.Offsets.{header-long}
 use Rattle.marks.proofs.Passing.{noted-byte}
 use borrow.Author.Needs.{needs}
 use Rattle.marks.proofs.note.Statement.{statement}
@@ -7,7 +8,7 @@ use Rattle.marks.proofs.note.Tie as tie
 
 -- src/marks.rt:115:5
 slice-write-mem : tie.Need-slice-write-mem
-slice-write-mem c = search needs
+slice-write-mem c = omega (arith, header-long)
 
 -- src/marks.rt:111:1
 same-length : tie.Need-same-length
@@ -15,7 +16,7 @@ same-length c = search needs
 
 -- src/marks.rt:111:1
 returns : tie.Need-returns
-returns c = noted-byte _ _ (omega arith)
+returns c = noted-byte _ _ (omega (arith, header-long))
 
 pub note-spec : {M : Type 1} → statement M
 note-spec = tie.close (tie.spec slice-write-mem same-length returns)

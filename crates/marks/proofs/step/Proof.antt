@@ -1,7 +1,7 @@
 -- `marks::step` meets its contract.
 use native.Mathlib.Omega.{arith}
 use borrow.Author.Tests.{not-true, not-false}
-use Rattle.table.proofs.Rows.{row-end}
+use Rattle.table.proofs.Offsets.{flags-fit, row-end}
 use Rattle.marks.proofs.Passing.{step-unmarked, step-unknown, step-long, step-far, step-again, step-near}
 use borrow.Author.Needs.{needs}
 use Rattle.marks.proofs.step.Statement.{statement}
@@ -56,7 +56,7 @@ load-u16-requires : tie.Need-load-u16-requires
 load-u16-requires c κs =
     let p5 = c .before .before .before .before .before in
     let s = p5 .before .before .before .before .before .args .shape in
-    omega (arith, row-end (s .width) (s .size) (p5 .row-of .result) (p5 .row-of .ensures .small))
+    omega (arith, flags-fit (s .width) (s .size), row-end (s .width) (s .size) (p5 .row-of .result) (p5 .row-of .ensures .small))
 
 -- src/marks.rt:133:44
 cast-symbol-count : tie.Need-cast-symbol-count

@@ -1,7 +1,7 @@
 use native.Mathlib.Omega.{arith}
 use borrow.Author.Needs.{needs}
 use Rattle.placing.proofs.Placing.{cleared-unused, cleared-row}
-use Rattle.table.proofs.Rows.{row-end}
+use Rattle.table.proofs.Offsets.{row-end}
 use Rattle.placing.proofs.clear_coefficient.Statement.{statement}
 use Rattle.placing.proofs.clear_coefficient.Tie as tie
 

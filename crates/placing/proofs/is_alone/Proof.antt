@@ -1,6 +1,6 @@
 use native.Mathlib.Omega.{arith}
 use Rattle.table.proofs.Marking.{tested-alone, tested-other}
-use Rattle.table.proofs.Rows.{row-end}
+use Rattle.table.proofs.Offsets.{row-end}
 use borrow.Author.Needs.{needs}
 use Rattle.placing.proofs.is_alone.Statement.{statement}
 use Rattle.placing.proofs.is_alone.Tie as tie

@@ -6,7 +6,7 @@ use lib.ListN.{getD}
 use lib.Dec.{eqb}
 use Rattle.table.proofs.Flags.{flag-at}
 use Rattle.placing.proofs.Showing.{flag-known}
-use Rattle.table.proofs.Rows.{row-end}
+use Rattle.table.proofs.Offsets.{row-end}
 use borrow.Author.Needs.{needs}
 use Rattle.placing.proofs.is_known.Statement.{statement}
 use Rattle.placing.proofs.is_known.Tie as tie

@@ -3,7 +3,7 @@ use Prim.Native.Nat.{_-_}
 use native.Mathlib.Omega.{arith}
 use borrow.Author.Needs.{needs}
 use Rattle.placing.proofs.Placing.{Passed, passed-none, passed-more, passed-here, passed-all}
-use Rattle.table.proofs.Rows.{row-end}
+use Rattle.table.proofs.Offsets.{row-end}
 use Rattle.placing.proofs.next_with.Statement.{statement}
 use Rattle.placing.proofs.next_with.Tie as tie
 

@@ -7,7 +7,7 @@ use Rattle.table.specs.Window.{row}
 use Rattle.table.specs.RowSteps.{Settled}
 use Rattle.table.proofs.Flags.{flag-at}
 use Rattle.placing.proofs.Joining.{settled-line, without-flags}
-use Rattle.table.proofs.Rows.{row-end}
+use Rattle.table.proofs.Offsets.{row-end}
 use borrow.Author.Needs.{needs}
 use Rattle.placing.proofs.place_kept.Statement.{statement}
 use Rattle.placing.proofs.place_kept.Tie as tie

@@ -4,7 +4,8 @@ use mathlib.Core.List.{[], _∷_}
 use Prim.Native.Nat.{_+_}
 use native.Mathlib.Omega.{arith}
 use Rattle.memory.specs.Part.{splice}
-use Rattle.table.proofs.Rows.{set-splice, row-end}
+use Rattle.table.proofs.Offsets.{row-end}
+use Rattle.table.proofs.Rows.{set-splice}
 use borrow.Author.Needs.{needs}
 use Rattle.placing.proofs.set_flag.Statement.{statement}
 use Rattle.placing.proofs.set_flag.Tie as tie

@@ -1,6 +1,6 @@
 use native.Mathlib.Omega.{arith}
 use Rattle.placing.proofs.Placing.{stored-copy}
-use Rattle.table.proofs.Rows.{row-end}
+use Rattle.table.proofs.Offsets.{row-end}
 use borrow.Author.Needs.{needs}
 use Rattle.placing.proofs.store_row.Statement.{statement}
 use Rattle.placing.proofs.store_row.Tie as tie

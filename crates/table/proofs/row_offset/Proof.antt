@@ -1,36 +1,42 @@
 -- `table::row_offset` meets its contract.
-use Prim.Native.Nat.{_+_}
+use mathlib.Core.Path.{_≡_, ap}
+use Prim.Native.Nat.{ℕ, _+_, _*_, _≤_}
 use native.Mathlib.Omega.{arith}
 use Rattle.memory.proofs.Parts.{row-fits}
-use Rattle.table.specs.Window.{stride}
-use Rattle.table.proofs.Rows.{small-row}
+use Rattle.table.specs.declared.Shape.{Shape}
+use Rattle.table.specs.Window.{stride, rowOffset}
+use Rattle.table.proofs.Offsets.{flags-fit, small-row}
 use borrow.Author.Needs.{needs}
 use Rattle.table.proofs.row_offset.Statement.{statement}
 use Rattle.table.proofs.row_offset.Tie as tie
-use Rattle.table.proofs.row_offset.Reads as reads
-use Rattle.table.proofs.row_offset.Lts as lts
 
-add-result : tie.Need-add-result
-add-result c = search needs
+-- The row's number times its stride, as the code has it, and the bound of what it begins at.
+module _ (c : tie.After-stride) where
+  abbrev s : Shape
+  s = c .before .before .args .shape
 
-add-result-2 : tie.Need-add-result-2
-add-result-2 c = search needs
+  abbrev r : ℕ
+  r = c .before .before .args .r
+
+  product : r * c .stride .result ≡ r * stride (s .width) (s .size)
+  product = ap (λ n. r * n) (c .stride .ensures)
+
+  bound : rowOffset (s .width) (s .size) r ≤ 450000
+  bound = small-row (s .width) (s .size) r (omega arith) (omega arith)
 
 mul-result : tie.Need-mul-result
-mul-result c = let a = c .before .args in omega (arith, small-row (a .shape .width) (a .shape .size) (a .r) (omega arith) (omega arith))
+mul-result c = omega (arith, product c, bound c)
 
-add-result-3 : tie.Need-add-result-3
-add-result-3 c = let a = c .before .args in omega (arith, small-row (a .shape .width) (a .shape .size) (a .r) (omega arith) (omega arith))
+add-result : tie.Need-add-result
+add-result c = omega (arith, product c, bound c)
 
 returns : tie.Need-returns
-returns c =
-    let a = c .before .args in
-    let s = a .shape in
-    record {
-      start = omega arith;
-      end = omega (arith, row-fits (s .width + 1) (stride (s .width) (s .size)) (a .r) (omega arith));
-      small = omega (arith, small-row (s .width) (s .size) (a .r) (omega arith) (omega arith));
-    }
+returns c = record {
+  start = omega (arith, product c);
+  end = omega (arith, product c, row-fits (s c .width + 1) (stride (s c .width) (s c .size)) (r c) (omega arith));
+  wide = flags-fit _ _;
+  small = omega (arith, product c, bound c);
+}
 
 pub row-offset-spec : {M : Type 1} → statement M
-row-offset-spec = tie.close (tie.spec add-result add-result-2 mul-result add-result-3 returns)
+row-offset-spec = tie.close (tie.spec (λ c κs. search needs) (λ c κs. search needs) mul-result add-result returns)

@@ -1,6 +1,7 @@
 -- `admission::packet::admit_equation` meets its contract.
 use mathlib.Core.Path.{subst, sym}
 use native.Mathlib.Omega.{arith}
+use Rattle.table.proofs.Offsets.{flags-fit}
 use Rattle.gather.proofs.Framing.{works-only}
 use Rattle.admission.specs.Steps.{EquationAdmitted}
 use Rattle.admission.proofs.Gathering.{equation-admitted}
@@ -10,8 +11,10 @@ use Rattle.admission.proofs.packet.admit_equation.Tie as tie
 
 admit-requires : tie.Need-admit-requires
 admit-requires c κs =
-    let p = c .before .before .before .before .before .before .before .before .before .pre in
-    (p .0, works-only (omega arith) (c .before .before .before .lay .ensures .only) (p .1), p .2, p .3, p .4)
+    let start = c .before .before .before .before .before .before .before .before .before in
+    let s = start .args .location .shape in
+    let p = start .pre in
+    (p .0, works-only (omega (arith, flags-fit (s .width) (s .size))) (c .before .before .before .lay .ensures .only) (p .1), p .2, p .3, p .4)
 
 returns : tie.Need-returns
 returns c =
