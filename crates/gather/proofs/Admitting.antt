@@ -33,7 +33,7 @@ use Rattle.table.specs.Window.{stride, rowOffset, row, line, equation, Window, 
 use Rattle.table.specs.Packet.{Works, spelled, PivotMarked, Gathered}
 use Rattle.table.specs.RowSteps.{Zero-from}
 use Rattle.gather.specs.Gather.{Only, Spans, Agrees, Admitted}
-use Rattle.gather.specs.GatherSteps.{Leading, Normalised, Outcome, Settled, StateReduced, PacketReduced, Staying}
+use Rattle.gather.specs.GatherSteps.{Leading, Normalised, Outcome, Concluded, StateReduced, PacketReduced, Staying}
 use Rattle.gather.specs.declared.Verdict.{Verdict}
 use Rattle.gather.specs.declared.Verdict.the-variants.{Kept, Implied, Contradiction}
 use Rattle.table.proofs.Rows.{set-splice}
@@ -220,7 +220,7 @@ module _ (w E first k : ℕ) (m : List ℕ) (g : Works w E k m) (bytes : Bytes m
         },
       )
 
-    pub settled-kept : Settled w E first k Kept m m′
+    pub settled-kept : Concluded w E first k Kept m m′
     settled-kept = record { only = done .only; works = works; outcome = kept }
 
   -- No coefficient: the code reads the symbol from `at` on.
@@ -236,7 +236,7 @@ module _ (w E first k : ℕ) (m : List ℕ) (g : Works w E k m) (bytes : Bytes m
         let e : rowOffset w E k + i ≡ at + (i - w) = omega arith in
         getD-part (rowOffset w E k) (stride w E) i m (omega (arith, flags-fit w E)) ∙ ap (λ x. getD m x 0) e
 
-    pub settled-implied : Zero-from at (at + E) m → Settled w E first k Implied m m
+    pub settled-implied : Zero-from at (at + E) m → Concluded w E first k Implied m m
     settled-implied z = record {
       only = only-refl;
       works = g;
@@ -247,7 +247,7 @@ module _ (w E first k : ℕ) (m : List ℕ) (g : Works w E k m) (bytes : Bytes m
       );
     }
 
-    pub settled-contradiction : (Zero-from at (at + E) m → ⊥) → Settled w E first k Contradiction m m
+    pub settled-contradiction : (Zero-from at (at + E) m → ⊥) → Concluded w E first k Contradiction m m
     settled-contradiction z = record {
       only = only-refl;
       works = g;
@@ -294,7 +294,7 @@ gathered-none w E b S m pos = record {
 module _ (w E oldest stay kept first count n : ℕ) (verdict : Verdict) (m work work₁ work₂ work′ : List ℕ) (fits : Fits w E m) (bytes : Bytes m)
     (g : Works w E kept work) (small : Bytes work) (near : Staying w oldest first count stay n)
     (f₁ : StateReduced w E kept first n m work work₁) (f₂ : PacketReduced w E kept kept work₁ work₂)
-    (f₃ : Settled w E first kept verdict work₂ work′) where
+    (f₃ : Concluded w E first kept verdict work₂ work′) where
   L : Laws (Coded E)
   L = laws E (omega (arith, fits .some-symbol))
 

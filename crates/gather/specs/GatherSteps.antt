@@ -100,7 +100,7 @@ Outcome w E b k work work′ Contradiction =
     (k < w → lead (Coded E) w (spelled w E b work k) ≡ Coded E .𝟘) × (symbol (Coded E) w (spelled w E b work k) ≢ Coded E .null)
 
 -- So it is where the row has no coefficient at the positions before that of the column `first`.
-pub record Settled (w E first k : ℕ) (verdict : Verdict) (work work′ : List ℕ) : Type 0 where
+pub record Concluded (w E first k : ℕ) (verdict : Verdict) (work work′ : List ℕ) : Type 0 where
   pub only : Only (rowOffset w E k) (rowOffset w E k + (w + E + 1)) work work′
   pub works : Works w E (count-kept k verdict) work′
   pub outcome : (b d : ℕ) → d < w → (b + d) % w ≡ first

@@ -7,7 +7,7 @@ ghost use Rattle.table.specs.Window.{row, inUse, Fits};
 ghost use Rattle.table.specs.Packet.{Works};
 ghost use Rattle.gather.specs.Gather.{LaidIn, Admitted};
 ghost use Rattle.gather.specs.GatherSteps.{if-used, Collected, RowsAdded, StateReduced, Eliminated, PacketReduced};
-ghost use Rattle.gather.specs.GatherSteps.{Searched, Normalised, Settled, Staying};
+ghost use Rattle.gather.specs.GatherSteps.{Searched, Normalised, Concluded, Staying};
 use field::Gf256;
 use table::Shape;
 
@@ -188,7 +188,7 @@ fn normalise(work: &mut [u8], shape: Shape, k: usize, c: usize)
 // so there is none to look for in one more.
 fn settle(work: &mut [u8], shape: Shape, k: usize, first: usize) -> Verdict
     requires { ⌜ Works (shape .width) (shape .size) k (now work) × (first < shape .width) ⌝ }
-    ensures { λ r. ⌜ Settled (shape .width) (shape .size) first k r (now (work .entry)) (now (work .exit)) ⌝ }
+    ensures { λ r. ⌜ Concluded (shape .width) (shape .size) first k r (now (work .entry)) (now (work .exit)) ⌝ }
 {
     let w = shape.width;
     if let Pivot::At(r, c) = find_pivot(work, shape, first, k, memory::least(k + 1, w)) {

@@ -21,7 +21,7 @@ use Rattle.wire.specs.Packets.{symbolCount}
 use Rattle.decoder.specs.Bytes.{Coded}
 use Rattle.decoder.specs.Model.{State, end}
 use Rattle.table.specs.Window.{rowOffset, Window, Fits}
-use Rattle.placing.specs.Place.{Known}
+use Rattle.placing.specs.Place.{KnownAt}
 use Rattle.placing.proofs.Showing.{symbol-bytes}
 use Rattle.starts.specs.declared.Handed.{Handed}
 use Rattle.starts.specs.declared.Handed.the-variants.{Adu, Withheld}
@@ -38,24 +38,24 @@ use Rattle.handing.proofs.Copying.{span-some, span-end}
 
 module _ (w E oldest : ℕ) (m : List ℕ) where
   -- The i-th position is known, by its row; and so are the first i from the d-th on.
-  abbrev pub KnownAt : ℕ → Bool → Type 0
-  KnownAt i t = Known w E ((oldest + i) % w) t m
+  abbrev pub PositionKnown : ℕ → Bool → Type 0
+  PositionKnown i t = KnownAt w E ((oldest + i) % w) t m
 
   abbrev pub KnownFrom : (d i : ℕ) → Type 0
-  KnownFrom d i = (j : ℕ) → j < i → KnownAt (d + j) true
+  KnownFrom d i = (j : ℕ) → j < i → PositionKnown (d + j) true
 
   -- As the code finds it.
-  pub known-is : (i r : ℕ) (t t′ : Bool) → r ≡ (oldest + i) % w → t ≡ t′ → Known w E r t m → KnownAt i t′
-  known-is i r t t′ e q k = subst (λ x. Known w E x t′ m) e (subst (λ x. Known w E r x m) q k)
+  pub known-is : (i r : ℕ) (t t′ : Bool) → r ≡ (oldest + i) % w → t ≡ t′ → KnownAt w E r t m → PositionKnown i t′
+  known-is i r t t′ e q k = subst (λ x. KnownAt w E x t′ m) e (subst (λ x. KnownAt w E r x m) q k)
 
   pub known-none : (d : ℕ) → KnownFrom d 0
   known-none d j h = absurd (not-suc-le-zero h)
 
-  pub known-more : (d i : ℕ) → KnownFrom d i → KnownAt (d + i) true → KnownFrom d (i + 1)
+  pub known-more : (d i : ℕ) → KnownFrom d i → PositionKnown (d + i) true → KnownFrom d (i + 1)
   known-more d i k h j l = go (ℕ-discrete j i)
     where
-      go : Dec (j ≡ i) → KnownAt (d + j) true
-      go (yes e) = subst (λ x. KnownAt (d + x) true) (sym e) h
+      go : Dec (j ≡ i) → PositionKnown (d + j) true
+      go (yes e) = subst (λ x. PositionKnown (d + x) true) (sym e) h
       go (no e) = k j (omega arith)
 
 module _ (w E oldest : ℕ) (m : List ℕ) (fits : Fits w E m) (f : Bytes m) where
@@ -63,12 +63,12 @@ module _ (w E oldest : ℕ) (m : List ℕ) (fits : Fits w E m) (f : Bytes m) whe
     row-same : (i : ℕ) → (b + i) % w ≡ (oldest + i) % w
     row-same i = sym (mod-add-mod b w i) ∙ ap (λ x. (x + i) % w) e
 
-    see-known : (i : ℕ) → i < w → KnownAt w E oldest m i true → seen E w S i ≡ some (symbolIn w E oldest m i)
+    see-known : (i : ℕ) → i < w → PositionKnown w E oldest m i true → seen E w S i ≡ some (symbolIn w E oldest m i)
     see-known i l k =
         ap (shown E) (k b i S l (row-same i) v)
         ∙ ap some (symbol-bytes w E ((oldest + i) % w) m fits (mod-lt (oldest + i) (fits .some-width)) f)
 
-    see-unknown : (i : ℕ) → i < w → KnownAt w E oldest m i false → seen E w S i ≡ none
+    see-unknown : (i : ℕ) → i < w → PositionKnown w E oldest m i false → seen E w S i ≡ none
     see-unknown i l k = ap (shown E) (k b i S l (row-same i) v)
 
     see-past : (i : ℕ) → w ≤ i → seen E w S i ≡ none
@@ -81,10 +81,10 @@ module _ (w E oldest : ℕ) (m : List ℕ) (fits : Fits w E m) (f : Bytes m) whe
         joint-text w E oldest m (seen E w S) d n
         (λ j a c.
         let s : d + (j - d) ≡ j = omega arith in
-        see-known b S e v j (omega arith) (subst (λ x. KnownAt w E oldest m x true) s (k (j - d) (omega arith)))),
+        see-known b S e v j (omega arith) (subst (λ x. PositionKnown w E oldest m x true) s (k (j - d) (omega arith)))),
   )
 
-  pub known-not : (d n i : ℕ) → d + n ≤ w → i < n → KnownAt w E oldest m (d + i) false → AllKnown w E oldest d n false m
+  pub known-not : (d n i : ℕ) → d + n ≤ w → i < n → PositionKnown w E oldest m (d + i) false → AllKnown w E oldest d n false m
   known-not d n i l h k = λ b S e v. joint-none (seen E w S) d n (d + i) (omega arith) (omega arith) (see-unknown b S e v (d + i) (omega arith) k)
 
   pub known-beyond : (d n : ℕ) → d < w → w - d < n → AllKnown w E oldest d n false m
@@ -98,7 +98,7 @@ pub record Read (w E oldest d : ℕ) (m : List ℕ) (at L n : ℕ) : Type 0 wher
   pub bytes : Bytes m
   pub inside : d < w
   pub start : marked w E oldest m d ≡ true
-  pub first : KnownAt w E oldest m d true
+  pub first : PositionKnown w E oldest m d true
   pub here : at ≡ symbolOffset w E oldest d
   pub end : at + E ≤ rowOffset w E w
   pub size : L ≡ number (part (at + 1) 2 m)
@@ -150,7 +150,7 @@ module _ (w E oldest d : ℕ) (m out : List ℕ) where
       ap (λ y. need y 13 (begin E w (length out) (seen E w S) d (seen E w S d))) (sym (k d (omega arith)) ∙ start)
       ∙ ap (begin E w (length out) (seen E w S) d) x
 
-  pub first-unknown : Fits w E m → Bytes m → d < w → marked w E oldest m d ≡ true → KnownAt w E oldest m d false
+  pub first-unknown : Fits w E m → Bytes m → d < w → marked w E oldest m d ≡ true → PositionKnown w E oldest m d false
       → HandedOut w E oldest d m out out (Withheld Unknown)
   first-unknown fits f h start u =
       refused w E oldest d m out Unknown (λ q. absurd (omega (arith, q)))

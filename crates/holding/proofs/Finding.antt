@@ -19,7 +19,7 @@ use Rattle.decoder.specs.Model.{known}
 use Rattle.table.specs.Window as window
 use Rattle.table.specs.RowSteps.{RowOf}
 use Rattle.table.proofs.Offsets.{flags-fit, row-end}
-use Rattle.placing.specs.Place.{Known}
+use Rattle.placing.specs.Place.{KnownAt}
 use Rattle.placing.proofs.Showing.{symbol-bytes}
 use Rattle.holding.specs.declared.Header.{Header}
 use Rattle.holding.specs.declared.Spot.{Spot}
@@ -90,7 +90,7 @@ module _ (m : List ℕ) (e : ℕ) (h : Header) (k : headerIn m ≡ some h) (join
     here : (t : Joined (h .setting)) → h .oldest ≡ t .base % width → (t .base + d) % width ≡ r
     here t a = sym (mod-add-mod (t .base) width d) ∙ ap (λ x. (x + d) % width) (sym a) ∙ sym (w .is)
 
-    unknown : Known width size r false m → Spotted m e (Nowhere Unknown)
+    unknown : KnownAt width size r false m → Spotted m e (Nowhere Unknown)
     unknown u = record {
       unopened = λ z. absurd (Option·none-ne-some h (sym z ∙ k));
       lies = λ y z x. absurd (omega (arith, x));
@@ -104,7 +104,7 @@ module _ (m : List ℕ) (e : ℕ) (h : Header) (k : headerIn m ≡ some h) (join
     symbol-is : Bytes m → bytesOf size (window.line width size (window.row width size r m) .sym) ≡ part (window.rowOffset width size r + width) size m
     symbol-is b = symbol-bytes width size r m (header-fits m h k) (w .small) b
 
-    known-at : Bytes m → Known width size r true m → Spotted m e (At (window.rowOffset width size r + width) size)
+    known-at : Bytes m → KnownAt width size r true m → Spotted m e (At (window.rowOffset width size r + width) size)
     known-at b u = record {
       unopened = λ z. absurd (Option·none-ne-some h (sym z ∙ k));
       lies = λ y z. let i : h ≡ y = Option·some-injective _ _ (sym k ∙ z) in (ap (λ (x : Header). x .setting .size) i, omega (arith, flags-fit width size, row-ends));
@@ -120,16 +120,16 @@ module _ (m : List ℕ) (e : ℕ) (h : Header) (k : headerIn m ≡ some h) (join
     }
 
   -- The same with the distance, the row and the test as the code has them.
-  module _ (x : ℕ) (q : x ≡ d) (near : x < 2 ^ 31) (inside : x < width) (r : ℕ) (w : RowOf width (h .oldest) x r) (t : Bool) (u : Known width size r t m) where
+  module _ (x : ℕ) (q : x ≡ d) (near : x < 2 ^ 31) (inside : x < width) (r : ℕ) (w : RowOf width (h .oldest) x r) (t : Bool) (u : KnownAt width size r t m) where
     row-is : RowOf width (h .oldest) d r
     row-is = subst (λ y. RowOf width (h .oldest) y r) q w
 
     pub finds-unknown : t ≡ false → Spotted m e (Nowhere Unknown)
-    finds-unknown f = unknown (rw q at near) (rw q at inside) r row-is (subst (λ y. Known width size r y m) f u)
+    finds-unknown f = unknown (rw q at near) (rw q at inside) r row-is (subst (λ y. KnownAt width size r y m) f u)
 
     pub finds-at : t ≡ true → Bytes m → (a : ℕ) → a ≡ window.rowOffset width size r + width → Spotted m e (At a size)
     finds-at f b a i =
-        subst (λ y. Spotted m e (At y size)) (sym i) (known-at (rw q at near) (rw q at inside) r row-is b (subst (λ y. Known width size r y m) f u))
+        subst (λ y. Spotted m e (At y size)) (sym i) (known-at (rw q at near) (rw q at inside) r row-is b (subst (λ y. KnownAt width size r y m) f u))
 
 -- ---- What is promised of it
 

@@ -17,7 +17,7 @@ use Rattle.decoder.proofs.Bytes.{laws}
 use Rattle.decoder.proofs.Elimination.{solution, solution-sat, known-sound}
 use Rattle.decoder.proofs.History as history
 use Rattle.decoder.proofs.Counting.{count-more, known-grows}
-use Rattle.placing.specs.Place.{Known}
+use Rattle.placing.specs.Place.{KnownAt}
 use Rattle.starts.specs.Starts.{shown, seen}
 use Rattle.starts.specs.Settled.{Old}
 use Rattle.marks.specs.MarkSteps.{oneIf, tally, OneKnown, Tallied}
@@ -49,16 +49,16 @@ module _ (w E oldest i r : ℕ) (m : List ℕ) (l : i < w) (here : r ≡ (oldest
   there : (b : ℕ) → b % w ≡ oldest → (b + i) % w ≡ r
   there b e = sym (mod-add-mod b w i) ∙ ap (λ k. (k + i) % w) e ∙ sym here
 
-  pub one-known : (t : Bool) → t ≡ true → Known w E r t m → OneKnown w E oldest i 1 m
+  pub one-known : (t : Bool) → t ≡ true → KnownAt w E r t m → OneKnown w E oldest i 1 m
   one-known t y k = record {
     most = omega arith;
-    told = λ b S e v. sym (ap oneIf (subst (λ x. Known w E r x m) y k b i S l (there b e) v));
+    told = λ b S e v. sym (ap oneIf (subst (λ x. KnownAt w E r x m) y k b i S l (there b e) v));
   }
 
-  pub one-unknown : (t : Bool) → t ≡ false → Known w E r t m → OneKnown w E oldest i 0 m
+  pub one-unknown : (t : Bool) → t ≡ false → KnownAt w E r t m → OneKnown w E oldest i 0 m
   one-unknown t y k = record {
     most = omega arith;
-    told = λ b S e v. sym (ap oneIf (subst (λ x. Known w E r x m) y k b i S l (there b e) v));
+    told = λ b S e v. sym (ap oneIf (subst (λ x. KnownAt w E r x m) y k b i S l (there b e) v));
   }
 
 pub tallied-none : (w E oldest first : ℕ) (m : List ℕ) → Tallied w E oldest first 0 0 m

@@ -14,7 +14,7 @@ use borrow.Author.Tests.{eq-eqb, ne-eqb, le-leb, lt-leb}
 use Rattle.starts.specs.Starts.{Starts, also, moved}
 use Rattle.marks.specs.Marks.{markAt, marked, Marks, OnlyMarks}
 use Rattle.marks.specs.MarkSteps.{markByte, Written, Dropped}
-use Rattle.marks.specs.Contracts.{Cleared, Added, Moved}
+use Rattle.marks.specs.Contracts.{Cleared, MarkSet, MarksMoved}
 use Rattle.marks.proofs.Only.{mark-row, mark-past, mark-apart, no-mark, only-refl, only-trans}
 
 -- ---- one mark
@@ -41,7 +41,7 @@ set-marks w E oldest i m m′ M l f h j k = go (ℕ-discrete j i)
     go (yes e) = ap (λ x. marked w E oldest m′ x) e ∙ ap (ltb 0) (f .here) ∙ sym (ap (λ t. t || M j) (eq-eqb j i e))
     go (no n) = ap (ltb 0) (other-mark w E oldest i 1 j m m′ f l k n) ∙ h j k ∙ sym (ap (λ t. t || M j) (ne-eqb j i n))
 
-pub added : (w E oldest i : ℕ) (m m′ : List ℕ) → 0 < w → i ≤ w → Written w E oldest i 1 m m′ → Added w E oldest i m m′
+pub added : (w E oldest i : ℕ) (m m′ : List ℕ) → 0 < w → i ≤ w → Written w E oldest i 1 m m′ → MarkSet w E oldest i m m′
 added w E oldest i m m′ pos l f = record { only = written-only pos f; marks = λ M h. set-marks w E oldest i m m′ M l f h }
 
 -- ---- the first marks are dropped
@@ -88,7 +88,7 @@ cleared w E oldest m m′ near f = record { only = f .only; marks = λ b i l. no
 
 -- ---- the window moves on
 
-pub moved-none : (w E oldest rise : ℕ) (m : List ℕ) → oldest < w → rise ≡ 0 → Moved w E oldest rise m m
+pub moved-none : (w E oldest rise : ℕ) (m : List ℕ) → oldest < w → rise ≡ 0 → MarksMoved w E oldest rise m m
 moved-none w E oldest rise m h e = record {
   only = only-refl;
   marks = λ M f i l.
@@ -104,7 +104,7 @@ turned w E oldest rise i j h l e =
     ∙ mark-row w E oldest j ((oldest + rise + i) % w) l (sym e)
 
 -- The base has risen by more than the width.
-pub moved-far : (w E oldest rise : ℕ) (m m′ : List ℕ) → oldest < w → w < rise → Dropped w E oldest (w + 1) m m′ → Moved w E oldest rise m m′
+pub moved-far : (w E oldest rise : ℕ) (m m′ : List ℕ) → oldest < w → w < rise → Dropped w E oldest (w + 1) m m′ → MarksMoved w E oldest rise m m′
 moved-far w E oldest rise m m′ near g f = record {
   only = f .only;
   marks = λ M h i l.
@@ -159,7 +159,7 @@ module _ (w E oldest rise past : ℕ) (m m₁ m₂ m₃ : List ℕ) (pos : 0 < r
         ∙ ap (ltb 0) (at-high (rise + i) (omega arith) b) ∙ k (rise + i) (omega arith) ∙ stays (omega arith)
     moves l (yes a) (no b) = wrapped (rise + i - w) a (omega arith) (ℕ-discrete (rise + i - w) 0)
 
-  pub moved-near : Moved w E oldest rise m m₃
+  pub moved-near : MarksMoved w E oldest rise m m₃
   moved-near = record {
     only = only-trans (f .only) (only-trans (written-only (omega arith) g) (written-only (omega arith) h));
     marks = λ M k i l. moves M k i l (decLt i w) (decLt (rise + i) w);

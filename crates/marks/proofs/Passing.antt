@@ -20,14 +20,14 @@ use Rattle.wire.specs.Packets.{symbolCount}
 use Rattle.decoder.specs.Bytes.{Coded}
 use Rattle.decoder.specs.Model.{State}
 use Rattle.table.specs.Window.{rowOffset, Window, Fits}
-use Rattle.placing.specs.Place.{Known}
+use Rattle.placing.specs.Place.{KnownAt}
 use Rattle.placing.proofs.Showing.{symbol-bytes}
 use Rattle.starts.specs.Adu.{needs, View}
 use Rattle.starts.specs.Starts.{Starts, also, owning, moved, onward, pass, shown, seen}
 use Rattle.marks.specs.Marks.{markAt, marked, Marks, notedIn, OnlyStarts}
 use Rattle.starts.specs.Settled.{Open, Settled, Old, Reaches, seed, next}
 use Rattle.marks.specs.MarkSteps.{Noted, Stepped, Followed, Owned, MayWalk, Extended, Updated}
-use Rattle.marks.specs.Contracts.{Added, Moved, Passed}
+use Rattle.marks.specs.Contracts.{MarkSet, MarksMoved, Passed}
 use Rattle.marks.proofs.Only.{only-refl, only-trans, starts-refl, starts-of, starts-trans, starts-window, note-no-mark, mark-not-note}
 use Rattle.starts.proofs.Agreeing.{Agree}
 use Rattle.starts.proofs.Chaining as chaining
@@ -57,7 +57,7 @@ module _ (w E oldest i r : ℕ) (m : List ℕ) (l : i < w) (here : r ≡ (oldest
   row-there b e = sym (mod-add-mod b w i) ∙ ap (λ k. (k + i) % w) e ∙ sym here
 
   -- It is not known.
-  pub step-unknown : (t : Bool) → t ≡ false → Known w E r t m → Stepped w E oldest i w m m
+  pub step-unknown : (t : Bool) → t ≡ false → KnownAt w E r t m → Stepped w E oldest i w m m
   step-unknown t f k = record {
     only = starts-refl;
     later = (l, omega arith);
@@ -68,14 +68,14 @@ module _ (w E oldest i r : ℕ) (m : List ℕ) (l : i < w) (here : r ≡ (oldest
   }
     where
       unseen : (b : ℕ) (S : State (Coded E) w) → b % w ≡ oldest → Window w E m b S → seen E w S i ≡ none
-      unseen b S e v = ap (shown E) (subst (λ x. Known w E r x m) f k b i S l (row-there b e) v)
+      unseen b S e v = ap (shown E) (subst (λ x. KnownAt w E r x m) f k b i S l (row-there b e) v)
 
       same : (b : ℕ) (S : State (Coded E) w) (M : Starts) → b % w ≡ oldest → Window w E m b S → (j : ℕ)
           → onward E (M i) (seen E w S i) i M j ≡ M j
       same b S M e v j = ap (λ o. onward E (M i) o i M j) (unseen b S e v) ∙ ap (λ N. N j) (onward-none E i (M i) M)
 
   -- It is marked and known, and the ADU that it begins needs n symbols.
-  module _ (at n L : ℕ) (fits : Fits w E m) (bytes : Bytes m) (offset-of : at ≡ rowOffset w E r + w) (t : Bool) (yes-known : t ≡ true) (k : Known w E r t m)
+  module _ (at n L : ℕ) (fits : Fits w E m) (bytes : Bytes m) (offset-of : at ≡ rowOffset w E r + w) (t : Bool) (yes-known : t ≡ true) (k : KnownAt w E r t m)
       (loaded : L ≡ number (part (at + 1) 2 m)) (count : n ≡ symbolCount E L)
       (u : Bool) (mark : u ≡ marked w E oldest m i) (yes-marked : u ≡ true) where
     within : r < w
@@ -83,7 +83,7 @@ module _ (w E oldest i r : ℕ) (m : List ℕ) (l : i < w) (here : r ≡ (oldest
 
     sees : (b : ℕ) (S : State (Coded E) w) → b % w ≡ oldest → Window w E m b S → seen E w S i ≡ some (part at E m)
     sees b S e v =
-        ap (shown E) (subst (λ x. Known w E r x m) yes-known k b i S l (row-there b e) v)
+        ap (shown E) (subst (λ x. KnownAt w E r x m) yes-known k b i S l (row-there b e) v)
         ∙ ap some (symbol-bytes w E r m fits within bytes ∙ ap (λ x. part x E m) (sym offset-of))
 
     counts : needs E (part at E m) ≡ n
@@ -148,7 +148,7 @@ module _ (w E oldest i r : ℕ) (m : List ℕ) (l : i < w) (here : r ≡ (oldest
           true≢false (sym at-end ∙ o .unmarked (omega (arith, z, g, l))));
     }
 
-    pub step-near : (m′ : List ℕ) → n ≤ w - i → Added w E oldest (i + n) m m′ → Stepped w E oldest i (i + n) m m′
+    pub step-near : (m′ : List ℕ) → n ≤ w - i → MarkSet w E oldest (i + n) m m′ → Stepped w E oldest i (i + n) m m′
     step-near m′ g a = record {
       only = starts-of (a .only);
       later = (let s = some-needed in omega arith, omega arith);
@@ -358,7 +358,7 @@ followed-own w E oldest first n m m′ f = record {
 -- ---- after a packet
 
 -- It has symbols of its own.
-pub owned-some : (w E oldest first n : ℕ) (m m₁ m₂ : List ℕ) → n ≢ 0 → Added w E oldest (first + n) m m₁ → Added w E oldest first m₁ m₂
+pub owned-some : (w E oldest first n : ℕ) (m m₁ m₂ : List ℕ) → n ≢ 0 → MarkSet w E oldest (first + n) m m₁ → MarkSet w E oldest first m₁ m₂
     → Owned w E oldest first n m m₂
 owned-some w E oldest first n m m₁ m₂ own f g = record {
   only = only-trans (f .only) (g .only);
@@ -380,7 +380,7 @@ owned-none w E oldest first n m e = record {
 
 -- The marks after the packet: those of the pass, and settled.
 module _ (w E former oldest rise first n : ℕ) (others : Bool) (m m₁ m₂ m₃ : List ℕ) (fits : Fits w E m) (is : oldest ≡ (former + rise) % w)
-    (f : Moved w E former rise m m₁) (g : Owned w E oldest first n m₁ m₂) (p : Extended w E oldest rise first n others m₂ m₃) where
+    (f : MarksMoved w E former rise m m₁) (g : Owned w E oldest first n m₁ m₂) (p : Extended w E oldest rise first n others m₂ m₃) where
   pos : 0 < w
   pos = fits .some-width
 

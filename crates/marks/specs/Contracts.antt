@@ -16,12 +16,12 @@ pub record Cleared (w E : ℕ) (m m′ : List ℕ) : Type 0 where
   pub marks : (oldest : ℕ) → Marks w E oldest m′ nowhere
 
 -- One more position is marked.
-pub record Added (w E oldest i : ℕ) (m m′ : List ℕ) : Type 0 where
+pub record MarkSet (w E oldest i : ℕ) (m m′ : List ℕ) : Type 0 where
   pub only : OnlyMarks w E m m′
   pub marks : (M : Starts) → Marks w E oldest m M → Marks w E oldest m′ (also i M)
 
 -- The base has risen from the row `base` on.
-pub record Moved (w E oldest rise : ℕ) (m m′ : List ℕ) : Type 0 where
+pub record MarksMoved (w E oldest rise : ℕ) (m m′ : List ℕ) : Type 0 where
   pub only : OnlyMarks w E m m′
   pub marks : (M : Starts) → Marks w E oldest m M → Marks w E ((oldest + rise) % w) m′ (moved w rise M)
 

@@ -5,7 +5,7 @@ ghost use lib.ListN.{length};
 ghost use Rattle.table.specs.Window.{headerSize, rowOffset, Fits};
 ghost use Rattle.marks.specs.Marks.{markAt, marked};
 ghost use Rattle.marks.specs.MarkSteps.{Written, Dropped, Noted, Stepped, Followed, Owned, Decided, Extended, Updated, OneKnown, Tallied};
-ghost use Rattle.marks.specs.Contracts.{Cleared, Added, Moved, Passed};
+ghost use Rattle.marks.specs.Contracts.{Cleared, MarkSet, MarksMoved, Passed};
 use table::Shape;
 
 // Where the mark of the i-th position of the window, or of the one just past it, stands.
@@ -80,7 +80,7 @@ fn drop_first(mem: &mut [u8], shape: Shape, n: usize)
 // The i-th position of the window, or the one just past it, is marked.
 fn set(mem: &mut [u8], shape: Shape, i: usize)
     requires { ⌜ Fits (shape .width) (shape .size) (now mem) × (shape .oldest < shape .width) × (i ≤ shape .width) ⌝ }
-    ensures { λ _. ⌜ Added (shape .width) (shape .size) (shape .oldest) i (now (mem .entry)) (now (mem .exit)) ⌝ }
+    ensures { λ _. ⌜ MarkSet (shape .width) (shape .size) (shape .oldest) i (now (mem .entry)) (now (mem .exit)) ⌝ }
 {
     write(mem, shape, i, 1);
 }
@@ -96,7 +96,7 @@ pub fn clear(mem: &mut [u8], shape: Shape)
 // The window moves on by `rise` positions: marks below its base are dropped, and the one just past it comes into a row.
 fn move_on(mem: &mut [u8], shape: Shape, rise: usize)
     requires { ⌜ Fits (shape .width) (shape .size) (now mem) × (shape .oldest < shape .width) ⌝ }
-    ensures { λ _. ⌜ Moved (shape .width) (shape .size) (shape .oldest) rise (now (mem .entry)) (now (mem .exit)) ⌝ }
+    ensures { λ _. ⌜ MarksMoved (shape .width) (shape .size) (shape .oldest) rise (now (mem .entry)) (now (mem .exit)) ⌝ }
 {
     if rise == 0 {
         return;

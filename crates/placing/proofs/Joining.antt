@@ -25,8 +25,8 @@ use Rattle.decoder.proofs.Counting.{newly-difference}
 use Rattle.decoder.proofs.Gaining.{place-line}
 use Rattle.decoder.proofs.Refine.{lead-read}
 use Rattle.table.specs.Window.{stride, rowOffset, row, flag, inUse, line, table, equation, Window, Fits}
-use Rattle.placing.specs.Place.{Moved, Committed}
-use Rattle.table.specs.RowSteps.{known-flags, Settled, PlacedKept, Joined}
+use Rattle.placing.specs.Place.{RowsMoved, Committed}
+use Rattle.placing.specs.PlaceSteps.{known-flags, RowPlaced, PlacedKept, RowsPlaced}
 use Rattle.table.specs.Packet.{spelled, PivotMarked}
 use Rattle.table.proofs.Rows.{kept-refl, kept-trans, fits-kept}
 use Rattle.table.proofs.Offsets.{flags-fit}
@@ -34,7 +34,7 @@ use Rattle.placing.proofs.Placing.{places}
 use Rattle.placing.proofs.Showing.{count-known}
 
 -- Of a working row only its coefficients and symbol matter.
-pub settled-line : {w E r n : ℕ} {l l′ m m′ : List ℕ} → line w E l ≡ line w E l′ → Settled w E r n l m m′ → Settled w E r n l′ m m′
+pub settled-line : {w E r n : ℕ} {l l′ m m′ : List ℕ} → line w E l ≡ line w E l′ → RowPlaced w E r n l m m′ → RowPlaced w E r n l′ m m′
 settled-line {w} {E} {r} {n} {l} {l′} {m} {m′} e s = record {
   kept = s .kept;
   most = s .most;
@@ -52,7 +52,7 @@ without-flags w E k at work pos here =
     (λ i l. getD-part at (w + E) i work l ∙ ap (λ a. getD work (a + i) 0) here ∙ sym (getD-part (rowOffset w E k) (stride w E) i work (omega (arith, flags-fit w E))))
 
 -- A reduced row that leads with one is placed.
-module _ (w E b n : ℕ) (T : State (Coded E) w) (l m m′ : List ℕ) (fits : Fits w E m) (v : Window w E m b T) (s : Settled w E (flag w E l) n l m m′)
+module _ (w E b n : ℕ) (T : State (Coded E) w) (l m m′ : List ℕ) (fits : Fits w E m) (v : Window w E m b T) (s : RowPlaced w E (flag w E l) n l m m′)
     (p : PivotMarked w E b l) (r : Reduced T (equation w E b l)) (o : lead (Coded E) w (equation w E b l) ≡ Coded E .𝟙) where
   L : Laws (Coded E)
   L = laws E (omega (arith, fits .some-symbol))
@@ -83,12 +83,12 @@ module _ (w E b n : ℕ) (T : State (Coded E) w) (l m m′ : List ℕ) (fits : F
       )
 
 -- No row yet, one more, and all.
-pub joined-none : (w E : ℕ) (work m : List ℕ) → Joined w E 0 0 work m m
+pub joined-none : (w E : ℕ) (work m : List ℕ) → RowsPlaced w E 0 0 work m m
 unfolding place-rows
 joined-none w E work m = record { kept = kept-refl; most = omega arith; joins = λ b S v c p. (v, zero-add (known-flags w E m)) }
 
-pub joined-more : (w E k n i : ℕ) (work m m₁ m₂ : List ℕ) → Fits w E m → Joined w E k n work m m₁ → PlacedKept w E k i work m₁ m₂
-    → Joined w E (k + 1) (n + i) work m m₂
+pub joined-more : (w E k n i : ℕ) (work m m₁ m₂ : List ℕ) → Fits w E m → RowsPlaced w E k n work m m₁ → PlacedKept w E k i work m₁ m₂
+    → RowsPlaced w E (k + 1) (n + i) work m m₂
 unfolding place-rows
 joined-more w E k n i work m m₁ m₂ fits f s = record {
   kept = kept-trans (f .kept) (s .kept);
@@ -105,11 +105,11 @@ joined-more w E k n i work m m₁ m₂ fits f s = record {
       );
 }
 
-pub joined-all : {w E i k n : ℕ} {work m m′ : List ℕ} → i ≡ k → Joined w E i n work m m′ → Joined w E k n work m m′
-joined-all {w} {E} {i} {k} {n} {work} {m} {m′} e f = subst (λ j. Joined w E j n work m m′) e f
+pub joined-all : {w E i k n : ℕ} {work m m′ : List ℕ} → i ≡ k → RowsPlaced w E i n work m m′ → RowsPlaced w E k n work m m′
+joined-all {w} {E} {i} {k} {n} {work} {m} {m′} e f = subst (λ j. RowsPlaced w E j n work m m′) e f
 
 -- The window has moved on, and all rows have joined.
-pub committed : (w E oldest rise k n : ℕ) (work m m₁ m₂ : List ℕ) → Fits w E m → Bytes m₁ → Bytes m₂ → Moved w E oldest rise m m₁ → Joined w E k n work m₁ m₂
+pub committed : (w E oldest rise k n : ℕ) (work m m₁ m₂ : List ℕ) → Fits w E m → Bytes m₁ → Bytes m₂ → RowsMoved w E oldest rise m m₁ → RowsPlaced w E k n work m₁ m₂
     → Committed w E oldest rise k n work m m₂
 committed w E oldest rise k n work m m₁ m₂ fits f g a c = record {
   unchanged = kept-trans (a .kept) (c .kept);

@@ -21,7 +21,7 @@ use Rattle.decoder.proofs.Jump.{advance-by-suc, advance-by-empty}
 use Rattle.decoder.proofs.Refine.{view-advance}
 use Rattle.decoder.proofs.Steps.{moves-echelon}
 use Rattle.table.specs.Window.{row, flag, inUse, line, table, Window, Fits, Kept}
-use Rattle.placing.specs.Place.{Emptied, Moved}
+use Rattle.placing.specs.Place.{Emptied, RowsMoved}
 use Rattle.table.specs.RowSteps.{flagged}
 use Rattle.table.proofs.Rows.{kept-refl, kept-trans, fits-kept}
 use Rattle.table.proofs.Flags.{unused, unused-flag, flagged-unused, flagged-flag, flagged-rest, flagged-kept, flags-changed}
@@ -64,16 +64,16 @@ module _ (w E : ℕ) (m : List ℕ) (fits : Fits w E m) where
             (flagged-unused w E r (row w E r (flagged w E r 0 m)) (flagged-flag w E r 0 m fits l));
       }
 
-pub moved-to : {w E oldest i k : ℕ} {m m′ : List ℕ} → i ≡ k → Moved w E oldest i m m′ → Moved w E oldest k m m′
-moved-to {w} {E} {oldest} {i} {k} {m} {m′} e f = subst (λ x. Moved w E oldest x m m′) e f
+pub moved-to : {w E oldest i k : ℕ} {m m′ : List ℕ} → i ≡ k → RowsMoved w E oldest i m m′ → RowsMoved w E oldest k m m′
+moved-to {w} {E} {oldest} {i} {k} {m} {m′} e f = subst (λ x. RowsMoved w E oldest x m m′) e f
 
 -- No turn yet, one more, and as many as there are rows.
-moved-none : (w E oldest : ℕ) (m : List ℕ) → Moved w E oldest 0 m m
+moved-none : (w E oldest : ℕ) (m : List ℕ) → RowsMoved w E oldest 0 m m
 unfolding advance-by
 moved-none w E oldest m = record { kept = kept-refl; moves = λ b S e h. rw add-zero h }
 
-moved-more : (w E oldest i : ℕ) (m m′ : List ℕ) → Fits w E m′ → Moved w E oldest i m m′
-    → Moved w E oldest (i + 1) m (flagged w E ((oldest + i) % w) 0 m′)
+moved-more : (w E oldest i : ℕ) (m m′ : List ℕ) → Fits w E m′ → RowsMoved w E oldest i m m′
+    → RowsMoved w E oldest (i + 1) m (flagged w E ((oldest + i) % w) 0 m′)
 moved-more w E oldest i m m′ fits f =
     let pos = fits .some-width in record {
       kept = kept-trans (f .kept) (flagged-kept w E ((oldest + i) % w) 0 m′ fits (mod-lt (oldest + i) pos));
@@ -91,7 +91,7 @@ moved-more w E oldest i m m′ fits f =
 pub record Leaving (w E oldest i row : ℕ) (m m′ : List ℕ) : Type 0 where
   pub within : row < w
   pub here : row ≡ (oldest + i) % w
-  pub moved : Moved w E oldest i m m′
+  pub moved : RowsMoved w E oldest i m m′
 
 pub leaving-none : (w E oldest : ℕ) (m : List ℕ) → oldest < w → Leaving w E oldest 0 oldest m m
 leaving-none w E oldest m h = record {
@@ -106,7 +106,7 @@ leaving-more w E oldest i row next m m₁ m₂ fits f e n = record {
   within = n .1;
   here = n .0 ∙ ap (λ k. (k + 1) % w) (f .here) ∙ mod-add-mod (oldest + i) w 1 ∙ ap (λ k. k % w) (add-assoc oldest i 1);
   moved =
-      subst (λ x. Moved w E oldest (i + 1) m x) (ap (λ k. flagged w E k 0 m₁) (sym (f .here)) ∙ sym e)
+      subst (λ x. RowsMoved w E oldest (i + 1) m x) (ap (λ k. flagged w E k 0 m₁) (sym (f .here)) ∙ sym e)
       (moved-more w E oldest i m m₁ (fits-kept fits (f .moved .kept)) (f .moved));
 }
 
@@ -172,7 +172,7 @@ window-anywhere w E b c m pos h =
     let (q, g, k, e) = position w b r l in
     unused-flag w E (row w E r m) (ap (λ x. inUse w E (row w E x m)) (sym e) ∙ empty-view (table w E m) w b q (h .reads) g k))
 
-pub moved-past : (w E oldest rise : ℕ) (m m′ : List ℕ) → 0 < w → w ≤ rise → Moved w E oldest w m m′ → Moved w E oldest rise m m′
+pub moved-past : (w E oldest rise : ℕ) (m m′ : List ℕ) → 0 < w → w ≤ rise → RowsMoved w E oldest w m m′ → RowsMoved w E oldest rise m m′
 moved-past w E oldest rise m m′ pos g f = record {
   kept = f .kept;
   moves = λ b S e h.

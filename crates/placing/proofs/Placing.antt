@@ -22,7 +22,8 @@ use Rattle.decoder.proofs.Bytes.{laws, byte-zero}
 use Rattle.decoder.proofs.Stretch.{line-add, line-same}
 use Rattle.decoder.proofs.Refine.{add-line-zero}
 use Rattle.table.specs.Window.{stride, rowOffset, row, flag, inUse, line, table, Flagged, Flags, Fits, Kept}
-use Rattle.table.specs.RowSteps.{one-if-known, known-flag, known-flags, Marked, Changed, ClearedRow, FirstWith, Stored, Settled, flagged}
+use Rattle.table.specs.RowSteps.{one-if-known, known-flag, flagged}
+use Rattle.placing.specs.PlaceSteps.{known-flags, RowMarked, Changed, ClearedRow, FirstWith, Stored, RowPlaced}
 use Rattle.table.proofs.Rows.{row-store, row-other, kept-store, kept-refl, kept-trans, fits-kept}
 use Rattle.table.proofs.Flags.{flag-at, unused, used, unused-flag, not-known, flags-changed, count-changed}
 use Rattle.table.proofs.Flags.{flagged-flag, flagged-cell, flagged-line, flagged-rest, flagged-kept}
@@ -50,7 +51,7 @@ module _ (w E r : ℕ) (x m : List ℕ) (room : rowOffset w E w ≤ length m) (h
 
 -- The first `w + E` bytes of the row `r` have become `x`, and then its flag has been set.
 module _ (w E r n : ℕ) (x m m₁ m′ : List ℕ) (fits : Fits w E m) (h : r < w) (size : length x ≡ w + E)
-    (e : m₁ ≡ splice (rowOffset w E r) x m) (t : Marked w E r n m₁ m′) where
+    (e : m₁ ≡ splice (rowOffset w E r) x m) (t : RowMarked w E r n m₁ m′) where
   short : length x ≤ w + E + 1
   short = omega arith
 
@@ -110,7 +111,7 @@ module _ (w E r n : ℕ) (x m m₁ m′ : List ℕ) (fits : Fits w E m) (h : r <
 
 -- The code copies the working row from `at` on.
 pub stored-copy : (w E r n at : ℕ) (l m m₁ m′ : List ℕ) → Fits w E m → r < w → length l ≡ w + E → at ≡ rowOffset w E r
-    → m₁ ≡ splice at (part 0 (w + E) l) m → Marked w E r n m₁ m′ → Stored w E r n l m m′
+    → m₁ ≡ splice at (part 0 (w + E) l) m → RowMarked w E r n m₁ m′ → Stored w E r n l m m′
 stored-copy w E r n at l m m₁ m′ fits h size here e t =
     stored w E r n l m m₁ m′ fits h size (e ∙ ap (λ x. splice at x m) (whole (w + E) l size) ∙ ap (λ k. splice k l m) here) t
 
@@ -163,7 +164,7 @@ module _ (w E r q : ℕ) (l m : List ℕ) where
 -- The row `q` has been added to, and marked.
 module _ (w E r q n : ℕ) (l m m₁ m′ : List ℕ) (fits : Fits w E m) (c : r < w) (h : q < w) (size : length l ≡ w + E) (f : Bytes m) (g : Bytes l)
     (at : ℕ) (here : at ≡ rowOffset w E q) (k : getD m (at + r) 0 ≢ 0) (u : getD m (at + (w + E)) 0 ≢ 0)
-    (e : m₁ ≡ splice at (addScaled (getD m (at + r) 0) (part at (w + E) m) (part 0 (w + E) l)) m) (t : Marked w E q n m₁ m′) where
+    (e : m₁ ≡ splice at (addScaled (getD m (at + r) 0) (part at (w + E) m) (part 0 (w + E) l)) m) (t : RowMarked w E q n m₁ m′) where
   abbrev coefficient : ℕ
   coefficient = getD (row w E q m) r 0
 
@@ -286,7 +287,7 @@ module _ (w E r : ℕ) (l m : List ℕ) where
       (skip (q - i) i n m₁ pos h (omega (arith, g .least, g .most)) (λ j a b. g .zeros j a (omega (arith, g .least))) f)
 
   -- Cleared, and then stored.
-  pub settled : (i n k : ℕ) (m₁ m₂ : List ℕ) → r < w → i ≡ w → Cleared w E r i n l m m₁ → Stored w E r k l m₁ m₂ → Settled w E r (n + k) l m m₂
+  pub settled : (i n k : ℕ) (m₁ m₂ : List ℕ) → r < w → i ≡ w → Cleared w E r i n l m m₁ → Stored w E r k l m₁ m₂ → RowPlaced w E r (n + k) l m m₂
   settled i n k m₁ m₂ h e f g = record {
     kept = kept-trans (f .kept) (g .changed .kept);
     most = omega (arith, f .most, g .changed .most);
@@ -304,7 +305,7 @@ module _ (w E r : ℕ) (l m : List ℕ) where
   }
 
 -- The model's step: the new row stands at the position `p` of the window from `b` on.
-pub places : (w E r n b p : ℕ) (l m m′ : List ℕ) → 0 < w → Settled w E r n l m m′ → p % w ≡ r → b ≤ p → p < b + w
+pub places : (w E r n b p : ℕ) (l m m′ : List ℕ) → 0 < w → RowPlaced w E r n l m m′ → p % w ≡ r → b ≤ p → p < b + w
     → Places (table w E m) (table w E m′) b w p (line w E l)
 places w E r n b p l m m′ pos f e g h =
     let apart : (q : ℕ) → b ≤ q → q < b + w → q ≢ p → q % w ≢ r = (λ q c d x y. other w b p q g h c d x (y ∙ sym e)) in

@@ -26,8 +26,9 @@ use Rattle.decoder.proofs.Counting.{count-all}
 use Rattle.decoder.proofs.Gaining.{total-rows}
 use Rattle.decoder.proofs.Steps.{known-row, known-open, known-free}
 use Rattle.table.specs.Window.{stride, rowOffset, row, flag, inUse, line, table, Window, Fits}
-use Rattle.placing.specs.Place.{Known}
-use Rattle.table.specs.RowSteps.{one-if-known, known-flag, known-flags}
+use Rattle.placing.specs.Place.{KnownAt}
+use Rattle.table.specs.RowSteps.{one-if-known, known-flag}
+use Rattle.placing.specs.PlaceSteps.{known-flags}
 use Rattle.table.proofs.Zero.{else-zero}
 use Rattle.table.proofs.Flags.{length-row, unused, used, not-known}
 use Rattle.table.proofs.Offsets.{flags-fit}
@@ -87,7 +88,7 @@ module _ (w E r : ℕ) (m : List ℕ) (fits : Fits w E m) (h : r < w) (f : Bytes
             let u = used w E (row w E r m) z in
             absurd (n (v .flags r h .1 (u, λ j c d. else-zero (getD (row w E r m) j 0) (λ y. Option·some-ne-none s (sym k ∙ open-at u j c d y)))))
 
-  pub flag-known : (t : Bool) → eqb (flag w E (row w E r m)) 2 ≡ t → Known w E r t m
+  pub flag-known : (t : Bool) → eqb (flag w E (row w E r m)) 2 ≡ t → KnownAt w E r t m
   flag-known true e = λ b i S l p v. let s = v .flags r h .0 (eqb-true (flag w E (row w E r m)) 2 e) in whole b i S l p v (s .0) (s .1)
   flag-known false e = λ b i S l p v. not-two b i S l p v (eqb-false (flag w E (row w E r m)) 2 e)
 

@@ -17,14 +17,14 @@ pub record Emptied (w E : ℕ) (m m′ : List ℕ) : Type 0 where
   pub free : (b : ℕ) → Window w E m′ b (empty (Coded E) w)
 
 -- The window has moved on by `rise` positions.
-pub record Moved (w E oldest rise : ℕ) (m m′ : List ℕ) : Type 0 where
+pub record RowsMoved (w E oldest rise : ℕ) (m m′ : List ℕ) : Type 0 where
   pub kept : Kept w E m m′
   pub moves : (b : ℕ) (S : State (Coded E) w) → b % w ≡ oldest → Window w E m b S → Window w E m′ (b + rise) (advance-by rise S)
 
 -- Whether the symbol of the position in row `r` is known, and then it is the row's.
-abbrev pub Known : (w E r : ℕ) → Bool → List ℕ → Type 0
-Known w E r true m = (b i : ℕ) (S : State (Coded E) w) → i < w → (b + i) % w ≡ r → Window w E m b S → known S i ≡ some (line w E (row w E r m) .sym)
-Known w E r false m = (b i : ℕ) (S : State (Coded E) w) → i < w → (b + i) % w ≡ r → Window w E m b S → known S i ≡ none
+abbrev pub KnownAt : (w E r : ℕ) → Bool → List ℕ → Type 0
+KnownAt w E r true m = (b i : ℕ) (S : State (Coded E) w) → i < w → (b + i) % w ≡ r → Window w E m b S → known S i ≡ some (line w E (row w E r m) .sym)
+KnownAt w E r false m = (b i : ℕ) (S : State (Coded E) w) → i < w → (b + i) % w ≡ r → Window w E m b S → known S i ≡ none
 
 -- The window has moved on by `rise` positions, and the rows that working memory keeps of the equations `es` have joined it:
 -- the memory holds what the model says of `es`, and `count` positions have become known, no more than 256 for a row on any memory.

@@ -5,9 +5,10 @@ ghost use mathlib.Core.Logic.{_≢_};
 ghost use Prim.Native.Nat.{_+_, _≤_, _<_};
 ghost use lib.ListN.{length, getD};
 ghost use Rattle.table.specs.Window.{rowOffset, Fits};
-ghost use Rattle.placing.specs.Place.{Emptied, Moved, Known, Committed};
+ghost use Rattle.placing.specs.Place.{Emptied, RowsMoved, KnownAt, Committed};
 ghost use Rattle.table.specs.Packet.{Works};
-ghost use Rattle.table.specs.RowSteps.{flagged, Tested, Marked, ClearedRow, FirstWith, Stored, Settled, KeptRow, PlacedKept, Joined};
+ghost use Rattle.table.specs.RowSteps.{flagged, Tested};
+ghost use Rattle.placing.specs.PlaceSteps.{RowMarked, ClearedRow, FirstWith, Stored, RowPlaced, KeptRow, PlacedKept, RowsPlaced};
 use field::Gf256;
 use table::Shape;
 
@@ -35,7 +36,7 @@ pub fn clear(mem: &mut [u8], shape: Shape)
 // The window moves on by `rise` positions: the rows of those that leave are no longer in use.
 pub fn move_on(mem: &mut [u8], shape: Shape, rise: usize)
     requires { ⌜ Fits (shape .width) (shape .size) (now mem) × (shape .oldest < shape .width) ⌝ }
-    ensures { λ _. ⌜ Moved (shape .width) (shape .size) (shape .oldest) rise (now (mem .entry)) (now (mem .exit)) ⌝ }
+    ensures { λ _. ⌜ RowsMoved (shape .width) (shape .size) (shape .oldest) rise (now (mem .entry)) (now (mem .exit)) ⌝ }
 {
     let w = shape.width;
     let mut oldest = shape.oldest;
@@ -51,7 +52,7 @@ pub fn move_on(mem: &mut [u8], shape: Shape, rise: usize)
 // Whether the symbol of the position in row `r` is known.
 pub fn is_known(mem: &[u8], shape: Shape, r: usize) -> bool
     requires { ⌜ Fits (shape .width) (shape .size) (now mem) × (r < shape .width) ⌝ }
-    ensures { λ t. ⌜ Known (shape .width) (shape .size) r t (now (mem .entry)) ⌝ }
+    ensures { λ t. ⌜ KnownAt (shape .width) (shape .size) r t (now (mem .entry)) ⌝ }
 {
     let at = table::row_offset(shape, r);
     let n = shape.width + shape.size;
@@ -72,7 +73,7 @@ fn is_alone(mem: &[u8], shape: Shape, r: usize) -> u8
 // The row `r` is in use, and its flag says whether it has another coefficient. Gives one if it has none, else zero.
 fn mark(mem: &mut [u8], shape: Shape, r: usize) -> usize
     requires { ⌜ Fits (shape .width) (shape .size) (now mem) × (r < shape .width) ⌝ }
-    ensures { λ n. ⌜ Marked (shape .width) (shape .size) r n (now (mem .entry)) (now (mem .exit)) ⌝ }
+    ensures { λ n. ⌜ RowMarked (shape .width) (shape .size) r n (now (mem .entry)) (now (mem .exit)) ⌝ }
 {
     let n = is_alone(mem, shape, r);
     set_flag(mem, shape, r, 1 + n);
@@ -125,7 +126,7 @@ fn store_row(mem: &mut [u8], row: &[u8], shape: Shape, r: usize) -> usize
 // The working row becomes the row `r`, and its column is cleared in the other rows in use. Gives how many positions have become known.
 fn place(mem: &mut [u8], row: &[u8], shape: Shape, r: usize) -> usize
     requires { ⌜ Fits (shape .width) (shape .size) (now mem) × (length (now row) ≡ shape .width + shape .size) × (r < shape .width) ⌝ }
-    ensures { λ n. ⌜ Settled (shape .width) (shape .size) r n (now (row .entry)) (now (mem .entry)) (now (mem .exit)) ⌝ }
+    ensures { λ n. ⌜ RowPlaced (shape .width) (shape .size) r n (now (row .entry)) (now (mem .entry)) (now (mem .exit)) ⌝ }
 {
     let w = shape.width;
     let mut count: usize = 0;
@@ -151,7 +152,7 @@ fn place_kept(mem: &mut [u8], work: &[u8], shape: Shape, k: usize) -> usize
 // The first `kept` rows of working memory join the window's rows, in order. Gives how many positions have become known.
 fn place_all(mem: &mut [u8], work: &[u8], shape: Shape, kept: usize) -> usize
     requires { ⌜ Fits (shape .width) (shape .size) (now mem) × Works (shape .width) (shape .size) kept (now work) ⌝ }
-    ensures { λ n. ⌜ Joined (shape .width) (shape .size) kept n (now (work .entry)) (now (mem .entry)) (now (mem .exit)) ⌝ }
+    ensures { λ n. ⌜ RowsPlaced (shape .width) (shape .size) kept n (now (work .entry)) (now (mem .entry)) (now (mem .exit)) ⌝ }
 {
     let mut total: usize = 0;
     for k in 0..kept {

@@ -2,7 +2,7 @@
 use mathlib.Core.Path.{_≡_}
 use Prim.Native.Nat.{_≤_, _-_}
 use native.Mathlib.Omega.{arith}
-use Rattle.table.specs.RowSteps.{Joined}
+use Rattle.placing.specs.PlaceSteps.{RowsPlaced}
 use Rattle.table.proofs.Rows.{fits-kept}
 use Rattle.placing.proofs.Joining.{joined-none, joined-more, joined-all}
 use borrow.Author.Needs.{needs}
@@ -13,7 +13,7 @@ use Rattle.placing.proofs.place_all.Lts as lts
 use Rattle.placing.proofs.place_kept.Reads as place-kept-reads
 
 abbrev Inv-loop : tie.InvT-loop
-Inv-loop mem₀ work shape kept total₀ k₀ mem total k = (k ≤ kept) × Joined (shape .width) (shape .size) k total work mem₀ mem
+Inv-loop mem₀ work shape kept total₀ k₀ mem total k = (k ≤ kept) × RowsPlaced (shape .width) (shape .size) k total work mem₀ mem
 
 abbrev μ-loop : tie.MeasureT-loop
 μ-loop mem₀ work shape kept total₀ k₀ mem total k = kept - k

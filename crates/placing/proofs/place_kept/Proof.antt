@@ -4,7 +4,7 @@ use native.Mathlib.Omega.{arith}
 use lib.ListN.{length, getD}
 use Rattle.memory.proofs.Parts.{length-part}
 use Rattle.table.specs.Window.{row}
-use Rattle.table.specs.RowSteps.{Settled}
+use Rattle.placing.specs.PlaceSteps.{RowPlaced}
 use Rattle.table.proofs.Flags.{flag-at}
 use Rattle.placing.proofs.Joining.{settled-line, without-flags}
 use Rattle.table.proofs.Offsets.{row-end}
@@ -77,9 +77,9 @@ returns c =
     let at = c .before .before .before .before .before .before .before .row-offset in
     let done = c .before .before .place in
     let column = flag-at w E (a .k) (a .work .now) ∙ ap (λ k. getD (a .work .now) (k + (w + E)) 0) (sym (at .ensures .start)) in
-    subst (λ f. Settled w E f (done .result) (row w E (a .k) (a .work .now)) (a .mem .now) (done .last .0)) (sym column)
+    subst (λ f. RowPlaced w E f (done .result) (row w E (a .k) (a .work .now)) (a .mem .now) (done .last .0)) (sym column)
     (settled-line (without-flags w E (a .k) (at .result) (a .work .now) (start .pre .0 .some-width) (at .ensures .start))
-    (subst (λ l. Settled w E (getD (a .work .now) (at .result + (w + E)) 0) (done .result) l (a .mem .now) (done .last .0)) (c .before .before .before .part .ensures .bytes) (done .ensures)))
+    (subst (λ l. RowPlaced w E (getD (a .work .now) (at .result + (w + E)) 0) (done .result) l (a .mem .now) (done .last .0)) (c .before .before .before .part .ensures .bytes) (done .ensures)))
 
 pub place-kept-spec : {M : Type 1} → statement M
 place-kept-spec =
