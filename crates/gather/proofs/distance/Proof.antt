@@ -9,22 +9,18 @@ use Rattle.gather.proofs.distance.Tie as tie
 use Rattle.gather.proofs.distance.Reads as reads
 use Rattle.gather.proofs.distance.Lts as lts
 
--- src/gather.rt:237:50
 add-result : tie.Need-add-result
 add-result c = search needs
 
--- src/gather.rt:237:50
 sub-result : tie.Need-sub-result
 sub-result c = search needs
 
--- src/gather.rt:233:1
 returns : tie.Need-returns
 returns c =
     let a = c .before .before .before .args in
     let e : a .shape .oldest + (a .c - a .shape .oldest) ≡ a .c = omega arith in
     (search needs, ap (λ k. k % a .shape .width) e ∙ mod-eq-of-lt (omega arith))
 
--- src/gather.rt:233:1
 returns-2 : tie.Need-returns-2
 returns-2 c =
     let a = c .before .before .before .before .args in

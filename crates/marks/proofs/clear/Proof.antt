@@ -4,19 +4,15 @@ use borrow.Author.Needs.{needs}
 use Rattle.marks.proofs.clear.Statement.{statement}
 use Rattle.marks.proofs.clear.Tie as tie
 
--- src/marks.rt:84:28
 add-drop-first : tie.Need-add-drop-first
 add-drop-first c = search needs
 
--- src/marks.rt:84:5
 drop-first-requires : tie.Need-drop-first-requires
 drop-first-requires c κs = search needs
 
--- src/marks.rt:80:1
 same-length : tie.Need-same-length
 same-length c = search needs
 
--- src/marks.rt:80:1
 returns : tie.Need-returns
 returns c =
     let p2 = c .before .before in

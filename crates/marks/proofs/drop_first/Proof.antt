@@ -15,34 +15,27 @@ Inv-loop mem₀ shape n i₀ mem i = (i ≤ n) × Dropped (shape .width) (shape 
 abbrev μ-loop : tie.MeasureT-loop
 μ-loop mem₀ shape n i₀ mem i = n - i
 
--- src/marks.rt:66:5
 loop-holds : tie.Need-loop-holds Inv-loop μ-loop
 loop-holds c = (search needs, dropped-none _ _ _ _)
 
--- src/marks.rt:67:9
 write-requires : tie.Need-write-requires Inv-loop μ-loop
 write-requires c κs = (only-fits (c .before .before .before .before .pre .0) (c .before .before .loop .inv .1 .only), omega arith, omega arith)
 
--- src/marks.rt:66:9
 add-i : tie.Need-add-i Inv-loop μ-loop
 add-i c = search needs
 
--- src/marks.rt:66:5
 loop-less : tie.Need-loop-less Inv-loop μ-loop
 loop-less c = search needs
 
--- src/marks.rt:66:5
 loop-again : tie.Need-loop-again Inv-loop μ-loop
 loop-again c =
     let s = c .before .before .before .before .before .before .before in
     let turn = c .before .before .before .before .before .loop in
     (search needs, dropped-more _ _ _ (turn .i) _ (turn .mem) _ (s .pre .0 .some-width) (omega arith) (turn .inv .1) (c .before .before .write .ensures))
 
--- src/marks.rt:62:1
 same-length : tie.Need-same-length Inv-loop μ-loop
 same-length c = c .before .loop .inv .1 .only .size
 
--- src/marks.rt:62:1
 returns : tie.Need-returns Inv-loop μ-loop
 returns c = let all : c .before .loop .i ≡ c .before .before .before .args .n = omega arith in dropped-to all (c .before .loop .inv .1)
 

@@ -6,15 +6,12 @@ use borrow.Author.Needs.{needs}
 use Rattle.marks.proofs.is_marked.Statement.{statement}
 use Rattle.marks.proofs.is_marked.Tie as tie
 
--- src/marks.rt:38:9
 mark-at-requires : tie.Need-mark-at-requires
 mark-at-requires c κs = search needs
 
--- src/marks.rt:39:9
 shared-slice-read-result : tie.Need-shared-slice-read-result
 shared-slice-read-result c = search needs
 
--- src/marks.rt:34:1
 returns : tie.Need-returns
 returns c = let m = c .before .before .before .args .mem .now in ap (λ k. ltb 0 (getD m k 0)) (c .before .mark-at .ensures .0)
 

@@ -13,39 +13,31 @@ Inv-loop mem shape first n count₀ i₀ count i = (i ≤ n) × Tallied (shape .
 abbrev μ-loop : tie.MeasureT-loop
 μ-loop mem shape first n count₀ i₀ count i = n - i
 
--- src/marks.rt:62:5
 loop-holds : tie.Need-loop-holds Inv-loop μ-loop
 loop-holds c = (search needs, tallied-none _ _ _ _ _)
 
--- src/marks.rt:63:40
 add-one-known : tie.Need-add-one-known Inv-loop μ-loop
 add-one-known c = omega arith
 
--- src/marks.rt:63:18
 one-known-requires : tie.Need-one-known-requires Inv-loop μ-loop
 one-known-requires c κs = search needs
 
--- src/marks.rt:63:9
 add-count : tie.Need-add-count Inv-loop μ-loop
 add-count c =
     let p2 = c .before .before in
     omega (arith, p2 .loop .inv .1 .most, c .one-known .ensures .most)
 
--- src/marks.rt:62:9
 add-i : tie.Need-add-i Inv-loop μ-loop
 add-i c = search needs
 
--- src/marks.rt:62:5
 loop-less : tie.Need-loop-less Inv-loop μ-loop
 loop-less c = search needs
 
--- src/marks.rt:62:5
 loop-again : tie.Need-loop-again Inv-loop μ-loop
 loop-again c =
     let p2 = c .before .before in
     (search needs, tallied-more _ _ _ _ (p2 .loop .i) _ _ _ (p2 .loop .inv .1) (c .one-known .ensures))
 
--- src/marks.rt:57:1
 returns : tie.Need-returns Inv-loop μ-loop
 returns c = tallied-to (omega arith) (c .before .loop .inv .1)
 

@@ -8,23 +8,18 @@ use borrow.Author.Needs.{needs}
 use Rattle.marks.proofs.move_on.Statement.{statement}
 use Rattle.marks.proofs.move_on.Tie as tie
 
--- src/marks.rt:94:9
 returns : tie.Need-returns
 returns c = moved-none _ _ _ _ _ (c .before .before .pre .1) (c .if1 .taken)
 
--- src/marks.rt:98:32
 add-drop-first : tie.Need-add-drop-first
 add-drop-first c = search needs
 
--- src/marks.rt:98:9
 drop-first-requires : tie.Need-drop-first-requires
 drop-first-requires c κs = search needs
 
--- src/marks.rt:99:9
 same-length : tie.Need-same-length
 same-length c = search needs
 
--- src/marks.rt:99:9
 returns-2 : tie.Need-returns-2
 returns-2 c =
     let p2 = c .before .before in
@@ -32,22 +27,18 @@ returns-2 c =
     let p7 = p4 .before .before .before in
     moved-far _ _ _ _ _ _ (p7 .pre .1) (p4 .if2 .taken) (p2 .drop-first .ensures)
 
--- src/marks.rt:101:16
 slice-read-past : tie.Need-slice-read-past
 slice-read-past c = omega (arith, header-long)
 
--- src/marks.rt:102:5
 drop-first-requires-2 : tie.Need-drop-first-requires-2
 drop-first-requires-2 c κs = search needs
 
--- src/marks.rt:103:5
 write-requires : tie.Need-write-requires
 write-requires c κs =
     let p3 = c .before .before .before in
     let p9 = p3 .before .before .before .before .before .before in
     (only-fits (p9 .pre .0) (p3 .drop-first2 .ensures .only), omega arith, omega arith)
 
--- src/marks.rt:104:5
 write-requires-2 : tie.Need-write-requires-2
 write-requires-2 c κs =
     let p3 = c .before .before .before in
@@ -56,11 +47,9 @@ write-requires-2 c κs =
     let only = only-trans (p7 .drop-first2 .ensures .only) (written-only (p13 .pre .0 .some-width) (p3 .write .ensures)) in
     (only-fits (p13 .pre .0) only, omega arith, omega arith)
 
--- src/marks.rt:89:1
 same-length-2 : tie.Need-same-length-2
 same-length-2 c = search needs
 
--- src/marks.rt:89:1
 returns-3 : tie.Need-returns-3
 returns-3 c =
     let p2 = c .before .before in

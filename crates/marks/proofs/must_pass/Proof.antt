@@ -7,19 +7,15 @@ use mathlib.Core.Logic.{inl, inr}
 use Rattle.marks.proofs.must_pass.Statement.{statement}
 use Rattle.marks.proofs.must_pass.Tie as tie
 
--- src/marks.rt:206:9
 returns : tie.Need-returns
 returns c = record { walks = λ e. absurd (true≢false e) }
 
--- src/marks.rt:209:9
 returns-2 : tie.Need-returns-2
 returns-2 c = record { walks = λ _. (c .before .if1 .left, inl (c .if2 .taken)) }
 
--- src/marks.rt:211:9
 shared-slice-read-result : tie.Need-shared-slice-read-result
 shared-slice-read-result c = omega (arith, header-long)
 
--- src/marks.rt:201:1
 returns-3 : tie.Need-returns-3
 returns-3 c =
     let p2 = c .before .before in

@@ -6,15 +6,12 @@ use borrow.Author.Needs.{needs}
 use Rattle.marks.proofs.note.Statement.{statement}
 use Rattle.marks.proofs.note.Tie as tie
 
--- src/marks.rt:115:5
 slice-write-mem : tie.Need-slice-write-mem
 slice-write-mem c = omega (arith, header-long)
 
--- src/marks.rt:111:1
 same-length : tie.Need-same-length
 same-length c = search needs
 
--- src/marks.rt:111:1
 returns : tie.Need-returns
 returns c = noted-byte _ _ (omega (arith, header-long))
 

@@ -5,19 +5,15 @@ use borrow.Author.Needs.{needs}
 use Rattle.marks.proofs.one_known.Statement.{statement}
 use Rattle.marks.proofs.one_known.Tie as tie
 
--- src/marks.rt:50:9
 returns : tie.Need-returns
 returns c = one-outside _ _ _ _ _ (c .if1 .taken)
 
--- src/marks.rt:52:9
 row-of-requires : tie.Need-row-of-requires
 row-of-requires c κs = search needs
 
--- src/marks.rt:53:8
 is-known-requires : tie.Need-is-known-requires
 is-known-requires c κs = search needs
 
--- src/marks.rt:45:1
 returns-2 : tie.Need-returns-2
 returns-2 c =
     let p1 = c .before in
@@ -25,7 +21,6 @@ returns-2 c =
     let p6 = p2 .before .before .before .before in
     one-known _ _ _ (p6 .args .i) _ _ (omega arith) (p2 .row-of .ensures .is) (p1 .is-known .result) (c .if2 .taken) (p1 .is-known .ensures)
 
--- src/marks.rt:45:1
 returns-3 : tie.Need-returns-3
 returns-3 c =
     let p1 = c .before in

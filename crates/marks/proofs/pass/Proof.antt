@@ -6,24 +6,20 @@ use borrow.Author.Needs.{needs}
 use Rattle.marks.proofs.pass.Statement.{statement}
 use Rattle.marks.proofs.pass.Tie as tie
 
--- src/marks.rt:162:5
 note-requires : tie.Need-note-requires
 note-requires c κs =
     let p2 = c .before .before in
     omega (arith, p2 .pre .0 .room)
 
--- src/marks.rt:163:5
 step-all-requires : tie.Need-step-all-requires
 step-all-requires c κs =
     let p3 = c .before .before .before in
     let p6 = p3 .before .before .before in
     (starts-fits (p6 .pre .0) (noted-only (p3 .note .ensures)), p6 .pre .1)
 
--- src/marks.rt:158:1
 same-length : tie.Need-same-length
 same-length c = search needs
 
--- src/marks.rt:158:1
 returns : tie.Need-returns
 returns c =
     let p2 = c .before .before in

@@ -6,31 +6,25 @@ use borrow.Author.Needs.{needs}
 use Rattle.marks.proofs.reach.Statement.{statement}
 use Rattle.marks.proofs.reach.Tie as tie
 
--- src/marks.rt:219:8
 must-pass-requires : tie.Need-must-pass-requires
 must-pass-requires c κs =
     let p2 = c .before .before in
     omega (arith, p2 .pre .0 .room)
 
--- src/marks.rt:220:9
 pass-requires : tie.Need-pass-requires
 pass-requires c κs = search needs
 
--- src/marks.rt:221:9
 same-length : tie.Need-same-length
 same-length c = search needs
 
--- src/marks.rt:221:9
 returns : tie.Need-returns
 returns c =
     let p2 = c .before .before in
     record { how = inl (p2 .pass .ensures) }
 
--- src/marks.rt:224:9
 same-length-2 : tie.Need-same-length-2
 same-length-2 c = search needs
 
--- src/marks.rt:224:9
 returns-2 : tie.Need-returns-2
 returns-2 c =
     let p1 = c .before in
@@ -38,19 +32,15 @@ returns-2 c =
     let may = p2 .must-pass .ensures .walks (p1 .if1 .left) in
     record { how = inr (may, followed-none _ _ _ _ _ (λ k h. omega (arith, h .0, c .if2 .taken))) }
 
--- src/marks.rt:226:33
 add-walk-all : tie.Need-add-walk-all
 add-walk-all c = search needs
 
--- src/marks.rt:226:5
 walk-all-requires : tie.Need-walk-all-requires
 walk-all-requires c κs = search needs
 
--- src/marks.rt:215:1
 same-length-3 : tie.Need-same-length-3
 same-length-3 c = search needs
 
--- src/marks.rt:215:1
 returns-3 : tie.Need-returns-3
 returns-3 c =
     let p2 = c .before .before in

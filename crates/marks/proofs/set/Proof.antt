@@ -5,15 +5,12 @@ use borrow.Author.Needs.{needs}
 use Rattle.marks.proofs.set.Statement.{statement}
 use Rattle.marks.proofs.set.Tie as tie
 
--- src/marks.rt:76:5
 write-requires : tie.Need-write-requires
 write-requires c κs = search needs
 
--- src/marks.rt:72:1
 same-length : tie.Need-same-length
 same-length c = c .before .before .write .ensures .size
 
--- src/marks.rt:72:1
 returns : tie.Need-returns
 returns c =
     let p2 = c .before .before in

@@ -4,27 +4,21 @@ use borrow.Author.Needs.{needs}
 use Rattle.marks.proofs.set_own.Statement.{statement}
 use Rattle.marks.proofs.set_own.Tie as tie
 
--- src/marks.rt:144:9
 returns : tie.Need-returns
 returns c = owned-none _ _ _ _ _ _ (c .if1 .taken)
 
--- src/marks.rt:146:21
 add-set : tie.Need-add-set
 add-set c = search needs
 
--- src/marks.rt:146:5
 set-requires : tie.Need-set-requires
 set-requires c κs = search needs
 
--- src/marks.rt:147:5
 set-requires-2 : tie.Need-set-requires-2
 set-requires-2 c κs = search needs
 
--- src/marks.rt:139:1
 same-length : tie.Need-same-length
 same-length c = search needs
 
--- src/marks.rt:139:1
 returns-2 : tie.Need-returns-2
 returns-2 c =
     let p2 = c .before .before in

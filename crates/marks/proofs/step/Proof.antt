@@ -7,34 +7,27 @@ use borrow.Author.Needs.{needs}
 use Rattle.marks.proofs.step.Statement.{statement}
 use Rattle.marks.proofs.step.Tie as tie
 
--- src/marks.rt:125:9
 is-marked-requires : tie.Need-is-marked-requires
 is-marked-requires c κs = search needs
 
--- src/marks.rt:126:9
 same-length : tie.Need-same-length
 same-length c = search needs
 
--- src/marks.rt:126:9
 returns : tie.Need-returns
 returns c =
     let p1 = c .before in
     let p4 = p1 .before .before .before in
     step-unmarked _ _ _ (p4 .args .i) _ (p4 .pre .2) (p1 .is-marked .result) (p1 .is-marked .ensures) (not-true (p1 .is-marked .result) (c .if1 .taken))
 
--- src/marks.rt:128:9
 row-of-requires : tie.Need-row-of-requires
 row-of-requires c κs = search needs
 
--- src/marks.rt:129:9
 is-known-requires : tie.Need-is-known-requires
 is-known-requires c κs = search needs
 
--- src/marks.rt:130:9
 same-length-2 : tie.Need-same-length-2
 same-length-2 c = search needs
 
--- src/marks.rt:130:9
 returns-2 : tie.Need-returns-2
 returns-2 c =
     let p1 = c .before in
@@ -43,34 +36,27 @@ returns-2 c =
     step-unknown _ _ _ (p8 .args .i) _ _ (p8 .pre .2) (p3 .row-of .ensures .is) (p1 .is-known .result)
     (not-true (p1 .is-known .result) (c .if2 .taken)) (p1 .is-known .ensures)
 
--- src/marks.rt:132:9
 symbol-offset-requires : tie.Need-symbol-offset-requires
 symbol-offset-requires c κs = search needs
 
--- src/marks.rt:133:66
 add-load-u16 : tie.Need-add-load-u16
 add-load-u16 c = search needs
 
--- src/marks.rt:133:44
 load-u16-requires : tie.Need-load-u16-requires
 load-u16-requires c κs =
     let p5 = c .before .before .before .before .before in
     let s = p5 .before .before .before .before .before .args .shape in
     omega (arith, flags-fit (s .width) (s .size), row-end (s .width) (s .size) (p5 .row-of .result) (p5 .row-of .ensures .small))
 
--- src/marks.rt:133:44
 cast-symbol-count : tie.Need-cast-symbol-count
 cast-symbol-count c = search needs
 
--- src/marks.rt:133:9
 symbol-count-requires : tie.Need-symbol-count-requires
 symbol-count-requires c κs = search needs
 
--- src/marks.rt:135:9
 same-length-3 : tie.Need-same-length-3
 same-length-3 c = search needs
 
--- src/marks.rt:135:9
 returns-3 : tie.Need-returns-3
 returns-3 c =
     let p1 = c .before in
@@ -88,19 +74,15 @@ returns-3 c =
     (p2 .load-u16 .ensures) (p1 .symbol-count .ensures)
     (p10 .is-marked .result) (p10 .is-marked .ensures) (not-false (p10 .is-marked .result) (p9 .if1 .left)) (c .if3 .taken)
 
--- src/marks.rt:137:8
 sub-if4 : tie.Need-sub-if4
 sub-if4 c = search needs
 
--- src/marks.rt:138:9
 note-requires : tie.Need-note-requires
 note-requires c κs = search needs
 
--- src/marks.rt:139:9
 same-length-4 : tie.Need-same-length-4
 same-length-4 c = search needs
 
--- src/marks.rt:139:9
 returns-4 : tie.Need-returns-4
 returns-4 c =
     let p2 = c .before .before in
@@ -120,21 +102,17 @@ returns-4 c =
     (p7 .load-u16 .ensures) (p6 .symbol-count .ensures)
     (p15 .is-marked .result) (p15 .is-marked .ensures) (not-false (p15 .is-marked .result) (p14 .if1 .left)) _ (p4 .if4 .taken) (p2 .note .ensures)
 
--- src/marks.rt:141:30
 add-is-marked : tie.Need-add-is-marked
 add-is-marked c = search needs
 
--- src/marks.rt:141:8
 is-marked-requires-2 : tie.Need-is-marked-requires-2
 is-marked-requires-2 c κs =
     let s = c .before .before .before .before .before .before .before .before .before .before .before .before .before .before .before .pre in
     (s .0, s .1, omega (arith, s .2, c .before .if4 .left))
 
--- src/marks.rt:142:9
 same-length-5 : tie.Need-same-length-5
 same-length-5 c = search needs
 
--- src/marks.rt:142:9
 returns-5 : tie.Need-returns-5
 returns-5 c =
     let p1 = c .before in
@@ -155,26 +133,21 @@ returns-5 c =
     (p14 .is-marked .result) (p14 .is-marked .ensures) (not-false (p14 .is-marked .result) (p13 .if1 .left))
     (p3 .if4 .left) (p1 .is-marked2 .result) (p1 .is-marked2 .ensures) (c .if5 .taken)
 
--- src/marks.rt:144:21
 add-set : tie.Need-add-set
 add-set c = search needs
 
--- src/marks.rt:144:5
 set-requires : tie.Need-set-requires
 set-requires c κs =
     let p = c .before .before .before .before in
     let s = p .before .before .before .before .before .before .before .before .before .before .before .before .before .before .pre in
     (s .0, s .1, omega (arith, s .2, p .if4 .left))
 
--- src/marks.rt:145:5
 add-result : tie.Need-add-result
 add-result c = search needs
 
--- src/marks.rt:120:1
 same-length-6 : tie.Need-same-length-6
 same-length-6 c = search needs
 
--- src/marks.rt:120:1
 returns-6 : tie.Need-returns-6
 returns-6 c =
     let p2 = c .before .before in

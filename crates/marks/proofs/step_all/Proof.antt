@@ -13,26 +13,21 @@ Inv-loop mem₀ shape w i₀ mem i = (i ≤ w) × Passing (shape .width) (shape 
 abbrev μ-loop : tie.MeasureT-loop
 μ-loop mem₀ shape w i₀ mem i = w - i
 
--- src/marks.rt:154:5
 loop-holds : tie.Need-loop-holds Inv-loop μ-loop
 loop-holds c = (search needs, passing-none _ _ _ _)
 
--- src/marks.rt:155:9
 step-requires : tie.Need-step-requires Inv-loop μ-loop
 step-requires c κs =
     let p2 = c .before .before in
     let p4 = p2 .before .before in
     (starts-fits (p4 .pre .0) (p2 .loop .inv .1 .only), omega arith, omega arith)
 
--- src/marks.rt:154:9
 add-i : tie.Need-add-i Inv-loop μ-loop
 add-i c = search needs
 
--- src/marks.rt:154:5
 loop-less : tie.Need-loop-less Inv-loop μ-loop
 loop-less c = search needs
 
--- src/marks.rt:154:5
 loop-again : tie.Need-loop-again Inv-loop μ-loop
 loop-again c =
     let p2 = c .before .before in
@@ -41,11 +36,9 @@ loop-again c =
     let turn = p5 .loop in
     (search needs, passing-more _ _ _ (turn .i) _ _ (turn .mem) _ (p7 .pre .0 .some-width) (turn .inv .1) (p2 .step .ensures))
 
--- src/marks.rt:149:1
 same-length : tie.Need-same-length Inv-loop μ-loop
 same-length c = c .before .loop .inv .1 .only .size
 
--- src/marks.rt:149:1
 returns : tie.Need-returns Inv-loop μ-loop
 returns c = passed _ _ _ _ _ _ (omega arith) (c .before .loop .inv .1)
 

@@ -8,11 +8,9 @@ use borrow.Author.Needs.{needs}
 use Rattle.marks.proofs.update.Statement.{statement}
 use Rattle.marks.proofs.update.Tie as tie
 
--- src/marks.rt:250:5
 move-on-requires : tie.Need-move-on-requires
 move-on-requires c κs = search needs
 
--- src/marks.rt:251:5
 set-own-requires : tie.Need-set-own-requires
 set-own-requires c κs =
     let p3 = c .before .before .before in
@@ -20,7 +18,6 @@ set-own-requires c κs =
     let oldest = subst (λ x. x < p6 .args .shape .width) (sym (p6 .pre .2)) (mod-lt _ (p6 .pre .0 .some-width)) in
     (only-fits (p6 .pre .0) (p3 .move-on .ensures .only), oldest, p6 .pre .3)
 
--- src/marks.rt:252:5
 reach-requires : tie.Need-reach-requires
 reach-requires c κs =
     let p3 = c .before .before .before in
@@ -29,11 +26,9 @@ reach-requires c κs =
     let oldest = subst (λ x. x < p10 .args .shape .width) (sym (p10 .pre .2)) (mod-lt _ (p10 .pre .0 .some-width)) in
     (only-fits (p10 .pre .0) (only-trans (p7 .move-on .ensures .only) (p3 .set-own .ensures .only)), oldest, p10 .pre .3)
 
--- src/marks.rt:232:1
 same-length : tie.Need-same-length
 same-length c = search needs
 
--- src/marks.rt:232:1
 returns : tie.Need-returns
 returns c =
     let p2 = c .before .before in

@@ -12,24 +12,20 @@ Inv-loop mem₀ shape from w i₀ mem i = Walking (shape .width) (shape .size) (
 abbrev μ-loop : tie.MeasureT-loop
 μ-loop mem₀ shape from w i₀ mem i = w - i
 
--- src/marks.rt:175:5
 loop-holds : tie.Need-loop-holds Inv-loop μ-loop
 loop-holds c = walking-none _ _ _ _ _ (c .before .pre .2)
 
--- src/marks.rt:176:9
 step-requires : tie.Need-step-requires Inv-loop μ-loop
 step-requires c κs =
     let p2 = c .before .before in
     let p4 = p2 .before .before in
     (starts-fits (p4 .pre .0) (p2 .loop .inv .only), omega arith, omega arith)
 
--- src/marks.rt:175:5
 loop-less : tie.Need-loop-less Inv-loop μ-loop
 loop-less c =
     let p2 = c .before .before in
     omega (arith, p2 .step .ensures .later)
 
--- src/marks.rt:175:5
 loop-again : tie.Need-loop-again Inv-loop μ-loop
 loop-again c =
     let p2 = c .before .before in
@@ -38,11 +34,9 @@ loop-again c =
     let turn = p5 .loop in
     walking-more _ _ _ _ (turn .i) _ _ (turn .mem) _ (p7 .pre .0 .some-width) (omega arith) (turn .inv) (p2 .step .ensures)
 
--- src/marks.rt:169:1
 same-length : tie.Need-same-length Inv-loop μ-loop
 same-length c = c .before .loop .inv .only .size
 
--- src/marks.rt:169:1
 returns : tie.Need-returns Inv-loop μ-loop
 returns c = walked _ _ _ _ _ _ _ (omega arith) (c .before .loop .inv)
 

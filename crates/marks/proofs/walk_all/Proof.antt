@@ -14,30 +14,24 @@ Inv-loop mem₀ shape first n i₀ mem i = (i ≤ n) × Followed (shape .width) 
 abbrev μ-loop : tie.MeasureT-loop
 μ-loop mem₀ shape first n i₀ mem i = n - i
 
--- src/marks.rt:183:5
 loop-holds : tie.Need-loop-holds Inv-loop μ-loop
 loop-holds c = (search needs, followed-none _ _ _ _ _ (λ k h. omega (arith, h .0, h .1)))
 
--- src/marks.rt:184:26
 add-walk : tie.Need-add-walk Inv-loop μ-loop
 add-walk c = omega arith
 
--- src/marks.rt:184:9
 walk-requires : tie.Need-walk-requires Inv-loop μ-loop
 walk-requires c κs =
     let p2 = c .before .before in
     let p4 = p2 .before .before in
     (starts-fits (p4 .pre .0) (p2 .loop .inv .1 .only), omega arith, omega arith)
 
--- src/marks.rt:183:9
 add-i : tie.Need-add-i Inv-loop μ-loop
 add-i c = search needs
 
--- src/marks.rt:183:5
 loop-less : tie.Need-loop-less Inv-loop μ-loop
 loop-less c = search needs
 
--- src/marks.rt:183:5
 loop-again : tie.Need-loop-again Inv-loop μ-loop
 loop-again c =
     let p2 = c .before .before in
@@ -46,11 +40,9 @@ loop-again c =
     let turn = p5 .loop in
     (search needs, followed-more _ _ _ _ (turn .i) _ (turn .mem) _ (p7 .pre .0 .some-width) (turn .inv .1) (p2 .walk .ensures))
 
--- src/marks.rt:179:1
 same-length : tie.Need-same-length Inv-loop μ-loop
 same-length c = c .before .loop .inv .1 .only .size
 
--- src/marks.rt:179:1
 returns : tie.Need-returns Inv-loop μ-loop
 returns c = followed-to _ _ _ _ _ _ _ _ (omega arith) (c .before .loop .inv .1)
 

@@ -5,19 +5,15 @@ use borrow.Author.Needs.{needs}
 use Rattle.marks.proofs.write.Statement.{statement}
 use Rattle.marks.proofs.write.Tie as tie
 
--- src/marks.rt:57:9
 mark-at-requires : tie.Need-mark-at-requires
 mark-at-requires c κs = search needs
 
--- src/marks.rt:58:5
 slice-write-mem : tie.Need-slice-write-mem
 slice-write-mem c = search needs
 
--- src/marks.rt:53:1
 same-length : tie.Need-same-length
 same-length c = search needs
 
--- src/marks.rt:53:1
 returns : tie.Need-returns
 returns c = written _ _ _ _ _ _ _ (c .mark-at .ensures .0) (omega arith)
 

@@ -16,34 +16,27 @@ Inv-loop mem₀ shape w r₀ mem r = (r ≤ w) × Emptying (shape .width) (shape
 abbrev μ-loop : tie.MeasureT-loop
 μ-loop mem₀ shape w r₀ mem r = w - r
 
--- src/place.rt:29:5
 loop-holds : tie.Need-loop-holds Inv-loop μ-loop
 loop-holds c = (search needs, emptying-none _ _ _)
 
--- src/place.rt:30:9
 set-flag-requires : tie.Need-set-flag-requires Inv-loop μ-loop
 set-flag-requires c κs = (fits-kept (c .before .before .before .before .pre) (c .before .before .loop .inv .1 .kept), search needs)
 
--- src/place.rt:29:9
 add-r : tie.Need-add-r Inv-loop μ-loop
 add-r c = search needs
 
--- src/place.rt:29:5
 loop-less : tie.Need-loop-less Inv-loop μ-loop
 loop-less c = search needs
 
--- src/place.rt:29:5
 loop-again : tie.Need-loop-again Inv-loop μ-loop
 loop-again c =
     let start = c .before .before .before .before .before .before .before in
     let turn = c .before .before .before .before .before .loop in
     (search needs, emptying-more _ _ (turn .r) _ (turn .mem) _ (start .pre) (omega arith) (turn .inv .1) (c .before .before .set-flag .ensures))
 
--- src/place.rt:24:1
 same-length : tie.Need-same-length Inv-loop μ-loop
 same-length c = c .before .loop .inv .1 .kept .size
 
--- src/place.rt:24:1
 returns : tie.Need-returns Inv-loop μ-loop
 returns c =
     let a = c .before .before .before in

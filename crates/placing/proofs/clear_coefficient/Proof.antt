@@ -5,56 +5,45 @@ use Rattle.table.proofs.Offsets.{row-end}
 use Rattle.placing.proofs.clear_coefficient.Statement.{statement}
 use Rattle.placing.proofs.clear_coefficient.Tie as tie
 
--- src/place.rt:88:9
 row-offset-requires : tie.Need-row-offset-requires
 row-offset-requires c κs = search needs
 
--- src/place.rt:89:13
 add-n : tie.Need-add-n
 add-n c = search needs
 
--- src/place.rt:90:12
 add-if1 : tie.Need-add-if1
 add-if1 c = search needs
 
--- src/place.rt:90:8
 slice-read-if1 : tie.Need-slice-read-if1
 slice-read-if1 c =
     let a = c .before .before .before .before .before .args in
     omega (arith, row-end (a .shape .width) (a .shape .size) (a .q) (omega arith))
 
--- src/place.rt:91:9
 returns : tie.Need-returns
 returns c =
     let a = c .before .before .before .before .before .before .args in
     let at = c .before .before .before .row-offset in
     cleared-unused (a .shape .width) (a .shape .size) (a .r) (a .q) (a .row .now) (a .mem .now) (at .result) (at .ensures .start) (c .if1 .taken)
 
--- src/place.rt:93:17
 add-c : tie.Need-add-c
 add-c c = search needs
 
--- src/place.rt:93:13
 slice-read-c : tie.Need-slice-read-c
 slice-read-c c =
     let a = c .before .before .before .before .before .before .before .args in
     omega (arith, row-end (a .shape .width) (a .shape .size) (a .q) (omega arith))
 
--- src/place.rt:94:5
 add-part-requires : tie.Need-add-part-requires
 add-part-requires c κs =
     let a = c .before .before .before .before .before .before .before .before .args in
     (omega (arith, row-end (a .shape .width) (a .shape .size) (a .q) (omega arith)), search needs)
 
--- src/place.rt:95:5
 mark-requires : tie.Need-mark-requires
 mark-requires c κs = search needs
 
--- src/place.rt:84:1
 same-length : tie.Need-same-length
 same-length c = search needs
 
--- src/place.rt:84:1
 returns-2 : tie.Need-returns-2
 returns-2 c =
     let start = c .before .before .before .before .before .before .before .before .before .before .before .before .before .before .before in

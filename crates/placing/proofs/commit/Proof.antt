@@ -8,21 +8,17 @@ use Rattle.placing.proofs.commit.Lts as lts
 use Rattle.placing.proofs.move_on.Reads as move-on-reads
 use Rattle.placing.proofs.place_all.Reads as place-all-reads
 
--- src/place.rt:164:5
 move-on-requires : tie.Need-move-on-requires
 move-on-requires c κs = search needs
 
--- src/place.rt:165:5
 place-all-requires : tie.Need-place-all-requires
 place-all-requires c κs =
     let start = c .before .before .before .before .before .before .before in
     (fits-kept (start .pre .0) (c .before .before .before .move-on .ensures .kept), start .pre .2)
 
--- src/place.rt:160:1
 same-length : tie.Need-same-length
 same-length c = search needs
 
--- src/place.rt:160:1
 returns : tie.Need-returns
 returns c =
     let start = c .before .before .before .before .before .before .before .before .before .before in

@@ -9,45 +9,37 @@ use Rattle.placing.proofs.is_alone.Lts as lts
 use Rattle.table.proofs.or_all.Reads as or-all-reads
 use Rattle.table.proofs.row_offset.Reads as row-offset-reads
 
--- src/place.rt:77:9
 row-offset-requires : tie.Need-row-offset-requires
 row-offset-requires c κs = search needs
 
--- src/place.rt:78:34
 add-or-all : tie.Need-add-or-all
 add-or-all c =
     let a = c .before .before .args in
     omega (arith, row-end (a .shape .width) (a .shape .size) (a .r) (omega arith))
 
--- src/place.rt:78:9
 or-all-requires : tie.Need-or-all-requires
 or-all-requires c κs =
     let a = c .before .before .args in
     (search needs, omega (arith, row-end (a .shape .width) (a .shape .size) (a .r) (omega arith)))
 
--- src/place.rt:79:35
 add-or-all-2 : tie.Need-add-or-all-2
 add-or-all-2 c = search needs
 
--- src/place.rt:79:29
 add-or-all-3 : tie.Need-add-or-all-3
 add-or-all-3 c =
     let a = c .before .before .before .args in
     omega (arith, row-end (a .shape .width) (a .shape .size) (a .r) (omega arith))
 
--- src/place.rt:79:43
 add-or-all-4 : tie.Need-add-or-all-4
 add-or-all-4 c =
     let a = c .before .before .before .before .args in
     omega (arith, row-end (a .shape .width) (a .shape .size) (a .r) (omega arith))
 
--- src/place.rt:79:9
 or-all-requires-2 : tie.Need-or-all-requires-2
 or-all-requires-2 c κs =
     let a = c .before .before .before .before .args in
     (search needs, omega (arith, row-end (a .shape .width) (a .shape .size) (a .r) (omega arith)))
 
--- src/place.rt:73:1
 returns : tie.Need-returns
 returns c =
     let a = c .before .before .before .before .before .before .args in
@@ -57,7 +49,6 @@ returns c =
     tested-alone (a .shape .width) (a .shape .size) (a .r) (a .mem .now) (omega arith) (at .result) (at .ensures .start)
     (before .result) (after .result) (before .ensures) (after .ensures) (c .if1 .taken)
 
--- src/place.rt:73:1
 returns-2 : tie.Need-returns-2
 returns-2 c =
     let a = c .before .before .before .before .before .before .args in

@@ -18,37 +18,29 @@ Inv-loop mem₀ shape rise w oldest₀ i₀ mem oldest i = (i ≤ w) × (i ≤ r
 abbrev μ-loop : tie.MeasureT-loop
 μ-loop mem₀ shape rise w oldest₀ i₀ mem oldest i = w - i
 
--- src/place.rt:41:5
 loop-holds : tie.Need-loop-holds Inv-loop μ-loop
 loop-holds c = let a = c .before in (search needs, search needs, leaving-none _ _ _ _ (a .pre .1))
 
--- src/place.rt:43:13
 same-length : tie.Need-same-length Inv-loop μ-loop
 same-length c = c .before .before .loop .inv .2 .moved .kept .size
 
--- src/place.rt:43:13
 returns : tie.Need-returns Inv-loop μ-loop
 returns c = moved-to (c .if1 .taken) (c .before .before .loop .inv .2 .moved)
 
--- src/place.rt:45:9
 set-flag-requires : tie.Need-set-flag-requires Inv-loop μ-loop
 set-flag-requires c κs =
     let leaving = c .before .before .before .loop .inv .2 in
     (fits-kept (c .before .before .before .before .before .pre .0) (leaving .moved .kept), leaving .within)
 
--- src/place.rt:46:9
 next-requires : tie.Need-next-requires Inv-loop μ-loop
 next-requires c κs = search needs
 
--- src/place.rt:41:9
 add-i : tie.Need-add-i Inv-loop μ-loop
 add-i c = search needs
 
--- src/place.rt:41:5
 loop-less : tie.Need-loop-less Inv-loop μ-loop
 loop-less c = search needs
 
--- src/place.rt:41:5
 loop-again : tie.Need-loop-again Inv-loop μ-loop
 loop-again c =
     let start = c .before .before .before .before .before .before .before .before .before in
@@ -60,11 +52,9 @@ loop-again c =
     (start .pre .0) (turn .inv .2) (freed .ensures) (c .next .ensures) in
     (search needs, search needs, more)
 
--- src/place.rt:35:1
 same-length-2 : tie.Need-same-length-2 Inv-loop μ-loop
 same-length-2 c = c .before .loop .inv .2 .moved .kept .size
 
--- src/place.rt:35:1
 returns-2 : tie.Need-returns-2 Inv-loop μ-loop
 returns-2 c =
     let start = c .before .before .before in

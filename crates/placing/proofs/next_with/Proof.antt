@@ -13,43 +13,34 @@ Inv-loop mem shape r from w q₀ q = Passed (shape .width) (shape .size) r from 
 abbrev μ-loop : tie.MeasureT-loop
 μ-loop mem shape r from w q₀ q = w - q
 
--- src/place.rt:104:5
 loop-holds : tie.Need-loop-holds Inv-loop μ-loop
 loop-holds c = passed-none (omega arith)
 
--- src/place.rt:105:13
 row-offset-requires : tie.Need-row-offset-requires Inv-loop μ-loop
 row-offset-requires c κs = search needs
 
--- src/place.rt:106:16
 add-if1 : tie.Need-add-if1 Inv-loop μ-loop
 add-if1 c =
     let a = c .before .before .before .before .args in
     omega (arith, row-end (a .shape .width) (a .shape .size) (c .before .before .loop .q) (omega arith))
 
--- src/place.rt:106:12
 shared-slice-read-if1 : tie.Need-shared-slice-read-if1 Inv-loop μ-loop
 shared-slice-read-if1 c =
     let a = c .before .before .before .before .before .args in
     omega (arith, row-end (a .shape .width) (a .shape .size) (c .before .before .before .loop .q) (omega arith))
 
--- src/place.rt:107:13
 returns : tie.Need-returns Inv-loop μ-loop
 returns c = passed-here _ _ (c .before .before .before .before .loop .inv) (omega arith) (c .before .before .row-offset .ensures .start) (c .if1 .taken)
 
--- src/place.rt:104:9
 add-q : tie.Need-add-q Inv-loop μ-loop
 add-q c = search needs
 
--- src/place.rt:104:5
 loop-less : tie.Need-loop-less Inv-loop μ-loop
 loop-less c = search needs
 
--- src/place.rt:104:5
 loop-again : tie.Need-loop-again Inv-loop μ-loop
 loop-again c = passed-more _ _ (c .before .before .before .before .loop .inv) (omega arith) (c .before .before .row-offset .ensures .start) (c .if1 .left)
 
--- src/place.rt:99:1
 returns-2 : tie.Need-returns-2 Inv-loop μ-loop
 returns-2 c = passed-all _ (c .before .loop .inv) (omega (arith, c .before .loop .inv .most))
 

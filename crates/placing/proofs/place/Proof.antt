@@ -18,11 +18,9 @@ Inv-loop mem₀ row shape r w count₀ q₀ mem count q =
 abbrev μ-loop : tie.MeasureT-loop
 μ-loop mem₀ row shape r w count₀ q₀ mem count q = w - q
 
--- src/place.rt:131:9
 next-with-requires : tie.Need-next-with-requires Inv-loop μ-loop
 next-with-requires c κs = search needs
 
--- src/place.rt:132:5
 loop-holds : tie.Need-loop-holds Inv-loop μ-loop
 loop-holds c =
     let start = c .before .before .before .before in
@@ -35,13 +33,11 @@ loop-holds c =
       found .ensures .here,
     )
 
--- src/place.rt:133:18
 clear-coefficient-requires : tie.Need-clear-coefficient-requires Inv-loop μ-loop
 clear-coefficient-requires c κs =
     let turn = c .before .before .loop in
     (fits-kept (c .before .before .before .before .before .before .before .pre .0) (turn .inv .1 .kept), search needs, search needs, search needs, turn .inv .2 (omega arith))
 
--- src/place.rt:133:9
 add-count : tie.Need-add-count Inv-loop μ-loop
 add-count c = search needs
 
@@ -58,20 +54,16 @@ more c =
     cleared-more (a .shape .width) (a .shape .size) (a .r) (a .row .now) (a .mem .now) (turn .q) (turn .count) (done .result) (turn .mem) (done .last .0)
     (omega arith) (turn .inv .1) (done .ensures)
 
--- src/place.rt:134:38
 add-next-with : tie.Need-add-next-with Inv-loop μ-loop
 add-next-with c = search needs
 
--- src/place.rt:134:9
 next-with-requires-2 : tie.Need-next-with-requires-2 Inv-loop μ-loop
 next-with-requires-2 c κs =
     (fits-kept (c .before .before .before .before .before .before .before .before .before .before .before .pre .0) (more (c .before) .kept), search needs, omega arith)
 
--- src/place.rt:132:5
 loop-less : tie.Need-loop-less Inv-loop μ-loop
 loop-less c = omega (arith, c .next-with2 .ensures .least)
 
--- src/place.rt:132:5
 loop-again : tie.Need-loop-again Inv-loop μ-loop
 loop-again c =
     let start = c .before .before .before .before .before .before .before .before .before .before .before .before in
@@ -83,20 +75,16 @@ loop-again c =
       found .ensures .here,
     )
 
--- src/place.rt:136:13
 store-row-requires : tie.Need-store-row-requires Inv-loop μ-loop
 store-row-requires c κs =
     (fits-kept (c .before .before .before .before .before .before .before .pre .0) (c .before .before .loop .inv .1 .kept), search needs, search needs)
 
--- src/place.rt:136:5
 add-result : tie.Need-add-result Inv-loop μ-loop
 add-result c = search needs
 
--- src/place.rt:125:1
 same-length : tie.Need-same-length Inv-loop μ-loop
 same-length c = search needs
 
--- src/place.rt:125:1
 returns : tie.Need-returns Inv-loop μ-loop
 returns c =
     let a = c .before .before .before .before .before .before .before .before .before .before .args in

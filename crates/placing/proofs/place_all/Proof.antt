@@ -18,13 +18,11 @@ Inv-loop mem₀ work shape kept total₀ k₀ mem total k = (k ≤ kept) × Rows
 abbrev μ-loop : tie.MeasureT-loop
 μ-loop mem₀ work shape kept total₀ k₀ mem total k = kept - k
 
--- src/place.rt:153:5
 loop-holds : tie.Need-loop-holds Inv-loop μ-loop
 loop-holds c =
     let a = c .before .before .args in
     (search needs, joined-none (a .shape .width) (a .shape .size) (a .work .now) (a .mem .now))
 
--- src/place.rt:154:18
 place-kept-requires : tie.Need-place-kept-requires Inv-loop μ-loop
 place-kept-requires c κs =
     let start = c .before .before .before .before .before in
@@ -37,22 +35,18 @@ place-kept-requires c κs =
       },
     )
 
--- src/place.rt:154:9
 add-total : tie.Need-add-total Inv-loop μ-loop
 add-total c =
     let start = c .before .before .before .before .before .before .before .before in
     let turn = c .before .before .before .before .before .loop in
     omega (arith, turn .inv .1 .most, c .before .before .place-kept .ensures .most, start .pre .1 .within, start .pre .1 .wide)
 
--- src/place.rt:153:9
 add-k : tie.Need-add-k Inv-loop μ-loop
 add-k c = search needs
 
--- src/place.rt:153:5
 loop-less : tie.Need-loop-less Inv-loop μ-loop
 loop-less c = search needs
 
--- src/place.rt:153:5
 loop-again : tie.Need-loop-again Inv-loop μ-loop
 loop-again c =
     let start = c .before .before .before .before .before .before .before .before in
@@ -64,11 +58,9 @@ loop-again c =
     (start .pre .0) (turn .inv .1) (done .ensures) in
     (search needs, more)
 
--- src/place.rt:148:1
 same-length : tie.Need-same-length Inv-loop μ-loop
 same-length c = search needs
 
--- src/place.rt:148:1
 returns : tie.Need-returns Inv-loop μ-loop
 returns c =
     let done : c .before .loop .k ≡ c .before .before .before .before .args .kept = omega arith in

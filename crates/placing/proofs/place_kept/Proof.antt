@@ -17,39 +17,32 @@ use Rattle.placing.proofs.place.Reads as place-reads
 use Rattle.table.proofs.row_offset.Reads as row-offset-reads
 use Rattle.memory.proofs.part.Reads as part-reads
 
--- src/place.rt:141:9
 row-offset-requires : tie.Need-row-offset-requires
 row-offset-requires c κs = search needs
 
--- src/place.rt:142:13
 add-n : tie.Need-add-n
 add-n c = search needs
 
--- src/place.rt:143:18
 add-r : tie.Need-add-r
 add-r c =
     let a = c .before .before .before .before .args in
     omega (arith, row-end (a .shape .width) (a .shape .size) (a .k) (omega arith))
 
--- src/place.rt:143:13
 shared-slice-read-r : tie.Need-shared-slice-read-r
 shared-slice-read-r c =
     let a = c .before .before .before .before .before .args in
     omega (arith, row-end (a .shape .width) (a .shape .size) (a .k) (omega arith))
 
--- src/place.rt:143:13
 cast-r : tie.Need-cast-r
 cast-r c =
     let a = c .before .before .before .before .before .args in
     omega (arith, c .shared-slice-known2 .given (c .before .before .row-offset .result + (a .shape .width + a .shape .size)))
 
--- src/place.rt:144:16
 part-requires : tie.Need-part-requires
 part-requires c κs =
     let a = c .before .before .before .before .before .before .args in
     omega (arith, row-end (a .shape .width) (a .shape .size) (a .k) (omega arith))
 
--- src/place.rt:144:5
 place-requires : tie.Need-place-requires
 place-requires c κs =
     let start = c .before .before .before .before .before .before .before in
@@ -63,11 +56,9 @@ place-requires c κs =
       subst (λ f. f < w) column (start .pre .1 .column),
     )
 
--- src/place.rt:137:1
 same-length : tie.Need-same-length
 same-length c = search needs
 
--- src/place.rt:137:1
 returns : tie.Need-returns
 returns c =
     let start = c .before .before .before .before .before .before .before .before .before .before in

@@ -10,29 +10,23 @@ use Rattle.placing.proofs.mark.Reads as mark-reads
 use Rattle.table.proofs.row_offset.Reads as row-offset-reads
 use Rattle.memory.proofs.copy_part.Reads as copy-part-reads
 
--- src/place.rt:116:9
 row-offset-requires : tie.Need-row-offset-requires
 row-offset-requires c κs = search needs
 
--- src/place.rt:117:13
 add-n : tie.Need-add-n
 add-n c = search needs
 
--- src/place.rt:118:5
 copy-part-requires : tie.Need-copy-part-requires
 copy-part-requires c κs =
     let a = c .before .before .before .before .before .args in
     (omega (arith, row-end (a .shape .width) (a .shape .size) (a .r) (omega arith)), search needs)
 
--- src/place.rt:119:5
 mark-requires : tie.Need-mark-requires
 mark-requires c κs = search needs
 
--- src/place.rt:112:1
 same-length : tie.Need-same-length
 same-length c = search needs
 
--- src/place.rt:112:1
 returns : tie.Need-returns
 returns c =
     let start = c .before .before .before .before .before .before .before .before .before .before .before .before in

@@ -17,30 +17,24 @@ Inv-loop bytes from to x₀ i₀ x i = (from ≤ i) × (i ≤ to) × ((x ≡ 0) 
 abbrev μ-loop : tie.MeasureT-loop
 μ-loop bytes from to x₀ i₀ x i = to - i
 
--- src/place.rt:66:5
 loop-holds : tie.Need-loop-holds Inv-loop μ-loop
 loop-holds c = (search needs, search needs, or-none (c .args .from) (c .args .bytes .now))
 
--- src/place.rt:67:17
 shared-slice-read-x : tie.Need-shared-slice-read-x Inv-loop μ-loop
 shared-slice-read-x c = search needs
 
--- src/place.rt:66:9
 add-i : tie.Need-add-i Inv-loop μ-loop
 add-i c = search needs
 
--- src/place.rt:66:5
 loop-less : tie.Need-loop-less Inv-loop μ-loop
 loop-less c = search needs
 
--- src/place.rt:66:5
 loop-again : tie.Need-loop-again Inv-loop μ-loop
 loop-again c =
     let a = c .before .before .before .args in
     let turn = c .before .before .loop in
     (search needs, search needs, or-more (a .from) (turn .i) (turn .x) (a .bytes .now) (omega arith) (turn .inv .2))
 
--- src/place.rt:61:1
 returns : tie.Need-returns Inv-loop μ-loop
 returns c =
     let a = c .before .before .args in
