@@ -1,4 +1,7 @@
 -- A reduced equation settled, and what that says of the packet's equations.
+-- A row divided by its coefficient in a column: normalised.
+-- What becomes of a reduced equation: settled-kept, settled-implied, settled-contradiction.
+-- The packet's rows: gathered-same, gathered-only, gathered-none. The whole call: admitted.
 use mathlib.Core.Path.{_≡_, refl, sym, ap, _∙_, subst}
 use mathlib.Core.Logic.{_≢_}
 use mathlib.Core.List.{List, [], _∷_, _++_}
@@ -25,7 +28,8 @@ use Rattle.decoder.specs.TableSteps.{Leads, scale-line}
 use Rattle.decoder.specs.Chain.{Chain, place-rows, eliminate}
 use Rattle.decoder.proofs.Bytes.{byte-inverse, laws, byte-zero, byte-nonzero}
 use Rattle.decoder.proofs.Stretch.{line-scale, symbol-null, symbol-nonnull}
-use Rattle.decoder.proofs.Chain.{chain-none, chain-same, place-rows-same, eliminate-same, chain-reduce, normal, packet-implied, packet-contradicts, packet-places}
+use Rattle.decoder.proofs.Chain.{chain-none, chain-same, place-rows-same, eliminate-same}
+use Rattle.decoder.proofs.Chain.{chain-reduce, normal, packet-implied, packet-contradicts, packet-places}
 use Rattle.decoder.proofs.Combining.{normal-line}
 use Rattle.decoder.proofs.Refine.{lead-read, lead-none}
 use Rattle.decoder.proofs.Steps.{symbol-read, leads-scaled}
@@ -91,9 +95,11 @@ module _ (w E k c at : ℕ) (m m₁ m′ : List ℕ) (g : Works w E k m) (h : c 
     only =
         only-trans
         (subst (Only (rowOffset w E k) (rowOffset w E k + (w + E + 1)) m) (sym first)
-        (only-splice (rowOffset w E k) (rowOffset w E k + (w + E + 1)) (rowOffset w E k) divided m (omega arith) (omega (arith, length-divided)) (omega (arith, flags-fit w E, room))))
+        (only-splice (rowOffset w E k) (rowOffset w E k + (w + E + 1)) (rowOffset w E k) divided m (omega arith) (omega (arith, length-divided))
+        (omega (arith, flags-fit w E, room))))
         (subst (Only (rowOffset w E k) (rowOffset w E k + (w + E + 1)) m₁) (sym second)
-        (only-splice (rowOffset w E k) (rowOffset w E k + (w + E + 1)) (rowOffset w E k + (w + E)) (c ∷ []) m₁ (omega arith) (omega arith) (omega (arith, flags-fit w E, size, room))));
+        (only-splice (rowOffset w E k) (rowOffset w E k + (w + E + 1)) (rowOffset w E k + (w + E)) (c ∷ []) m₁ (omega arith) (omega arith)
+        (omega (arith, flags-fit w E, size, room))));
     scaled =
         line-scale w E (g .some-width) factor (row w E k m) (row w E k m′) (bytes-part (rowOffset w E k) (stride w E) m bytes)
         (inverse-lt (getD (row w E k m) c 0))
@@ -141,7 +147,8 @@ module _ (w E first i : ℕ) (l : List ℕ) (b d : ℕ) (near : d < w) (e : (b +
         go (yes x) = x
         go (no x) =
             let y : b + (d + i) ≡ b + (d + i - w) + w = omega arith in
-            absurd (nonzero (ap (λ k. byte (getD l k 0)) (ap (λ k. k % w) y ∙ add-mod-right (b + (d + i - w)) w) ∙ front (b + (d + i - w)) (omega arith) (omega arith)))
+            absurd (nonzero (ap (λ k. byte (getD l k 0)) (ap (λ k. k % w) y ∙ add-mod-right (b + (d + i - w)) w)
+            ∙ front (b + (d + i - w)) (omega arith) (omega arith)))
 
     leads : Leads (line w E l) b (b + (d + i))
     leads = record { below = zero-cells; here = nonzero }
@@ -155,7 +162,8 @@ module _ (w E first k : ℕ) (m : List ℕ) (g : Works w E k m) (bytes : Bytes m
   row-bytes : Bytes (row w E k m)
   row-bytes = bytes-part (rowOffset w E k) (stride w E) m bytes
 
-  module _ (r c i : ℕ) (m′ : List ℕ) (from : k ≤ r) (to : r < k + 1) (room : r < w) (h : i < w) (e : c ≡ (first + i) % w) (found : Leading w first i (row w E r m))
+  module _ (r c i : ℕ) (m′ : List ℕ) (from : k ≤ r) (to : r < k + 1) (room : r < w) (h : i < w) (e : c ≡ (first + i) % w)
+      (found : Leading w first i (row w E r m))
       (f : Normalised w E r c m m′) where
     here : r ≡ k
     here = omega arith
@@ -308,7 +316,8 @@ module _ (w E oldest stay kept first count n : ℕ) (verdict : Verdict) (m work 
   only₃ = only-trans (only-wider (rowOffset w E kept + (w + E)) (rowOffset w E kept + (w + E + 1)) (omega arith) only₂) (f₃ .only)
 
   module _ (b rise d : ℕ) (S : State (Coded E) w) (es : List (Row (Coded E) w)) (here : (b + rise) % w ≡ oldest) (stays : stay ≡ w - rise)
-      (from : (b + rise + d) % w ≡ first) (in-window : d < w) (room : d + count ≤ w) (held : Window w E m b S) (rref : Rref S) (spans : Spans w first count (row w E kept work))
+      (from : (b + rise + d) % w ≡ first) (in-window : d < w) (room : d + count ≤ w) (held : Window w E m b S) (rref : Rref S)
+      (spans : Spans w first count (row w E kept work))
       (f : Gathered w E (b + rise) (advance-by rise S) work kept es) where
     abbrev S₀ : State (Coded E) w
     S₀ = advance-by rise S

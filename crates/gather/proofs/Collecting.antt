@@ -22,7 +22,8 @@ next-column w first i c e =
 
 -- Columns of one window differ.
 pub columns-apart : (w first i j : ℕ) → i < w → j < w → i ≢ j → (first + i) % w ≢ (first + j) % w
-columns-apart w first i j h k d e = let s = remainders w first (first + i) (first + j) (omega arith) (omega arith) (omega arith) (omega arith) e in d (omega arith)
+columns-apart w first i j h k d e =
+    let s = remainders w first (first + i) (first + j) (omega arith) (omega arith) (omega arith) (omega arith) e in d (omega arith)
 
 pub used-zero : (t : Bool) (k : ℕ) → k ≡ 0 → 0 ≡ if-used t k
 used-zero true k z = sym z

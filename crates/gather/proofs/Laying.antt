@@ -1,4 +1,5 @@
 -- An equation's coefficients laid in a row of working memory: they stand in their columns, around the end of the window.
+-- Columns: wrapped. Coefficients up to the end of the window, and around it: laid-short, laid-long. The symbol stays: laid-symbol.
 use mathlib.Core.Path.{_≡_, refl, sym, ap, _∙_, subst}
 use mathlib.Core.Logic.{_≢_}
 use mathlib.Core.List.{List}
@@ -184,7 +185,8 @@ laid-symbol w E k first cs work work′ f i h =
     let same : (m : List ℕ) → getD (row w E k m) (w + i) 0 ≡ getD (part (rowOffset w E k + w) E m) i 0 =
     (λ m.
     let e : rowOffset w E k + (w + i) ≡ rowOffset w E k + w + i = omega arith in
-    getD-part (rowOffset w E k) (stride w E) (w + i) m (omega (arith, flags-fit w E)) ∙ ap (λ a. getD m a 0) e ∙ sym (getD-part (rowOffset w E k + w) E i m h)) in
+    getD-part (rowOffset w E k) (stride w E) (w + i) m (omega (arith, flags-fit w E)) ∙ ap (λ a. getD m a 0) e
+    ∙ sym (getD-part (rowOffset w E k + w) E i m h)) in
     same work′
     ∙ ap (λ x. getD x i 0) (only-past (rowOffset w E k) (rowOffset w E k + w) (rowOffset w E k + w) E work work′ (f .only) (omega arith))
     ∙ sym (same work)

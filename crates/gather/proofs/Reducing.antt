@@ -1,4 +1,7 @@
 -- A row of working memory reduced: by the state's rows that stay, all at once, and by the packet's rows before it, one after the other.
+-- A row that has been replaced: new-cell, new-line, part-row, bytes-addScaled.
+-- By the packet's rows: flag-lt, rows-apart, eliminated, packet-none, packet-more.
+-- By the state's rows: zeros, length-lent, rows-added, state-none, state-some, state-only, no-coefficient, state-reduced.
 use mathlib.Core.Path.{_≡_, refl, sym, ap, ap₂, _∙_, subst}
 use mathlib.Core.Logic.{_≢_}
 use mathlib.Core.Bool.{true, false}
@@ -76,7 +79,8 @@ module _ (w E k j at from : ℕ) (m : List ℕ) (p : at ≡ rowOffset w E k) (q 
   eliminated m′ s =
       let c = getD (row w E j m) (w + E) 0 in
       let e : getD m (at + getD m (from + (w + E)) 0) 0 ≡ getD (row w E k m) c 0 =
-      ap (λ x. getD m (at + x) 0) flag ∙ ap (λ a. getD m (a + c) 0) p ∙ sym (getD-part (rowOffset w E k) (stride w E) c m (omega (arith, flags-fit w E, g .columns j h))) in
+      ap (λ x. getD m (at + x) 0) flag ∙ ap (λ a. getD m (a + c) 0) p
+      ∙ sym (getD-part (rowOffset w E k) (stride w E) c m (omega (arith, flags-fit w E, g .columns j h))) in
       s
       ∙ ap (λ y. splice at (addScaled y (part at (w + E) m) (part from (w + E) m)) m) e
       ∙ ap (λ a. splice a (addScaled (getD (row w E k m) c 0) (part a (w + E) m) (part from (w + E) m)) m) p
@@ -146,7 +150,8 @@ module _ (w E k : ℕ) (work : List ℕ) where
       only =
           only-trans (f .only)
           (subst (Only (rowOffset w E k) (rowOffset w E k + (w + E)) m) (sym s)
-          (only-splice (rowOffset w E k) (rowOffset w E k + (w + E)) (rowOffset w E k) sum m (omega arith) (omega (arith, length-sum)) (omega (arith, flags-fit w E, room))));
+          (only-splice (rowOffset w E k) (rowOffset w E k + (w + E)) (rowOffset w E k) sum m (omega arith) (omega (arith, length-sum))
+          (omega (arith, flags-fit w E, room))));
       sum = λ b marks. all b marks ∙ ap (λ i. eliminate (Coded E) w (spelled w E b work) i (spelled w E b work k)) (sym (add-one j));
     }
 
@@ -209,7 +214,8 @@ module _ (w E k first n at any : ℕ) (m work cs cs′ : List ℕ) (here : at �
   }
 
   pub state-some : (work′ : List ℕ)
-      → work′ ≡ splice (rowOffset w E k) (combined (coefficient (take w cs′)) (rowAt m headerSize (stride w E) (w + E)) w (part (rowOffset w E k) (w + E) work)) work
+      → work′ ≡ splice (rowOffset w E k) (combined (coefficient (take w cs′)) (rowAt m headerSize (stride w E) (w + E)) w
+      (part (rowOffset w E k) (w + E) work)) work
       → StateReduced w E k first n m work work′
   unfolding part
   state-some work′ s = record {
@@ -234,7 +240,8 @@ module _ (w E : ℕ) (m : List ℕ) (fits : Fits w E m) (bytes : Bytes m) where
   unfolding combined
   bytes-combined cs zero d f = f
   bytes-combined cs (suc n) d f =
-      bytes-addScaled (getD cs n 0) (combined (coefficient cs) (rowAt m headerSize (stride w E) (w + E)) n d) (rowAt m headerSize (stride w E) (w + E) n) (bytes-combined cs n d f)
+      bytes-addScaled (getD cs n 0) (combined (coefficient cs) (rowAt m headerSize (stride w E) (w + E)) n d) (rowAt m headerSize (stride w E) (w + E) n)
+      (bytes-combined cs n d f)
 
   combined-line : (cs : List ℕ) → Bytes cs → (n : ℕ) → n ≤ w → (d : List ℕ) → Bytes d → length d ≡ w + E
       → line w E (combined (coefficient cs) (rowAt m headerSize (stride w E) (w + E)) n d)

@@ -1,4 +1,7 @@
 -- From what the code reads in the memory to what the ADU call promises: one law for each answer.
+-- What the window knows: known-is, known-none, known-more, known-all, known-not, known-beyond.
+-- What has been read: Read, Whole, whole-is, spans.
+-- The answers: no-start, first-unknown, too-many, another-unknown, not-padded, no-room, hands-out.
 use mathlib.Core.Path.{_≡_, refl, sym, ap, ap₂, _∙_, subst}
 use mathlib.Core.Logic.{_≢_}
 use mathlib.Core.Bool.{Bool, true, false}

@@ -1,4 +1,6 @@
 -- Positions that have become known: how many of a packet's own, and that there are no others.
+-- Counting in memory: unseen-empty, one-outside, one-known, one-unknown, tallied-none, tallied-more, tallied-to.
+-- A packet that has no others: old-ones.
 use mathlib.Core.Path.{_≡_, refl, sym, ap, ap₂, _∙_, subst}
 use mathlib.Core.Logic.{_⊎_, inl, inr}
 use mathlib.Core.Bool.{Bool, true, false}

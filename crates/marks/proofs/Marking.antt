@@ -1,4 +1,6 @@
 -- Marks that are set, dropped and moved on.
+-- One mark: written, written-only, added. The first are dropped: dropped-none, dropped-more, dropped-to, cleared.
+-- The window moves on: moved-none, moved-far, moved-near.
 use mathlib.Core.Path.{_≡_, refl, sym, ap, _∙_, subst}
 use mathlib.Core.Logic.{_≢_}
 use mathlib.Core.Bool.{false, _&&_, _||_}

@@ -1,4 +1,9 @@
 -- The pass through the window and walks in it, in memory.
+-- The note: noted-byte, not-noted, noted-only, noted-marks.
+-- A turn: step-unmarked, step-unknown, step-long, step-far, step-again, step-near.
+-- The pass: Passing, passing-none, passing-more, passed, passed-all.
+-- Walks: Walking, walking-none, walking-more, walked, followed-none, followed-more, followed-to, followed-own.
+-- After a packet: owned-some, owned-none, updated.
 use mathlib.Core.Path.{_≡_, refl, sym, ap, _∙_, subst}
 use mathlib.Core.Logic.{_≢_, _⊎_, inl, inr}
 use mathlib.Core.Bool.{Bool, true, false, cond, _||_, true≢false}

@@ -49,7 +49,8 @@ settled-line {w} {E} {r} {n} {l} {l′} {m} {m′} e s = record {
 pub without-flags : (w E k at : ℕ) (work : List ℕ) → 0 < w → at ≡ rowOffset w E k → line w E (part at (w + E) work) ≡ line w E (row w E k work)
 without-flags w E k at work pos here =
     line-same w E pos (part at (w + E) work) (row w E k work)
-    (λ i l. getD-part at (w + E) i work l ∙ ap (λ a. getD work (a + i) 0) here ∙ sym (getD-part (rowOffset w E k) (stride w E) i work (omega (arith, flags-fit w E))))
+    (λ i l. getD-part at (w + E) i work l ∙ ap (λ a. getD work (a + i) 0) here
+    ∙ sym (getD-part (rowOffset w E k) (stride w E) i work (omega (arith, flags-fit w E))))
 
 -- A reduced row that leads with one is placed.
 module _ (w E b n : ℕ) (T : State (Coded E) w) (l m m′ : List ℕ) (fits : Fits w E m) (v : Window w E m b T) (s : RowPlaced w E (flag w E l) n l m m′)
@@ -109,7 +110,8 @@ pub joined-all : {w E i k n : ℕ} {work m m′ : List ℕ} → i ≡ k → Rows
 joined-all {w} {E} {i} {k} {n} {work} {m} {m′} e f = subst (λ j. RowsPlaced w E j n work m m′) e f
 
 -- The window has moved on, and all rows have joined.
-pub committed : (w E oldest rise k n : ℕ) (work m m₁ m₂ : List ℕ) → Fits w E m → Bytes m₁ → Bytes m₂ → RowsMoved w E oldest rise m m₁ → RowsPlaced w E k n work m₁ m₂
+pub committed : (w E oldest rise k n : ℕ) (work m m₁ m₂ : List ℕ) → Fits w E m → Bytes m₁ → Bytes m₂ → RowsMoved w E oldest rise m m₁
+    → RowsPlaced w E k n work m₁ m₂
     → Committed w E oldest rise k n work m m₂
 committed w E oldest rise k n work m m₁ m₂ fits f g a c = record {
   unchanged = kept-trans (a .kept) (c .kept);

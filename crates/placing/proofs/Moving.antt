@@ -1,4 +1,6 @@
 -- To unmark the rows of the positions that leave moves the window on.
+-- One row unmarked: other, moved-to. Row after row: Leaving, leaving-none, leaving-more. A rise past the width: position, window-free, moved-past.
+-- All rows unmarked: Emptying, emptying-none, emptying-more, emptied.
 use mathlib.Core.Path.{_≡_, refl, sym, ap, _∙_, subst}
 use mathlib.Core.Logic.{_≢_}
 use mathlib.Core.Bool.{Bool, true, false, true≢false}
@@ -141,7 +143,8 @@ module _ {O : Ops} where
   empty-view : (T : Table O) (n q p : ℕ) → view T n q ≡ empty O n → q ≤ p → p < q + n → T .has p ≡ false
   unfolding view empty
   empty-view T zero q p e g l = absurd (omega arith)
-  empty-view T (suc n) q p e g l = go (slot-free (T .has q) (read (T .line q) n (suc q)) (view T n (suc q)) e) (ℕ-discrete q p) (λ x g′. empty-view T n (suc q) p x g′ (omega arith))
+  empty-view T (suc n) q p e g l = go (slot-free (T .has q) (read (T .line q) n (suc q)) (view T n (suc q)) e) (ℕ-discrete q p)
+      (λ x g′. empty-view T n (suc q) p x g′ (omega arith))
     where
       go : (T .has q ≡ false) × (view T n (suc q) ≡ empty O n) → Dec (q ≡ p) → (view T n (suc q) ≡ empty O n → suc q ≤ p → T .has p ≡ false) → T .has p ≡ false
       go s (yes x) ih = ap (T .has) (sym x) ∙ s .0

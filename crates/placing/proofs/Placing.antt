@@ -1,4 +1,7 @@
 -- To clear the new row's column in the rows in use, and to store it, is the model's `place`.
+-- The row stored: stored-copy. The search for the next row: Passed, passed-none, passed-more, passed-here, passed-all.
+-- One row cleared: cleared-zero, cleared-unused, cleared-row. Row after row: Cleared, cleared-none, cleared-more, cleared-skip.
+-- The whole call: settled. What it is in the model: places.
 use mathlib.Core.Path.{_≡_, refl, sym, ap, ap₂, _∙_, subst}
 use mathlib.Core.Logic.{_≢_}
 use mathlib.Core.Bool.{true, false, true≢false}
@@ -155,7 +158,8 @@ module _ (w E r q : ℕ) (l m : List ℕ) where
     pub cleared-zero : 0 < E → r < w → getD m (at + r) 0 ≡ 0 → ClearedRow w E r q 0 l m m
     cleared-zero pos h z =
         idle (λ _. sym (add-line-zero (laws E pos) (byte (getD (row w E q m) r 0)) (line w E l) (line w E (row w E q m))
-        (byte-zero (getD (row w E q m) r 0) (getD-part (rowOffset w E q) (stride w E) r m (omega (arith, flags-fit w E)) ∙ ap (λ a. getD m (a + r) 0) (sym here) ∙ z))))
+        (byte-zero (getD (row w E q m) r 0) (getD-part (rowOffset w E q) (stride w E) r m (omega (arith, flags-fit w E))
+        ∙ ap (λ a. getD m (a + r) 0) (sym here) ∙ z))))
 
     pub cleared-unused : getD m (at + (w + E)) 0 ≡ 0 → ClearedRow w E r q 0 l m m
     cleared-unused z =
@@ -179,7 +183,8 @@ module _ (w E r q n : ℕ) (l m m₁ m′ : List ℕ) (fits : Fits w E m) (c : r
 
   length-added : length added ≡ w + E
   length-added =
-      length-addScaled coefficient (part (rowOffset w E q) (w + E) m) (part 0 (w + E) l) ∙ length-part (rowOffset w E q) (w + E) m (omega (arith, flags-fit w E, within))
+      length-addScaled coefficient (part (rowOffset w E q) (w + E) m) (part 0 (w + E) l)
+      ∙ length-part (rowOffset w E q) (w + E) m (omega (arith, flags-fit w E, within))
 
   bytes : m₁ ≡ splice (rowOffset w E q) added m
   bytes =

@@ -48,7 +48,8 @@ module _ (w E : ℕ) (m m′ : List ℕ) (pos : 0 < w)
   }
 
 -- What is stored in the header, as the base, leaves the system as it is.
-pub window-header : (w E a b : ℕ) (x m : List ℕ) (S : State (Coded E) w) → Fits w E m → a + length x ≤ headerSize → Window w E m b S → Window w E (splice a x m) b S
+pub window-header : (w E a b : ℕ) (x m : List ℕ) (S : State (Coded E) w) → Fits w E m → a + length x ≤ headerSize → Window w E m b S
+    → Window w E (splice a x m) b S
 window-header w E a b x m S fits h =
     window-same w E m (splice a x m) (fits .some-width)
     (λ r l k n. getD-past (rowOffset w E r + k) a x m (omega arith) (omega (arith, fits .room)))

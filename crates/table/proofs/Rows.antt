@@ -8,7 +8,8 @@ use native.Mathlib.Decide.{decLt, ℕ-discrete}
 use native.Mathlib.Omega.{arith}
 use lib.ListN.{length, getD, set}
 use Rattle.memory.specs.Part.{part, splice}
-use Rattle.memory.proofs.Parts.{length-part, length-splice, take-splice, past-splice, part-before, part-past, part-splice, splice-within, getD-part, getD-past, row-fits}
+use Rattle.memory.proofs.Parts.{length-part, length-splice, take-splice, past-splice, part-before}
+use Rattle.memory.proofs.Parts.{part-past, part-splice, splice-within, getD-part, getD-past, row-fits}
 use Rattle.table.specs.Window.{headerSize, stride, rowOffset, row, Fits, Kept}
 use Rattle.table.proofs.Offsets.{flags-fit}
 
@@ -61,7 +62,8 @@ module _ (w E r b : ℕ) (x m : List ℕ) (room : rowOffset w E w ≤ length m) 
 
       go : Dec (q < r) → row w E q (splice (rowOffset w E r + b) x m) ≡ row w E q m
       go (yes d) = part-before (rowOffset w E q) (stride w E) (rowOffset w E r + b) x m (omega (arith, row-fits r (stride w E) q d)) (omega (arith, f))
-      go (no d) = part-past (rowOffset w E q) (stride w E) (rowOffset w E r + b) x m (omega (arith, row-fits q (stride w E) r (omega arith), flags-fit w E)) (omega (arith, f))
+      go (no d) = part-past (rowOffset w E q) (stride w E) (rowOffset w E r + b) x m (omega (arith, row-fits q (stride w E) r (omega arith), flags-fit w E))
+          (omega (arith, f))
 
   flag : (q k : ℕ) → q < w → w + E < k → k < stride w E → Dec (q ≡ r)
       → getD (row w E q (splice (rowOffset w E r + b) x m)) k 0 ≡ getD (row w E q m) k 0

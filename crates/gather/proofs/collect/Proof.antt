@@ -25,8 +25,15 @@ abbrev μ-loop : tie.MeasureT-loop
 
 loop-holds : tie.Need-loop-holds Inv-loop μ-loop
 loop-holds c =
-    let a = c .before .before .before .args in
-    (search needs, refl, sym (ap (λ k. k % a .shape .width) (add-zero (a .first)) ∙ mod-eq-of-lt (omega arith)), search needs, collected-none (a .shape .width) (a .shape .size) (a .first) (a .mem .now) (a .equation .now) (a .multipliers .now) (λ i. c .slice-known .given i .fits), refl)
+    let a = c .before .before .before .args in (
+      search needs,
+      refl,
+      sym (ap (λ k. k % a .shape .width) (add-zero (a .first)) ∙ mod-eq-of-lt (omega arith)),
+      search needs,
+      collected-none
+          (a .shape .width) (a .shape .size) (a .first) (a .mem .now) (a .equation .now) (a .multipliers .now) (λ i. c .slice-known .given i .fits),
+      refl,
+    )
 
 shared-slice-read-multiplier : tie.Need-shared-slice-read-multiplier Inv-loop μ-loop
 shared-slice-read-multiplier c = search needs
@@ -50,8 +57,16 @@ loop-again : tie.Need-loop-again Inv-loop μ-loop
 loop-again c =
     let a = c .before .before .before .before .before .before .before .before .args in
     let turn = c .before .before .before .before .loop in
-    let more = collected-more (a .shape .width) (a .shape .size) (a .first) (a .mem .now) (a .equation .now) (turn .-i) (turn .any) (turn .c) (c .before .multiplier .result) (a .multipliers .now) (turn .multipliers) (omega arith) (omega arith) (omega arith) (turn .inv .2) (c .before .multiplier .ensures) (turn .inv .4) in
-    (search needs, refl, c .next .ensures .0 ∙ next-column (a .shape .width) (a .first) (turn .-i) (turn .c) (turn .inv .2), c .next .ensures .1, more, more .size)
+    let more = collected-more (a .shape .width) (a .shape .size) (a .first) (a .mem .now) (a .equation .now) (turn .-i) (turn .any) (turn .c)
+    (c .before .multiplier .result) (a .multipliers .now) (turn .multipliers) (omega arith) (omega arith) (omega arith) (turn .inv .2)
+    (c .before .multiplier .ensures) (turn .inv .4) in (
+      search needs,
+      refl,
+      c .next .ensures .0 ∙ next-column (a .shape .width) (a .first) (turn .-i) (turn .c) (turn .inv .2),
+      c .next .ensures .1,
+      more,
+      more .size,
+    )
 
 same-length : tie.Need-same-length Inv-loop μ-loop
 same-length c = search needs
@@ -61,7 +76,8 @@ returns c =
     let a = c .before .before .before .before .before .args in
     let turn = c .before .loop in
     let all : turn .-i ≡ a .n = omega arith in
-    subst (λ k. Collected (a .shape .width) (a .shape .size) (a .first) k (turn .any) (a .mem .now) (a .equation .now) (a .multipliers .now) (turn .multipliers)) all (turn .inv .4)
+    subst (λ k. Collected (a .shape .width) (a .shape .size) (a .first) k (turn .any) (a .mem .now) (a .equation .now) (a .multipliers .now)
+    (turn .multipliers)) all (turn .inv .4)
 
 pub collect-spec : {M : Type 1} → statement M
 collect-spec =

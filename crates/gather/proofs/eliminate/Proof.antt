@@ -41,14 +41,21 @@ slice-read-factor : tie.Need-slice-read-factor
 slice-read-factor c =
     let start = c .before .before .before .before .before .before in
     let a = start .args in
-    let low = flag-lt (a .shape .width) (a .shape .size) (a .k) (a .j) (c .before .before .before .row-offset .result) (c .before .before .row-offset2 .result) (a .work .now) (c .before .before .before .row-offset .ensures .start) (c .before .before .row-offset2 .ensures .start) (start .pre .0) (start .pre .1) in
+    let low = flag-lt (a .shape .width) (a .shape .size) (a .k) (a .j) (c .before .before .before .row-offset .result)
+    (c .before .before .row-offset2 .result) (a .work .now) (c .before .before .before .row-offset .ensures .start)
+    (c .before .before .row-offset2 .ensures .start) (start .pre .0) (start .pre .1) in
     omega (arith, low, row-room (a .shape .width) (a .shape .size) (a .k) (a .work .now) (start .pre .0))
 
 add-within-requires : tie.Need-add-within-requires
 add-within-requires c κs =
     let start = c .before .before .before .before .before .before .before in
-    let a = start .args in
-    (search needs, search needs, inr (rows-apart (a .shape .width) (a .shape .size) (a .k) (a .j) (c .before .before .before .before .row-offset .result) (c .before .before .before .row-offset2 .result) (a .work .now) (c .before .before .before .before .row-offset .ensures .start) (c .before .before .before .row-offset2 .ensures .start) (start .pre .0) (start .pre .1)))
+    let a = start .args in (
+      search needs,
+      search needs,
+      inr (rows-apart (a .shape .width) (a .shape .size) (a .k) (a .j) (c .before .before .before .before .row-offset .result)
+          (c .before .before .before .row-offset2 .result) (a .work .now) (c .before .before .before .before .row-offset .ensures .start)
+          (c .before .before .before .row-offset2 .ensures .start) (start .pre .0) (start .pre .1)),
+    )
 
 same-length : tie.Need-same-length
 same-length c = search needs
@@ -57,7 +64,10 @@ returns : tie.Need-returns
 returns c =
     let start = c .before .before .before .before .before .before .before .before .before .before in
     let a = start .args in
-    eliminated (a .shape .width) (a .shape .size) (a .k) (a .j) (c .before .before .before .before .before .before .before .row-offset .result) (c .before .before .before .before .before .before .row-offset2 .result) (a .work .now) (c .before .before .before .before .before .before .before .row-offset .ensures .start) (c .before .before .before .before .before .before .row-offset2 .ensures .start) (start .pre .0) (start .pre .1)
+    eliminated (a .shape .width) (a .shape .size) (a .k) (a .j) (c .before .before .before .before .before .before .before .row-offset .result)
+    (c .before .before .before .before .before .before .row-offset2 .result) (a .work .now)
+    (c .before .before .before .before .before .before .before .row-offset .ensures .start)
+    (c .before .before .before .before .before .before .row-offset2 .ensures .start) (start .pre .0) (start .pre .1)
     (c .before .before .add-within .last .0) (c .before .before .add-within .ensures)
 
 pub eliminate-spec : {M : Type 1} → statement M

@@ -15,7 +15,8 @@ use Rattle.memory.proofs.next.Reads as next-reads
 use Rattle.table.proofs.row_offset.Reads as row-offset-reads
 
 abbrev Inv-loop : tie.InvT-loop
-Inv-loop work shape first from to w r at i₀ c₀ i c = (i ≤ w) × (w ≡ shape .width) × (c ≡ (first + i) % w) × (c < w) × Blank w first i (row w (shape .size) r work)
+Inv-loop work shape first from to w r at i₀ c₀ i c =
+    (i ≤ w) × (w ≡ shape .width) × (c ≡ (first + i) % w) × (c < w) × Blank w first i (row w (shape .size) r work)
 
 abbrev μ-loop : tie.MeasureT-loop
 μ-loop work shape first from to w r at i₀ c₀ i c = w - i
@@ -36,8 +37,14 @@ row-offset-requires c κs = search needs
 
 loop-holds : tie.Need-loop-holds Inv-loop μ-loop Inv-rows μ-rows
 loop-holds c =
-    let a = c .before .before .before .before .args in
-    (search needs, refl, sym (ap (λ k. k % a .shape .width) (add-zero (a .first)) ∙ mod-eq-of-lt (omega arith)), search needs, blank-none (a .shape .width) (a .first) (row (a .shape .width) (a .shape .size) (c .before .before .rows .r) (a .work .now)))
+    let a = c .before .before .before .before .args in (
+      search needs,
+      refl,
+      sym (ap (λ k. k % a .shape .width) (add-zero (a .first)) ∙ mod-eq-of-lt (omega arith)),
+      search needs,
+      blank-none (a .shape .width)
+          (a .first) (row (a .shape .width) (a .shape .size) (c .before .before .rows .r) (a .work .now)),
+    )
 
 add-if2 : tie.Need-add-if2 Inv-loop μ-loop Inv-rows μ-rows
 add-if2 c = search needs
@@ -59,7 +66,9 @@ loop-again c =
     let a = c .before .before .before .before .before .before .before .before .before .args in
     let turn = c .before .before .before .before .loop in
     let r = c .before .before .before .before .before .before .before .rows .r in
-    let zero = ap (λ k. lib.ListN.getD (row (a .shape .width) (a .shape .size) r (a .work .now)) k 0) (sym (turn .inv .2)) ∙ sym (read-cell (a .shape .width) (a .shape .size) r (c .before .before .before .before .before .row-offset .result) (turn .c) (a .work .now) (c .before .before .before .before .before .row-offset .ensures .start) (turn .inv .3)) ∙ c .before .if2 .left in (
+    let zero = ap (λ k. lib.ListN.getD (row (a .shape .width) (a .shape .size) r (a .work .now)) k 0) (sym (turn .inv .2))
+    ∙ sym (read-cell (a .shape .width) (a .shape .size) r (c .before .before .before .before .before .row-offset .result) (turn .c) (a .work .now)
+    (c .before .before .before .before .before .row-offset .ensures .start) (turn .inv .3)) ∙ c .before .if2 .left in (
       search needs,
       refl,
       c .next .ensures .0 ∙ next-column (a .shape .width) (a .first) (turn .i) (turn .c) (turn .inv .2),
@@ -104,7 +113,8 @@ returns-2 c =
       omega arith,
       outer .inv .3,
       leading-here (a .shape .width) (a .first) (turn .i) (turn .c) l (omega arith) (turn .inv .2)
-          (λ z. c .if2 .taken (read-cell (a .shape .width) (a .shape .size) (outer .r) (c .before .before .before .before .row-offset .result) (turn .c) (a .work .now) (c .before .before .before .before .row-offset .ensures .start) (turn .inv .3) ∙ z)) (turn .inv .4),
+          (λ z. c .if2 .taken (read-cell (a .shape .width) (a .shape .size) (outer .r) (c .before .before .before .before .row-offset .result) (turn .c)
+          (a .work .now) (c .before .before .before .before .row-offset .ensures .start) (turn .inv .3) ∙ z)) (turn .inv .4),
     )
 
 pub find-pivot-spec : {M : Type 1} → statement M

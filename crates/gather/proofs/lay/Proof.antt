@@ -33,8 +33,10 @@ returns c =
     let start = c .before .before .before .before .before .before .before .before .before .before .before .before in
     let a = start .args in
     let at = c .before .before .before .before .before .before .before .before .before .row-offset in
-    laid-short (a .shape .width) (a .shape .size) (a .k) (a .first) (a .coefficients .now) (a .work .now) (start .pre .0) (omega arith) (omega arith) (at .result) (at .ensures .start)
-    (omega arith) (c .before .before .before .before .before .before .before .fill-part .last .0) (c .before .before .copy-part .last .0) (c .before .before .before .before .before .before .before .fill-part .ensures) (c .before .before .copy-part .ensures)
+    laid-short (a .shape .width) (a .shape .size) (a .k) (a .first) (a .coefficients .now) (a .work .now) (start .pre .0) (omega arith) (omega arith)
+    (at .result) (at .ensures .start)
+    (omega arith) (c .before .before .before .before .before .before .before .fill-part .last .0) (c .before .before .copy-part .last .0)
+    (c .before .before .before .before .before .before .before .fill-part .ensures) (c .before .before .copy-part .ensures)
 
 add-copy-part-2 : tie.Need-add-copy-part-2
 add-copy-part-2 c = search needs
@@ -56,8 +58,12 @@ returns-2 c =
     let start = c .before .before .before .before .before .before .before .before .before .before .before .before .before .before .before .before in
     let a = start .args in
     let at = c .before .before .before .before .before .before .before .before .before .before .before .before .before .row-offset in
-    laid-long (a .shape .width) (a .shape .size) (a .k) (a .first) (a .coefficients .now) (a .work .now) (start .pre .0) (omega arith) (omega arith) (at .result) (at .ensures .start)
-    (omega arith) (c .before .before .before .before .before .before .before .before .before .before .before .fill-part .last .0) (c .before .before .before .before .before .before .copy-part2 .last .0) (c .before .before .copy-part3 .last .0) (c .before .before .before .before .before .before .before .before .before .before .before .fill-part .ensures) (c .before .before .before .before .before .before .copy-part2 .ensures) (c .before .before .copy-part3 .ensures)
+    laid-long (a .shape .width) (a .shape .size) (a .k) (a .first) (a .coefficients .now) (a .work .now) (start .pre .0) (omega arith) (omega arith)
+    (at .result) (at .ensures .start)
+    (omega arith) (c .before .before .before .before .before .before .before .before .before .before .before .fill-part .last .0)
+    (c .before .before .before .before .before .before .copy-part2 .last .0) (c .before .before .copy-part3 .last .0)
+    (c .before .before .before .before .before .before .before .before .before .before .before .fill-part .ensures)
+    (c .before .before .before .before .before .before .copy-part2 .ensures) (c .before .before .copy-part3 .ensures)
 
 pub lay-spec : {M : Type 1} → statement M
 lay-spec =

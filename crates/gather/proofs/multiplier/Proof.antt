@@ -39,13 +39,17 @@ returns-2 : tie.Need-returns-2
 returns-2 c =
     let a = c .before .before .before .before .before .before .args in
     let at = c .before .before .before .row-offset in
-    ap (λ t. if-used t (a .k)) (sym (unused (a .shape .width) (a .shape .size) (row (a .shape .width) (a .shape .size) (a .c) (a .mem .now)) (flag-at (a .shape .width) (a .shape .size) (a .c) (a .mem .now) ∙ ap (λ x. getD (a .mem .now) (x + (a .shape .width + a .shape .size)) 0) (sym (at .ensures .start)) ∙ c .if2 .taken)))
+    ap (λ t. if-used t (a .k)) (sym (unused (a .shape .width) (a .shape .size) (row (a .shape .width) (a .shape .size) (a .c) (a .mem .now))
+    (flag-at (a .shape .width) (a .shape .size) (a .c) (a .mem .now)
+    ∙ ap (λ x. getD (a .mem .now) (x + (a .shape .width + a .shape .size)) 0) (sym (at .ensures .start)) ∙ c .if2 .taken)))
 
 returns-3 : tie.Need-returns-3
 returns-3 c =
     let a = c .before .before .before .before .before .before .args in
     let at = c .before .before .before .row-offset in
-    ap (λ t. if-used t (a .k)) (sym (used (a .shape .width) (a .shape .size) (row (a .shape .width) (a .shape .size) (a .c) (a .mem .now)) (λ z. c .if2 .left (ap (λ x. getD (a .mem .now) (x + (a .shape .width + a .shape .size)) 0) (at .ensures .start) ∙ sym (flag-at (a .shape .width) (a .shape .size) (a .c) (a .mem .now)) ∙ z))))
+    ap (λ t. if-used t (a .k)) (sym (used (a .shape .width) (a .shape .size) (row (a .shape .width) (a .shape .size) (a .c) (a .mem .now))
+    (λ z. c .if2 .left (ap (λ x. getD (a .mem .now) (x + (a .shape .width + a .shape .size)) 0) (at .ensures .start)
+    ∙ sym (flag-at (a .shape .width) (a .shape .size) (a .c) (a .mem .now)) ∙ z))))
 
 pub multiplier-spec : {M : Type 1} → statement M
 multiplier-spec =

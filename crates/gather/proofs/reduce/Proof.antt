@@ -35,8 +35,13 @@ slice-aggregate-collect c = search needs
 collect-requires : tie.Need-collect-requires
 collect-requires c κs =
     let start = c .before .before .before .before .before .before in
-    let a = start .args in
-    (start .pre .0, length-lent (c .before .before .before .row-offset .result) (a .shape .width) (a .work .now) (omega arith), search needs, search needs, search needs)
+    let a = start .args in (
+      start .pre .0,
+      length-lent (c .before .before .before .row-offset .result) (a .shape .width) (a .work .now) (omega arith),
+      search needs,
+      search needs,
+      search needs,
+    )
 
 same-length : tie.Need-same-length
 same-length c = search needs
@@ -47,8 +52,10 @@ returns c =
     let a = start .args in
     let at = c .before .before .before .before .before .before .row-offset in
     let found = c .before .before .collect in
-    let read = subst (λ l. Collected (a .shape .width) (a .shape .size) (a .first) (a .n) (found .result) (a .mem .now) l (replicate 255 0) (found .last .1 .1 .0)) (cut (at .result) (a .shape .width) (a .work .now)) (found .ensures) in
-    state-none (a .shape .width) (a .shape .size) (a .k) (a .first) (a .n) (at .result) (found .result) (a .mem .now) (a .work .now) (replicate 255 0) (found .last .1 .1 .0) (at .ensures .start) (start .pre .1) (zeros 255) read (omega arith)
+    let read = subst (λ l. Collected (a .shape .width) (a .shape .size) (a .first) (a .n) (found .result) (a .mem .now) l (replicate 255 0)
+    (found .last .1 .1 .0)) (cut (at .result) (a .shape .width) (a .work .now)) (found .ensures) in
+    state-none (a .shape .width) (a .shape .size) (a .k) (a .first) (a .n) (at .result) (found .result) (a .mem .now) (a .work .now) (replicate 255 0)
+    (found .last .1 .1 .0) (at .ensures .start) (start .pre .1) (zeros 255) read (omega arith)
 
 slice-aggregate-add-rows : tie.Need-slice-aggregate-add-rows
 slice-aggregate-add-rows c = search needs
@@ -67,8 +74,11 @@ returns-2 c =
     let a = start .args in
     let at = c .before .before .before .before .before .before .before .before .before .before .before .row-offset in
     let found = c .before .before .before .before .before .before .before .collect in
-    let read = subst (λ l. Collected (a .shape .width) (a .shape .size) (a .first) (a .n) (found .result) (a .mem .now) l (replicate 255 0) (found .last .1 .1 .0)) (cut (at .result) (a .shape .width) (a .work .now)) (found .ensures) in
-    state-some (a .shape .width) (a .shape .size) (a .k) (a .first) (a .n) (at .result) (found .result) (a .mem .now) (a .work .now) (replicate 255 0) (found .last .1 .1 .0) (at .ensures .start) (start .pre .1) (zeros 255) read (c .before .before .add-rows .last .1 .0) (c .before .before .add-rows .ensures)
+    let read = subst (λ l. Collected (a .shape .width) (a .shape .size) (a .first) (a .n) (found .result) (a .mem .now) l (replicate 255 0)
+    (found .last .1 .1 .0)) (cut (at .result) (a .shape .width) (a .work .now)) (found .ensures) in
+    state-some (a .shape .width) (a .shape .size) (a .k) (a .first) (a .n) (at .result) (found .result) (a .mem .now) (a .work .now) (replicate 255 0)
+    (found .last .1 .1 .0) (at .ensures .start) (start .pre .1) (zeros 255) read (c .before .before .add-rows .last .1 .0)
+    (c .before .before .add-rows .ensures)
 
 pub reduce-spec : {M : Type 1} → statement M
 reduce-spec =

@@ -45,8 +45,14 @@ loop-again c =
     let a = start .args in
     let turn = c .before .before .before .before .before .loop in
     let done = c .before .before .eliminate in
-    let more = packet-more (a .shape .width) (a .shape .size) (a .k) (a .work .now) (turn .j) (turn .work) (done .last .0) (omega arith) (turn .inv .2) (turn .inv .3) (turn .inv .1) (done .ensures) in
-    (search needs, more, works-only (omega (arith, flags-fit (a .shape .width) (a .shape .size))) (more .only) (start .pre), (λ i. c .slice-known2 .given i .fits), more .only .size)
+    let more = packet-more (a .shape .width) (a .shape .size) (a .k) (a .work .now) (turn .j) (turn .work) (done .last .0) (omega arith) (turn .inv .2)
+    (turn .inv .3) (turn .inv .1) (done .ensures) in (
+      search needs,
+      more,
+      works-only (omega (arith, flags-fit (a .shape .width) (a .shape .size))) (more .only) (start .pre),
+      (λ i. c .slice-known2 .given i .fits),
+      more .only .size,
+    )
 
 same-length : tie.Need-same-length Inv-loop μ-loop
 same-length c = search needs

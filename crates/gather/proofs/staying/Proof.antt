@@ -27,7 +27,8 @@ returns-2 : tie.Need-returns-2
 returns-2 c =
     let found = c .before .before .distance in
     let least = c .least in
-    staying-some (found .result) (least .result) (found .ensures .0) (found .ensures .1) (omega arith) (omega (arith, least .ensures)) (omega (arith, least .ensures)) (λ i a b. omega (arith, least .ensures))
+    staying-some (found .result) (least .result) (found .ensures .0) (found .ensures .1) (omega arith) (omega (arith, least .ensures))
+    (omega (arith, least .ensures)) (λ i a b. omega (arith, least .ensures))
 
 pub staying-spec : {M : Type 1} → statement M
 staying-spec = tie.close (tie.spec distance-requires returns sub-least least-requires returns-2)

@@ -35,8 +35,13 @@ loop-holds c =
 
 clear-coefficient-requires : tie.Need-clear-coefficient-requires Inv-loop μ-loop
 clear-coefficient-requires c κs =
-    let turn = c .before .before .loop in
-    (fits-kept (c .before .before .before .before .before .before .before .pre .0) (turn .inv .1 .kept), search needs, search needs, search needs, turn .inv .2 (omega arith))
+    let turn = c .before .before .loop in (
+      fits-kept (c .before .before .before .before .before .before .before .pre .0) (turn .inv .1 .kept),
+      search needs,
+      search needs,
+      search needs,
+      turn .inv .2 (omega arith),
+    )
 
 add-count : tie.Need-add-count Inv-loop μ-loop
 add-count c = search needs
@@ -58,8 +63,11 @@ add-next-with : tie.Need-add-next-with Inv-loop μ-loop
 add-next-with c = search needs
 
 next-with-requires-2 : tie.Need-next-with-requires-2 Inv-loop μ-loop
-next-with-requires-2 c κs =
-    (fits-kept (c .before .before .before .before .before .before .before .before .before .before .before .pre .0) (more (c .before) .kept), search needs, omega arith)
+next-with-requires-2 c κs = (
+  fits-kept (c .before .before .before .before .before .before .before .before .before .before .before .pre .0) (more (c .before) .kept),
+  search needs,
+  omega arith,
+)
 
 loop-less : tie.Need-loop-less Inv-loop μ-loop
 loop-less c = omega (arith, c .next-with2 .ensures .least)

@@ -70,7 +70,8 @@ returns c =
     let column = flag-at w E (a .k) (a .work .now) ∙ ap (λ k. getD (a .work .now) (k + (w + E)) 0) (sym (at .ensures .start)) in
     subst (λ f. RowPlaced w E f (done .result) (row w E (a .k) (a .work .now)) (a .mem .now) (done .last .0)) (sym column)
     (settled-line (without-flags w E (a .k) (at .result) (a .work .now) (start .pre .0 .some-width) (at .ensures .start))
-    (subst (λ l. RowPlaced w E (getD (a .work .now) (at .result + (w + E)) 0) (done .result) l (a .mem .now) (done .last .0)) (c .before .before .before .part .ensures .bytes) (done .ensures)))
+    (subst (λ l. RowPlaced w E (getD (a .work .now) (at .result + (w + E)) 0) (done .result) l (a .mem .now) (done .last .0))
+    (c .before .before .before .part .ensures .bytes) (done .ensures)))
 
 pub place-kept-spec : {M : Type 1} → statement M
 place-kept-spec =
