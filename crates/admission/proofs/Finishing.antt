@@ -1,4 +1,7 @@
 -- A packet's rows joined with the state's, and the header with the new base: the memory holds the state after the packet.
+-- Laws:
+--   the new header: rebased, rebased-length, rebased-front, rebased-past, rebased-row, rebased-esi, rebased-window
+--   the state after the packet: finished
 use mathlib.Core.Path.{_≡_, refl, sym, ap, _∙_, subst}
 use mathlib.Core.Option.{some}
 use mathlib.Core.List.{List}
@@ -94,7 +97,8 @@ module _ (row esi : ℕ) (m : List ℕ) (long : 16 ≤ length m) where
 
 module _ (h : Header) (location : Location) (kept count esi : ℕ) (work m m₁ m′ : List ℕ) (has : Based m h)
     (f : Committed (h .setting .width) (h .setting .size) (h .oldest) (location .rise) kept count work m m₁)
-    (small : location .shape .oldest < 65535) (next : esi ≡ esiAfter (h .esi .0) (location .rise)) (stored : m′ ≡ rebased (location .shape .oldest + 1) esi m₁) where
+    (small : location .shape .oldest < 65535) (next : esi ≡ esiAfter (h .esi .0) (location .rise))
+    (stored : m′ ≡ rebased (location .shape .oldest + 1) esi m₁) where
   room : window.Fits (h .setting .width) (h .setting .size) m₁
   room = fits-kept (based-fits m h has) (f .unchanged)
 
@@ -121,7 +125,8 @@ module _ (h : Header) (location : Location) (kept count esi : ℕ) (work m m₁ 
       let at : rowIn (rebased n esi m₁) ≡ (t .base + location .rise) % s .width + 1 = rebased-row n esi m₁ l (omega arith) ∙ ap (λ x. x + 1) row in
       let at-esi : number (part 12 4 (rebased n esi m₁)) ≡ (t .base + location .rise) % 2 ^ 32 = rebased-esi n esi m₁ l (omega (arith, e)) ∙ e in
       let head : headerIn (rebased n esi m₁) ≡ some (headerFrom s (record { base = t .base + location .rise; window = T })) =
-      found-joined (rebased n esi m₁) s set _ _ (omega (arith, fits .room, rebased-length n esi m₁ l)) (mod-lt (t .base + location .rise) (fits .some-width)) at at-esi in
+      found-joined (rebased n esi m₁) s set _ _ (omega (arith, fits .room, rebased-length n esi m₁ l))
+      (mod-lt (t .base + location .rise) (fits .some-width)) at at-esi in
       subst (λ x. Holds x s (some (record { base = t .base + location .rise; window = T }))) (sym stored)
       (record {
         header = head;

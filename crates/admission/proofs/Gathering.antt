@@ -1,4 +1,9 @@
 -- A packet's equations, admitted one after the other: what one more makes of them, and what all come to.
+-- Laws:
+--   memories: contained-none, contained-more, contained-row
+--   a stored symbol: stored-only, works-stored, stored-is
+--   one equation: equation-admitted, stored-admitted
+--   all equations: firsts-same, firsts-cons, contradiction-stays, gathers-none, gathers-on, gathers-stop, gathers-all
 use mathlib.Core.Path.{_≡_, refl, sym, ap, ap₂, _∙_, subst}
 use mathlib.Core.Option.{none, some}
 use mathlib.Core.List.{List, [], _∷_, _++_}
@@ -112,7 +117,8 @@ module _ (at : Location) (kept first : ℕ) (cs : List ℕ) (v : Verdict) (m wor
         let is : equation w E q (row w E kept work₁) ≡ e = spells (row w E kept work₁) (l .laid) same in
         comes-by v q (decoder.advance-by (at .rise) S) (es ++ (e ∷ []))
         (subst (λ x. Agrees w E q (decoder.advance-by (at .rise) S) work′ kept (es ++ (x ∷ [])) v) is
-        (a .outcome b (at .rise) d S es (lies .base) (lies .stay) (lies .column) (omega (arith, lies .some, lies .room)) (lies .room) held reduced (l .laid .off) before));
+        (a .outcome b (at .rise) d S es (lies .base) (lies .stay) (lies .column) (omega (arith, lies .some, lies .room)) (lies .room) held reduced
+        (l .laid .off) before));
   }
 
 -- An equation e of a packet of n positions from the d-th of the window on, whose symbol x was stored in the row before, and whose coefficients

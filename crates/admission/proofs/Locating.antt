@@ -1,11 +1,11 @@
 -- Where a packet lies by the header is where it lies by every base that the header is of.
-use mathlib.Core.Path.{_≡_, refl, sym, ap, subst}
+use mathlib.Core.Path.{_≡_, refl, sym, ap, _∙_, subst}
 use mathlib.Core.Logic.{_≢_}
 use mathlib.Core.Bool.{Bool, true, false, cond}
 use Prim.Native.Nat.{ℕ, _+_, _%_, _^_, _≤_, _<_}
 use native.Mathlib.Omega.{arith}
-use lib.Dec.{ltb, leb}
-use borrow.Author.Tests.{lt-ltb, le-ltb, le-leb, lt-leb, ltb-true, leb-true}
+use lib.Dec.{leb}
+use borrow.Author.Tests.{le-leb, lt-leb, leb-true}
 use Rattle.wire.specs.declared.Refusal.{Refusal}
 use Rattle.wire.specs.declared.Refusal.the-variants.{Behind, Ahead}
 use Rattle.wire.specs.Numbers.{distanceOf, numberOf}
@@ -13,8 +13,9 @@ use Rattle.holding.specs.declared.Header.{Header}
 use Rattle.admission.specs.declared.packet.Location.{Location}
 use Rattle.admission.specs.declared.packet.LocationFound.{LocationFound}
 use Rattle.admission.specs.declared.packet.LocationFound.the-variants.{LocationIs, Out}
-use Rattle.history.specs.History.{Reading, fails, check, behind, ahead, sideOf, fromSide}
-use Rattle.admission.specs.Steps.{locationAt, locationFound}
+use Rattle.history.specs.History.{Side, behind, ahead, sideOf, Reading, fails, check, farthest, fromSide}
+use Rattle.history.proofs.Sides.{side-same, ahead-by}
+use Rattle.admission.specs.Steps.{locationAt, locationOn, locationFound}
 
 abbrev location-in : Location → LocationFound → Location
 location-in p (LocationIs q) = q
@@ -28,62 +29,80 @@ abbrev refusal-in : LocationFound → Refusal
 refusal-in (LocationIs p) = Behind
 refusal-in (Out r) = r
 
--- What `locate` finds, by the distance d.
-module _ (h : Header) (e n d : ℕ) (is : d ≡ distanceOf e (h .esi .0)) where
-  pub found-behind : 2 ^ 31 ≤ d → Out Behind ≡ locationFound h e n
+-- What `locate` finds, by the side.
+module _ (h : Header) (e n : ℕ) where
+  pub found-behind : sideOf (h .esi .0) e ≡ behind → Out Behind ≡ locationFound h e n
   unfolding locationFound
-  found-behind k = rw (← is, le-ltb d (2 ^ 31) k)
+  found-behind s = rw s
 
-  pub found-ahead : d < 2 ^ 31 → 65536 < d + n → Out Ahead ≡ locationFound h e n
-  unfolding locationFound
-  found-ahead k l = rw (← is, lt-ltb d (2 ^ 31) k, lt-leb (d + n) 65536 l)
+  module _ (d : ℕ) (s : sideOf (h .esi .0) e ≡ ahead d) where
+    pub found-ahead : farthest < d + n → Out Ahead ≡ locationFound h e n
+    unfolding locationFound
+    found-ahead l = rw (s, lt-leb (d + n) farthest l)
 
-  pub found-location : d < 2 ^ 31 → d + n ≤ 65536 → LocationIs (locationAt h d n) ≡ locationFound h e n
-  unfolding locationFound
-  found-location k l = rw (← is, lt-ltb d (2 ^ 31) k, le-leb (d + n) 65536 l)
+    pub found-location : d + n ≤ farthest → LocationIs (locationAt h d n) ≡ locationFound h e n
+    unfolding locationFound
+    found-location l = rw (s, le-leb (d + n) farthest l)
 
 module _ (h : Header) (e n : ℕ) where
   -- How far past the base the packet begins.
   abbrev pub distance : ℕ
-  distance = distanceOf e (h .esi .0)
+  distance = distanceOf e (h .esi .0 % 2 ^ 32)
 
   -- A place that was found.
   pub record FoundAt (p : Location) : Type 0 where
     pub at : p ≡ locationAt h distance n
-    pub near : distance < 2 ^ 31
-    pub fits : distance + n ≤ 65536
+    pub side : sideOf (h .esi .0) e ≡ ahead distance
+    pub fits : distance + n ≤ farthest
 
   pub found-at : (p : Location) → LocationIs p ≡ locationFound h e n → FoundAt p
   unfolding locationFound
-  found-at p q = go (ltb distance (2 ^ 31)) (leb (distance + n) 65536) refl refl q
+  found-at p q = on (sideOf (h .esi .0) e) refl q
     where
-      go : (t u : Bool) → ltb distance (2 ^ 31) ≡ t → leb (distance + n) 65536 ≡ u
-          → LocationIs p ≡ cond t (cond u (LocationIs (locationAt h distance n)) (Out Ahead)) (Out Behind) → FoundAt p
-      go true true a b k = record { at = ap (location-in p) k; near = ltb-true _ _ a; fits = leb-true _ _ b }
-      go true false a b k = absurd (subst IsPlace k tt)
-      go false u a b k = absurd (subst IsPlace k tt)
+      far : (d : ℕ) → sideOf (h .esi .0) e ≡ ahead d → (t : Bool) → leb (d + n) farthest ≡ t → LocationIs p ≡ cond t (LocationIs (locationAt h d n)) (Out Ahead)
+          → FoundAt p
+      far d s false l k = absurd (subst IsPlace k tt)
+      far d s true l k =
+          let i = ahead-by (h .esi .0) e d s .is in
+          record {
+            at = ap (location-in p) k ∙ ap (λ x. locationAt h x n) i;
+            side = s ∙ ap ahead i;
+            fits = subst (λ x. x + n ≤ farthest) i (leb-true (d + n) farthest l);
+          }
+
+      on : (s : Side) → sideOf (h .esi .0) e ≡ s → LocationIs p ≡ locationOn h n s → FoundAt p
+      on behind s k = absurd (subst IsPlace k tt)
+      on (ahead d) s k = far d s (leb (d + n) farthest) refl k
 
   -- Of every base with the header's ESI, that is the packet's place by the history.
   module _ (b : ℕ) (esi : b % 2 ^ 32 ≡ h .esi .0) (next : ℕ → Reading) where
+    same-side : sideOf b e ≡ sideOf (h .esi .0) e
+    same-side = side-same b (h .esi .0) e (omega (arith, esi))
+
     pub at-side : (p : Location) → FoundAt p → fromSide n (sideOf b e) next ≡ next distance
-    unfolding fromSide sideOf check
-    at-side p l = rw (esi, lt-ltb distance (2 ^ 31) (l .near), le-leb (distance + n) 65536 (l .fits))
+    unfolding fromSide check
+    at-side p l = rw (same-side, l .side, le-leb (distance + n) farthest (l .fits))
 
     pub out-side : (r : Refusal) → Out r ≡ locationFound h e n → fromSide n (sideOf b e) next ≡ fails (numberOf r)
-    unfolding locationFound fromSide sideOf check
-    out-side r q = rw esi (go (ltb distance (2 ^ 31)) (leb (distance + n) 65536) q refl)
+    unfolding locationFound fromSide check
+    out-side r q = rw same-side (on (sideOf (h .esi .0) e) q)
       where
-        go : (t u : Bool) → Out r ≡ cond t (cond u (LocationIs (locationAt h distance n)) (Out Ahead)) (Out Behind) → leb (distance + n) 65536 ≡ u
-            → fromSide n (cond t (ahead distance) behind) next ≡ fails (numberOf r)
-        go true true k l = absurd (subst IsPlace (sym k) tt)
-        go true false k l = rw l (ap (λ x. fails (numberOf (refusal-in x))) (sym k))
-        go false u k l = ap (λ x. fails (numberOf (refusal-in x))) (sym k)
+        far : (d : ℕ) (t : Bool) → Out r ≡ cond t (LocationIs (locationAt h d n)) (Out Ahead) → check t 9 (next d) ≡ fails (numberOf r)
+        far d true k = absurd (subst IsPlace (sym k) tt)
+        far d false k = ap (λ x. fails (numberOf (refusal-in x))) (sym k)
+
+        on : (s : Side) → Out r ≡ locationOn h n s → fromSide n s next ≡ fails (numberOf r)
+        on behind k = ap (λ x. fails (numberOf (refusal-in x))) (sym k)
+        on (ahead d) k = far d (leb (d + n) farthest) k
 
   pub out-other : (r : Refusal) → Out r ≡ locationFound h e n → numberOf r ≢ 3
   unfolding locationFound
-  out-other r q = go (ltb distance (2 ^ 31)) (leb (distance + n) 65536) q
+  out-other r q = on (sideOf (h .esi .0) e) q
     where
-      go : (t u : Bool) → Out r ≡ cond t (cond u (LocationIs (locationAt h distance n)) (Out Ahead)) (Out Behind) → numberOf r ≢ 3
-      go true true k = absurd (subst IsPlace (sym k) tt)
-      go true false k = subst (λ x. numberOf (refusal-in x) ≢ 3) (sym k) (λ z. omega arith)
-      go false u k = subst (λ x. numberOf (refusal-in x) ≢ 3) (sym k) (λ z. omega arith)
+      far : (d : ℕ) (t : Bool) → Out r ≡ cond t (LocationIs (locationAt h d n)) (Out Ahead) → numberOf r ≢ 3
+      far d true k = absurd (subst IsPlace (sym k) tt)
+      far d false k = subst (λ x. numberOf (refusal-in x) ≢ 3) (sym k) (λ z. omega arith)
+
+      on : (s : Side) → Out r ≡ locationOn h n s → numberOf r ≢ 3
+      on behind k = subst (λ x. numberOf (refusal-in x) ≢ 3) (sym k) (λ z. omega arith)
+      on (ahead d) k = far d (leb (d + n) farthest) k

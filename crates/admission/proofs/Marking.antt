@@ -1,4 +1,8 @@
 -- A memory in which nothing but marks has changed holds the same state; and the marks after a packet.
+-- Laws:
+--   only marks changed: header-same, starts-contained, starts-holds
+--   marks not changed: same-marks
+--   a packet is accepted: update-asks, count-asks, count-again, accepted
 use mathlib.Core.Path.{_≡_, refl, sym, ap, ap₂, _∙_, subst}
 use mathlib.Core.Bool.{Bool, false}
 use mathlib.Core.Option.{Option, none, some}
@@ -24,12 +28,13 @@ use Rattle.starts.specs.Starts.{Starts, owning, moved, pass, seen}
 use Rattle.starts.specs.Settled.{Settled, Old}
 use Rattle.marks.specs.Marks as marks
 use Rattle.marks.specs.MarkSteps.{Updated, Tallied}
-use Rattle.marks.proofs.Only.{starts-of, starts-window, header-no-mark, past-no-mark, mark-row, mark-past}
+use Rattle.marks.proofs.Only.{starts-window, header-no-mark, past-no-mark, mark-row, mark-past}
 use Rattle.marks.proofs.Gaining.{old-ones}
 use Rattle.holding.specs.declared.Header.{Header}
 use Rattle.admission.specs.declared.packet.Location.{Location}
-use Rattle.history.specs.History.{memorySize}
+use Rattle.history.specs.History.{memorySize, farthest}
 use Rattle.history.specs.Model.{Joined, State}
+use Rattle.history.proofs.Sides.{limits}
 use Rattle.holding.specs.Header.{headerWith, headerIn}
 use Rattle.memory.specs.Contained.{Contained}
 use Rattle.holding.specs.Layout.{headerFrom, headerOf, Stands, Rows, Holds, MarksFrom}
@@ -91,12 +96,6 @@ starts-holds s t m m′ k o =
       rows = starts-rows s t m m′ (f .some-width) (k .rows) o;
     }
 
-pub only-contained : (s : Setting) (m m′ : List ℕ) → marks.OnlyMarks (s .width) (s .size) m m′ → Contained (memorySize s) m m′
-only-contained s m m′ o = starts-contained s m m′ (starts-of o)
-
-pub only-holds : (s : Setting) (t : State s) (m m′ : List ℕ) → Holds m s t → marks.OnlyMarks (s .width) (s .size) m m′ → Holds m′ s t
-only-holds s t m m′ k o = starts-holds s t m m′ k (starts-of o)
-
 -- ---- the marks have not changed
 
 pub same-marks : (w E base : ℕ) (m m′ : List ℕ) (M : Starts) → 0 < w → SameMarks w E m m′ → marks.Marks w E base m M → marks.Marks w E base m′ M
@@ -132,11 +131,11 @@ update-asks h at own m m₁ has placed k =
     (fits, subst (λ w. h .oldest < w) (sym (placed .width)) (has .row-lt), placed .base, placed .room)
 
 -- What it asks to count the packet's own positions before and after.
-pub count-asks : (h : Header) (at : Location) (own : ℕ) (m : List ℕ) → Based m h → LocatedBy h at own → at .rise ≤ 65536
+pub count-asks : (h : Header) (at : Location) (own : ℕ) (m : List ℕ) → Based m h → LocatedBy h at own → at .rise ≤ farthest
     → window.Fits (h .setting .width) (h .setting .size) m × (h .oldest < h .setting .width) × (at .rise + at .offset + own ≤ 100000)
 count-asks h at own m has placed l =
     let g = based-fits m h has in
-    (g, has .row-lt, omega (arith, l, placed .room, placed .width, g .wide))
+    (g, has .row-lt, omega (arith, l, placed .room, placed .width, g .wide, limits))
 
 pub count-again : (h : Header) (at : Location) (own : ℕ) (m m₁ : List ℕ) → Based m h → LocatedBy h at own
     → Contained (memorySize (h .setting)) m m₁

@@ -47,7 +47,8 @@ module _ (at : Location) (kept : ℕ) (list symbol m work work₁ work′ : List
 
 -- Of the list and the symbol that the code lends.
 pub symbol-of : (at : Location) (kept n i : ℕ) (list lists bytes m work work′ : List ℕ) (r : Gathered) → list ≡ part (i * n) n lists → length list ≡ n
-    → Admits at (length list) (repairEquation (at .shape .width) (at .shape .size) (length list) list (part (8 + i * at .shape .size) (at .shape .size) bytes)) kept r m work work′
+    → Admits at (length list)
+    (repairEquation (at .shape .width) (at .shape .size) (length list) list (part (8 + i * at .shape .size) (at .shape .size) bytes)) kept r m work work′
     → Admits at n (λ d. equationAt (at .shape .width) (at .shape .size) n lists bytes d i) kept r m work work′
 symbol-of at kept n i list lists bytes m work work′ r e l a = rw (l, e) at a
 
@@ -67,7 +68,8 @@ module _ (w E b d n : ℕ) where
 
   -- The packet's equations are the model's.
   pub repair-equations : (count : ℕ) (lists bytes : List ℕ)
-      → over (Coded E) w b (packetOf E (repair (b + d) n (chunks count n lists) (chunks count E (drop 8 bytes)))) ≡ firsts (equationAt w E n lists bytes d) count
+      → over (Coded E) w b (packetOf E (repair (b + d) n (chunks count n lists) (chunks count E (drop 8 bytes)))) ≡ firsts
+      (equationAt w E n lists bytes d) count
   repair-equations count lists bytes =
       let cs = chunks count n lists in
       let vs = chunks count E (drop 8 bytes) in

@@ -96,4 +96,5 @@ source-equations w E b d flow adu =
     (λ k h.
     let z : 0 + k ≡ k = omega arith in
     ap (one E w d (symbolCount E (length adu)) s) z
-    ∙ ap (λ (v : List ℕ). decoder.embed (Coded E) w d (symbolCount E (length adu)) (packets.row (Coded E) (symbolCount E (length adu)) (packets.only (Coded E) k) (symbolOf E v))) (adui.symbol-at flow adu E k h))
+    ∙ ap (λ (v : List ℕ). decoder.embed (Coded E) w d (symbolCount E (length adu))
+    (packets.row (Coded E) (symbolCount E (length adu)) (packets.only (Coded E) k) (symbolOf E v))) (adui.symbol-at flow adu E k h))

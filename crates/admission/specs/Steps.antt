@@ -4,12 +4,11 @@ use mathlib.Core.Path.{_≡_}
 use mathlib.Core.Bool.{cond}
 use mathlib.Core.Option.{none, some}
 use mathlib.Core.List.{List, [], _∷_, _++_}
-use Prim.Native.Nat.{ℕ, zero, suc, _+_, _-_, _*_, _%_, _^_, _≤_, _<_}
-use lib.Dec.{ltb, leb}
+use Prim.Native.Nat.{ℕ, zero, suc, _+_, _-_, _*_, _%_, _≤_, _<_}
+use lib.Dec.{leb}
 use lib.ListN.{length, getD}
 use Rattle.wire.specs.declared.Setting.{Setting}
 use Rattle.wire.specs.declared.Refusal.the-variants.{Behind, Ahead}
-use Rattle.wire.specs.Numbers.{distanceOf}
 use Rattle.decoder.specs.Bytes.{Coded}
 use Rattle.decoder.specs.Model as model
 use Rattle.decoder.specs.Receiver as decoder
@@ -28,7 +27,7 @@ use Rattle.admission.specs.declared.packet.LocationFound.the-variants.{L
 use Rattle.admission.specs.declared.packet.Gathered.{Gathered}
 use Rattle.admission.specs.declared.packet.Gathered.the-variants.{All, Contradiction}
 use Rattle.history.specs.Symbol.{Symbol}
-use Rattle.history.specs.History.{memorySize}
+use Rattle.history.specs.History.{memorySize, Side, behind, ahead, sideOf, farthest}
 use Rattle.history.specs.Model.{Joined}
 use Rattle.memory.specs.Contained.{Contained}
 use Rattle.holding.specs.Layout.{headerFrom, Stands, Holds, MarksFrom}
@@ -48,11 +47,13 @@ locationAt h d n =
       offset = d - rise;
     }
 
--- Where n symbols lie, the first of them with the ESI e: refusals 8 and 9.
+-- Where n symbols lie, the first of them on a side of the base: refusals 8 and 9; and the first of them with the ESI e.
+abbrev pub locationOn : Header → (n : ℕ) → Side → LocationFound
+locationOn h n behind = Out Behind
+locationOn h n (ahead d) = cond (leb (d + n) farthest) (LocationIs (locationAt h d n)) (Out Ahead)
+
 unfoldable pub locationFound : Header → (e n : ℕ) → LocationFound
-locationFound h e n =
-    let d = distanceOf e (h .esi .0) in
-    cond (ltb d (2 ^ 31)) (cond (leb (d + n) 65536) (LocationIs (locationAt h d n)) (Out Ahead)) (Out Behind)
+locationFound h e n = locationOn h n (sideOf (h .esi .0) e)
 
 -- ---- The packet's equations
 

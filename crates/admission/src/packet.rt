@@ -5,10 +5,13 @@ ghost use lib.ListN.{length};
 ghost use Rattle.wire.specs.Settings.{Valid};
 ghost use Rattle.table.specs.Window.{Fits};
 ghost use Rattle.table.specs.Packet.{Works};
+ghost use Rattle.history.specs.History.{farthest};
 ghost use Rattle.admission.specs.Joining.{headerFor, Based};
 ghost use Rattle.admission.specs.Steps.{locationFound, gatheredBy, EquationAdmitted, LocatedBy, Finished, Accepted};
 use gather::Verdict;
 use holding::Header;
+use holding::Side;
+use holding::find;
 use table::Shape;
 use wire::Esi;
 use wire::Refusal;
@@ -53,16 +56,19 @@ pub fn join(header: Header, first: Esi) -> Header
     }
 }
 
+// How far past the base the last position that a packet names may lie.
+const FARTHEST: usize = 65536;
+
 // Where `n` symbols from the ESI `first` on lie.
 pub fn locate(header: Header, first: Esi, n: usize) -> LocationFound
     requires { ⌜ Valid (header .setting) × (header .oldest < header .setting .width) × (n ≤ header .setting .width) ⌝ }
     ensures { λ r. ⌜ r ≡ locationFound header (first .0) n ⌝ }
 {
-    let d = first.distance(header.esi) as usize;
-    if d >= 2147483648 {
-        return LocationFound::Out(Refusal::Behind);
-    }
-    if d + n > 65536 {
+    let d = match find::side_of(header.esi, first) {
+        Side::Ahead(d) => d,
+        Side::Behind => return LocationFound::Out(Refusal::Behind),
+    };
+    if d + n > FARTHEST {
         return LocationFound::Out(Refusal::Ahead);
     }
     let width = header.setting.width;
@@ -117,15 +123,10 @@ pub fn admit_equation(
 // The packet's rows, `kept` in working memory, join the state's, and the base rises. Gives how many positions have become known.
 fn finish(mem: &mut [u8], work: &[u8], header: Header, location: Location, kept: usize) -> usize
     requires { ⌜ Based (now mem) header × Works (header .setting .width) (header .setting .size) kept (now work)
-        × (location .shape .oldest < 65535) × (location .rise ≤ 65536) ⌝ }
+        × (location .shape .oldest < 65535) × (location .rise ≤ farthest) ⌝ }
     ensures { λ n. ⌜ Finished header location kept n (now (work .entry)) (now (mem .entry)) (now (mem .exit)) ⌝ }
 {
-    let shape = Shape {
-        width: header.setting.width,
-        size: header.setting.size,
-        oldest: header.oldest,
-    };
-    let count = placing::commit(mem, work, shape, location.rise, kept);
+    let count = placing::commit(mem, work, header.shape(), location.rise, kept);
     let esi = header.esi;
     let next = esi.plus(location.rise as u32);
     memory::store_u16(mem, 8, (location.shape.oldest + 1) as u16);
@@ -144,15 +145,10 @@ pub fn accept(
     own: usize,
 ) -> usize
     requires { ⌜ Based (now mem) header × Works (header .setting .width) (header .setting .size) kept (now work)
-        × (location .shape .oldest < 65535) × (location .rise ≤ 65536) × LocatedBy header location own ⌝ }
+        × (location .shape .oldest < 65535) × (location .rise ≤ farthest) × LocatedBy header location own ⌝ }
     ensures { λ n. ⌜ Accepted header location kept own n (now (work .entry)) (now (mem .entry)) (now (mem .exit)) ⌝ }
 {
-    let before = Shape {
-        width: header.setting.width,
-        size: header.setting.size,
-        oldest: header.oldest,
-    };
-    let had = marks::known_among(mem, before, location.rise + location.offset, own);
+    let had = marks::known_among(mem, header.shape(), location.rise + location.offset, own);
     let known = finish(mem, work, header, location, kept);
     let has = marks::known_among(mem, location.shape, location.offset, own);
     let others = known != memory::excess(has, had);

@@ -18,13 +18,14 @@ use Rattle.history.specs.Symbol.{Symbol, bytesOf}
 use Rattle.history.specs.History.{IsValue, Located, Filling, All, Known, located, reading, Log, fresh, OfBytes, esiOf}
 use Rattle.wire.specs.Answers.{value, refusal, said}
 use Rattle.history.specs.History.{baseOf, readAfter, logged, Judged}
+use Rattle.history.specs.History.{halfway}
 use Rattle.history.specs.Model.{Joined, State, opened, foundBy, Outcome, refused, done, saidOf, stateAfter, responds, answering, receiving}
 use Rattle.history.specs.Model.{Finding, shows, hides, shown, finding}
 use Rattle.receiver.specs.Promises.{Layout, opening, Opened, Follows, Received, Finds, SymbolAnswered, Shows, PartShown}
 use Rattle.history.proofs.Answers.{Tracks, TracksFrom, Passes, baseIn, base-found, judged, known-exactly, known-value, tracks-consistent, fresh-tracks}
 use Rattle.history.proofs.Counting.{judged-once}
 use Rattle.history.proofs.Readings.{reading-passes}
-use Rattle.history.proofs.Sides.{found-inside, found-past, found-behind}
+use Rattle.history.proofs.Sides.{limits, found-inside, found-past, found-behind}
 use Rattle.claims.specs.Run.{Step, Run, final, read, goes-on, history}
 use Rattle.claims.specs.Demand.{esi, ShownExactly, HiddenBefore, HiddenOutside, Demand-3, Every-list, Alike, No-choice}
 
@@ -140,10 +141,10 @@ module _ (L : Layout) (s : Setting) (v : Valid s) where
     outside d w h = record {
       past = λ n a p. answer-is d (hides 12) (at-base d (hides 12) (found-past s (g .state) d h n w)) a p;
       behind = λ n a p. answer-is d (hides 8) (at-base d (hides 8) (found-behind s (g .state) d h n)) a p;
-      nothing = λ memory part q p. go (decLt d (2 ^ 31)) memory part q p;
+      nothing = λ memory part q p. go (decLt d halfway) memory part q p;
     }
       where
-        go : Dec (d < 2 ^ 31) → (memory part : RefT (List ℕ)) → now memory ≡ m → PartShown L memory part (esi (b + d)) → now part ≡ []
+        go : Dec (d < halfway) → (memory part : RefT (List ℕ)) → now memory ≡ m → PartShown L memory part (esi (b + d)) → now part ≡ []
         go (yes n) memory part q p = part-is d (hides 12) (at-base d (hides 12) (found-past s (g .state) d h n w)) memory part q p
         go (no n) memory part q p = part-is d (hides 8) (at-base d (hides 8) (found-behind s (g .state) d h (omega arith))) memory part q p
 
@@ -155,7 +156,7 @@ module _ (L : Layout) (s : Setting) (v : Valid s) where
       found o = shown s (g .state .base + i) o
 
       pub here : finding s (some (g .state)) (esi (b + i)) ≡ found symbol
-      here = let n = v .width-most in at-base i (found symbol) (found-inside s (g .state) i (omega arith) (omega arith) within)
+      here = let n = v .width-most in at-base i (found symbol) (found-inside s (g .state) i (omega (arith, limits)) (omega (arith, limits)) within)
 
       pub exactly : decoder.Accepted symbol ↔ Known E qs (b + i)
       exactly = subst (λ x. decoder.Accepted symbol ↔ Known E qs (x + i)) (g .base-is) (known-exactly s some-bytes qs (g .state) (g .tracks) i)

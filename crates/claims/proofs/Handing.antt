@@ -23,7 +23,7 @@ use Rattle.history.specs.History.{Located, reading, baseFor, Log, fresh, baseOf
 use Rattle.history.specs.Model.{Joined, State, opened, foundBy, stateAfter, responds, answering, marking, aduAt}
 use Rattle.receiver.specs.Promises.{Layout, Opened, Received, AduAnswered}
 use Rattle.history.proofs.Answers.{Tracks, TracksFrom, baseIn, fresh-tracks}
-use Rattle.history.proofs.Sides.{adu-inside, adu-past, adu-behind}
+use Rattle.history.proofs.Sides.{limits, adu-inside, adu-past, adu-behind}
 use Rattle.history.proofs.Starting.{Sees, shown-whole, unseen, shows-held, held-shows, shows-inside, seen-outside, AreStarts, MarksTrack}
 use Rattle.history.proofs.Starting.{fresh-marks, tracks-sees, marking-tracks}
 use Rattle.claims.specs.Run.{Step, Run, final, read, goes-on, history}
@@ -175,7 +175,7 @@ module _ (L : Layout) (s : Setting) (v : Valid s) where
         → HandedAs (handing E width (length out) M see d) out out′ a
     in-order d k out out′ a p =
         let n = v .width-most in
-        answered d out out′ a (handing E width (length out) M see d) (adu-inside s t M (length out) d (omega arith) (omega arith) k) p
+        answered d out out′ a (handing E width (length out) M see d) (adu-inside s t M (length out) d (omega (arith, limits)) (omega (arith, limits)) k) p
 
     handed-out : Handed-out L s m qs (t .base)
     handed-out =

@@ -17,6 +17,7 @@ use Rattle.history.specs.History.{Filling, Located, All, fresh}
 use Rattle.history.specs.Model.{Finding, hides, finding}
 use Rattle.receiver.specs.Promises.{Layout, Places, PlaceAnswered}
 use Rattle.history.proofs.Sides.{found-past, found-behind}
+use Rattle.history.proofs.Sides.{limits}
 use Rattle.claims.specs.Run.{final, history}
 use Rattle.claims.specs.Demand.{esi}
 use Rattle.claims.specs.Placing.{PlacedExactly, Placed, Every-place}
@@ -62,7 +63,7 @@ module _ (L : Layout) (s : Setting) (v : Valid s) (m : List ℕ) where
     placed : Placed L s m qs b
     placed = record {
       window = placed-exactly;
-      past = λ d w n a p. place-is d (hides 12) (at-base L s v m qs b g d (hides 12) (found-past s (g .state) d (omega arith) n w)) a p;
+      past = λ d w n a p. place-is d (hides 12) (at-base L s v m qs b g d (hides 12) (found-past s (g .state) d (omega (arith, limits)) n w)) a p;
       behind = λ d n h a p. place-is d (hides 8) (at-base L s v m qs b g d (hides 8) (found-behind s (g .state) d h n)) a p;
     }
 

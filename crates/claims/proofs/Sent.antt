@@ -23,7 +23,9 @@ use Rattle.wire.specs.Answers.{Said, value, refusal, said}
 use Rattle.history.specs.History.{located, workingSize, readPacket, reading, baseFor, joinedAt, Log, fresh, IsValue, readAfter}
 use Rattle.history.specs.History.{baseOf, logged, Judged}
 use Rattle.receiver.specs.Promises.{Layout}
+use Rattle.history.specs.History.{halfway, farthest}
 use Rattle.history.proofs.Readings.{source-read, repair-read, reading-passed}
+use Rattle.history.proofs.Sides.{limits}
 use Rattle.claims.specs.SenderRun.{SenderCall, symbolsOf, AreSymbols, Packet}
 use Rattle.claims.specs.SenderRun.{Wrote, wrote-source, wrote-repair}
 use Rattle.claims.specs.Run.{Step, read, goes-on, history}
@@ -35,8 +37,9 @@ use Rattle.claims.proofs.Carrying.{stretch, filler, filler-carries}
 use Rattle.claims.proofs.Reading.{reads}
 
 -- A sender's position near the base is found again by its ESI, unless it lies behind.
-pub found-again : (p base offset : ℕ) → offset % 2 ^ 32 ≡ 0 → Near p (base + offset) → distanceOf (p % 2 ^ 32) (base % 2 ^ 32) < 2 ^ 31
+pub found-again : (p base offset : ℕ) → offset % 2 ^ 32 ≡ 0 → Near p (base + offset) → distanceOf (p % 2 ^ 32) (base % 2 ^ 32) < halfway
     → base + distanceOf (p % 2 ^ 32) (base % 2 ^ 32) + offset ≡ p
+unfolding halfway
 found-again p base offset w n h = omega (arith, w, n .ahead, n .behind)
 
 -- What arrives is near the base for it, and the offset is a number of whole rounds of ESIs.
@@ -45,7 +48,7 @@ Rounds offset o = (b : ℕ) → o ≡ some b → offset % 2 ^ 32 ≡ 0
 
 pub arrived : (o : Option ℕ) (offset p : ℕ) → Rounds offset o → Arrives o offset p
     → (offset % 2 ^ 32 ≡ 0) × Near p (baseFor o (p % 2 ^ 32) + offset)
-arrived none offset p w a = (omega (arith, a), record { ahead = omega (arith, a); behind = omega (arith, a) })
+arrived none offset p w a = (omega (arith, a), record { ahead = omega (arith, a, limits); behind = omega (arith, a, limits) })
 arrived (some b) offset p w a = (w b refl, a)
 
 -- A sender's packet has the ESI of its position.
@@ -163,17 +166,17 @@ module _ (s : Setting) (z : 0 < s .size) (all : List (List ℕ)) where
               (subst (λ (y : ℕ). ReadBy d m q (reading s base room (repair-call (repairPacket key dt m y xs)))) here g),
         )
 
-    read-ahead : (x : Packet) (p : ℕ) → Wrote scheme E all x p → base + offset ≤ p → p + named E x ≤ base + offset + 65536 → named E x ≤ width
+    read-ahead : (x : Packet) (p : ℕ) → Wrote scheme E all x p → base + offset ≤ p → p + named E x ≤ base + offset + farthest → named E x ≤ width
         → Valid s → (room : ℕ) → workingSize s ≤ room → (q : Located) × (reading s base room (callOf x) ≡ located q)
     read-ahead x p o a b k w room enough =
-        let (q, r) = written-read x p o k w room enough (p - (base + offset)) (omega arith) (omega (arith, rounds)) in
-        (q, r .taken (omega arith) (omega arith))
+        let (q, r) = written-read x p o k w room enough (p - (base + offset)) (omega (arith, limits)) (omega (arith, rounds)) in
+        (q, r .taken (omega (arith, limits)) (omega arith))
 
-    read-behind : (x : Packet) (p : ℕ) → Wrote scheme E all x p → p < base + offset → base + offset ≤ p + 2 ^ 31 → named E x ≤ width
+    read-behind : (x : Packet) (p : ℕ) → Wrote scheme E all x p → p < base + offset → base + offset ≤ p + halfway → named E x ≤ width
         → Valid s → (room : ℕ) → workingSize s ≤ room → reading s base room (callOf x) ≡ fails 8
     read-behind x p o a b k w room enough =
-        let (q, r) = written-read x p o k w room enough (p + 2 ^ 32 - (base + offset)) (omega arith) (omega (arith, rounds)) in
-        r .behind (omega arith)
+        let (q, r) = written-read x p o k w room enough (p + 2 ^ 32 - (base + offset)) (omega arith) (omega (arith, rounds, limits)) in
+        r .behind (omega (arith, limits))
 
   -- ---- The list
 
@@ -288,11 +291,11 @@ module _ (t s : Setting) (l : List SenderCall) (k : Peers t s l) where
   taken : (ts : List Step) (x : Packet) (p : ℕ) → Wrote (s .scheme) (s .size) all x p → Valid s → named (s .size) x ≤ s .width
       → (room : ℕ) → workingSize s ≤ room → (a : Said) → Judged s (history s ts) (readAfter s (history s ts) room (callOf x)) a
       → (base offset : ℕ) → offset % 2 ^ 32 ≡ 0 → baseFor (baseOf s (history s ts)) (esiOf (callOf x)) ≡ base
-      → base + offset ≤ p → p + named (s .size) x ≤ base + offset + 65536
+      → base + offset ≤ p → p + named (s .size) x ≤ base + offset + farthest
       → All (s .size) (history s ts) (f offset) → IsValue a
   taken ts x p o v c room enough a j base offset rounds is h g filled =
       let (q, e) = read-ahead s some-bytes all offset rounds base x p o h g c v room enough in
-      let near : Near p (base + offset) = record { ahead = omega (arith, g); behind = omega (arith, h) } in
+      let near : Near p (base + offset) = record { ahead = omega (arith, g, limits); behind = omega (arith, h, limits) } in
       let r = reading-passed s base room (callOf x) q e in
       let sat = written-satisfied s some-bytes all offset rounds base x p o near q r 0 (omega arith) (f offset) (carries offset) in
       j .accepted .1 (q, ap (λ b. reading s b room (callOf x)) is ∙ e, (f offset, (sat, filled)))
@@ -309,7 +312,7 @@ sent-accepted t s l k v offset ts w x p o within c room enough a j = go (baseOf 
         let sum : p % 2 ^ 32 + n ≡ p = omega arith in
         taken t s l k ts x p o v c room enough a j (p % 2 ^ 32) n (omega arith)
         (ap (λ u. baseFor u (esiOf (callOf x))) e ∙ esi-wrote (s .scheme) (s .size) (symbolsOf (s .size) l) x p o) (omega (arith, sum))
-        (omega (arith, sum, few)) (subst (λ qs. All (s .size) qs (filler (s .size) n (symbolsOf (s .size) l))) (sym (none-accepted s (history s ts) e)) tt)
+        (omega (arith, sum, few, limits)) (subst (λ qs. All (s .size) qs (filler (s .size) n (symbolsOf (s .size) l))) (sym (none-accepted s (history s ts) e)) tt)
     go (some b) e (h, g) =
         taken t s l k ts x p o v c room enough a j b offset
         (written-filled s (omega (arith, v .size-least)) (symbolsOf (s .size) l) offset ts w .0 b e) (ap (λ u. baseFor u (esiOf (callOf x))) e) h g

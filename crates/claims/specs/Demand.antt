@@ -13,6 +13,7 @@ use Rattle.history.specs.Symbol.{bytesOf}
 use Rattle.wire.specs.Answers.{value, refusal, said}
 use Rattle.history.specs.History.{Filling, Located, All, Consistent, Known, baseOf, Judged}
 use Rattle.receiver.specs.Promises.{Layout, Opened, SymbolAnswered, PartShown}
+use Rattle.history.specs.History.{halfway}
 use Rattle.claims.specs.Run.{Step, Run, final, read, history}
 use Rattle.claims.specs.Carrying.{Carries}
 
@@ -44,10 +45,10 @@ module _ (L : Layout) (s : Setting) (m : List ℕ) where
     pub answer : (a : Answer) → SymbolAnswered L m e a → said a ≡ refusal 12
     pub nothing : (memory part : RefT (List ℕ)) → now memory ≡ m → PartShown L memory part e → now part ≡ []
 
-  -- Outside the window: 8 from 2^31 on, else 12, and the part is empty.
+  -- Outside the window: 8 from halfway on, else 12, and the part is empty.
   pub record HiddenOutside (base d : ℕ) : Type 0 where
-    pub past : d < 2 ^ 31 → (a : Answer) → SymbolAnswered L m (esi (base + d)) a → said a ≡ refusal 12
-    pub behind : 2 ^ 31 ≤ d → (a : Answer) → SymbolAnswered L m (esi (base + d)) a → said a ≡ refusal 8
+    pub past : d < halfway → (a : Answer) → SymbolAnswered L m (esi (base + d)) a → said a ≡ refusal 12
+    pub behind : halfway ≤ d → (a : Answer) → SymbolAnswered L m (esi (base + d)) a → said a ≡ refusal 8
     pub nothing : (memory part : RefT (List ℕ)) → now memory ≡ m → PartShown L memory part (esi (base + d)) → now part ≡ []
 
 -- Each call of the list, after the calls before it, is answered as the history asks.

@@ -17,6 +17,7 @@ use Rattle.history.specs.Symbol.{bytesOf}
 use Rattle.wire.specs.Answers.{value, said}
 use Rattle.history.specs.History.{Filling, symbolsAt, Located, first, All, Consistent, Known, source-call, located, Log, IsValue, baseOf, MarkedBy, Start}
 use Rattle.receiver.specs.Promises.{Layout, Opened, AduAnswered}
+use Rattle.history.specs.History.{halfway}
 use Rattle.claims.specs.Run.{Step, Run, final, read, history}
 use Rattle.claims.specs.Demand.{esi}
 
@@ -43,8 +44,8 @@ module _ (L : Layout) (s : Setting) (m : List ℕ) (qs : List Located) (base : �
   -- The position d past the base.
   pub record HandedExactly (d : ℕ) (see : View) (marked : ℕ → Bool) : Type 0 where
     -- The call's answer and output: behind the base 8, past the window 12, else by what is told, in document 01's order.
-    pub behind : 2 ^ 31 ≤ d → (out out′ : List ℕ) (a : Handed) → AduAnswered L m (esi (base + d)) out out′ a → HandedAs (withholds 8) out out′ a
-    pub past : width ≤ d → d < 2 ^ 31 → (out out′ : List ℕ) (a : Handed) → AduAnswered L m (esi (base + d)) out out′ a
+    pub behind : halfway ≤ d → (out out′ : List ℕ) (a : Handed) → AduAnswered L m (esi (base + d)) out out′ a → HandedAs (withholds 8) out out′ a
+    pub past : width ≤ d → d < halfway → (out out′ : List ℕ) (a : Handed) → AduAnswered L m (esi (base + d)) out out′ a
         → HandedAs (withholds 12) out out′ a
     pub order : d < width → (out out′ : List ℕ) (a : Handed) → AduAnswered L m (esi (base + d)) out out′ a
         → HandedAs (handing E width (length out) marked see d) out out′ a

@@ -11,6 +11,7 @@ use Rattle.history.specs.Symbol.{bytesOf}
 use Rattle.wire.specs.Answers.{value, refusal, said}
 use Rattle.history.specs.History.{Filling, Located, All, Known, Log, baseOf}
 use Rattle.receiver.specs.Promises.{Layout, Opened, PlaceAnswered}
+use Rattle.history.specs.History.{halfway}
 use Rattle.claims.specs.Run.{Step, Run, final, history}
 use Rattle.claims.specs.Demand.{esi}
 
@@ -24,11 +25,11 @@ module _ (L : Layout) (s : Setting) (m : List ℕ) (qs : List Located) where
         → (at : ℕ) × (said a ≡ value at) × ((f : Filling E) → All E qs f → part at E m ≡ bytesOf E (f p))
     pub unknown : (a : Answer) → PlaceAnswered L m (esi p) a → ¬ Known E qs p → said a ≡ refusal 12
 
-  -- Past the window 12, from 2^31 on 8.
+  -- Past the window 12, from halfway on 8.
   pub record Placed (base : ℕ) : Type 0 where
     pub window : (i : ℕ) → i < width → PlacedExactly (base + i)
-    pub past : (d : ℕ) → width ≤ d → d < 2 ^ 31 → (a : Answer) → PlaceAnswered L m (esi (base + d)) a → said a ≡ refusal 12
-    pub behind : (d : ℕ) → 2 ^ 31 ≤ d → d < 2 ^ 32 → (a : Answer) → PlaceAnswered L m (esi (base + d)) a → said a ≡ refusal 8
+    pub past : (d : ℕ) → width ≤ d → d < halfway → (a : Answer) → PlaceAnswered L m (esi (base + d)) a → said a ≡ refusal 12
+    pub behind : (d : ℕ) → halfway ≤ d → d < 2 ^ 32 → (a : Answer) → PlaceAnswered L m (esi (base + d)) a → said a ≡ refusal 8
 
 -- After the calls of a log: before any base 12, whatever the ESI.
 pub record Place-told (L : Layout) (s : Setting) (m : List ℕ) (l : Log) : Type 0 where

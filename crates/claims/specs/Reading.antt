@@ -8,13 +8,13 @@ use Rattle.wire.specs.declared.Setting.{Setting}
 use Rattle.wire.specs.Settings.{Valid}
 use Rattle.wire.specs.Packets.{Sized, longestAdu, symbolCount, sourceSymbols, sourcePacket, repairPacket}
 use Rattle.coefficients.specs.Coefficients.{keys, listsOf, allOk}
-use Rattle.history.specs.History.{Located, source, repair, source-call, repair-call, Reading, fails, located, workingSize, reading}
+use Rattle.history.specs.History.{Located, source, repair, source-call, repair-call, Reading, fails, located, workingSize, reading, halfway, farthest}
 
 -- n symbols from the ESI of the position base + d on: taken at that position, or behind (8), or too far ahead (9).
 pub record ReadBy (d n : ℕ) (q : Located) (r : Reading) : Type 0 where
-  pub taken : d < 2 ^ 31 → d + n ≤ 65536 → r ≡ located q
-  pub behind : 2 ^ 31 ≤ d → r ≡ fails 8
-  pub far : d < 2 ^ 31 → 65536 < d + n → r ≡ fails 9
+  pub taken : d < halfway → d + n ≤ farthest → r ≡ located q
+  pub behind : halfway ≤ d → r ≡ fails 8
+  pub far : d < halfway → farthest < d + n → r ≡ fails 9
 
 pub record Read-as-written (s : Setting) (base room d : ℕ) : Type 0 where
   -- A source packet of any ADU whose symbols fit the window.

@@ -13,6 +13,7 @@ use Rattle.wire.specs.Answers.{Said, value, refusal, said}
 use Rattle.history.specs.History.{Filling, All, Call, source-call, repair-call, workingSize, Log, fresh, IsValue, readAfter}
 use Rattle.history.specs.History.{baseOf, logged, Judged, joinedAt}
 use Rattle.receiver.specs.Promises.{Layout, SymbolAnswered, PartShown}
+use Rattle.history.specs.History.{halfway, farthest}
 use Rattle.claims.specs.SenderRun.{SenderCall, SenderRun, symbolsOf, Packet, source, repair, Wrote}
 use Rattle.claims.specs.Run.{Step, read, history}
 use Rattle.claims.specs.Carrying.{Carries}
@@ -27,19 +28,19 @@ abbrev pub named : ℕ → Packet → ℕ
 named E (source flow p) = symbolCount E (length (sourceAdu p))
 named E (repair p) = protectedCount p
 
--- Less than 2^31 positions apart.
+-- Less than halfway apart.
 pub record Near (p base : ℕ) : Type 0 where
-  pub ahead : p < base + 2 ^ 31
-  pub behind : base < p + 2 ^ 31
+  pub ahead : p < base + halfway
+  pub behind : base < p + halfway
 
--- A packet arrives whose first symbol is the sender's p-th: it stands less than 2^31 positions from base, where the sender's symbols are numbered
+-- A packet arrives whose first symbol is the sender's p-th: it stands less than halfway from base, where the sender's symbols are numbered
 -- `offset` more than positions. Before any base it tells that offset: its first position is its ESI.
 abbrev pub Arrives : (base : Option ℕ) (offset p : ℕ) → Type 0
 Arrives none offset p = p ≡ esi p + offset
 Arrives (some b) offset p = Near p (b + offset)
 
 -- All packets that the list accepts are as a sender of the same scheme and E wrote them, F included, whose symbols are `all`, and stood less than
--- 2^31 positions from base on arrival.
+-- halfway from base on arrival.
 module _ (s : Setting) (all : List (List ℕ)) (offset : ℕ) where
   abbrev pub AsWritten : Log → List Step → Type 0
   AsWritten l [] = Unit {0}
@@ -63,7 +64,7 @@ pub record Peers (t s : Setting) (l : List SenderCall) : Type 0 where
 -- n symbols from the sender's p-th on lie ahead of the base, and not too far; before any base, anywhere.
 abbrev pub InReach : (base : Option ℕ) (offset p n : ℕ) → Type 0
 InReach none offset p n = Unit {0}
-InReach (some b) offset p n = (b + offset ≤ p) × (p + n ≤ b + offset + 65536)
+InReach (some b) offset p n = (b + offset ≤ p) × (p + n ≤ b + offset + farthest)
 
 -- Every packet of the sender's that lies ahead of the base, not too far, and names no more symbols than the window has, is accepted.
 abbrev pub Sent-accepted : Type 0
@@ -74,14 +75,14 @@ Sent-accepted =
     → InReach (baseOf s (history s ts)) offset p (named (s .size) x) → named (s .size) x ≤ s .width
     → (room : ℕ) → workingSize s ≤ room → (a : Said) → Judged s (history s ts) (readAfter s (history s ts) room (callOf x)) a → IsValue a
 
--- Every one that begins before the base, by no more than 2^31 symbols, is behind: after joining, all that was sent or reaches back before it.
+-- Every one that begins before the base, by no more than halfway, is behind: after joining, all that was sent or reaches back before it.
 abbrev pub Sent-behind : Type 0
 Sent-behind =
     (t s : Setting) (l : List SenderCall) → Peers t s l → Valid s
     → (offset : ℕ) (ts : List Step) → AsWritten s (symbolsOf (s .size) l) offset fresh ts
     → (b : ℕ) → baseOf s (history s ts) ≡ some b
     → (x : Packet) (p : ℕ) → Wrote (s .scheme) (s .size) (symbolsOf (s .size) l) x p
-    → p < b + offset → b + offset ≤ p + 2 ^ 31 → named (s .size) x ≤ s .width
+    → p < b + offset → b + offset ≤ p + halfway → named (s .size) x ≤ s .width
     → (room : ℕ) → workingSize s ≤ room → (a : Said) → Judged s (history s ts) (readAfter s (history s ts) room (callOf x)) a → a ≡ refusal 8
 
 -- And what is shown at a position of the sender's is the sender's symbol.

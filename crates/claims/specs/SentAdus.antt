@@ -64,7 +64,7 @@ Junk-gives =
     → (p flow : ℕ) (adu : List ℕ) → join ≤ p → HoldsAdu s qs base p flow adu → p + offset + symbolCount (s .size) (length adu) ≤ length all
     → sourceSymbols flow adu (s .size) ≡ take (symbolCount (s .size) (length adu)) (drop (p + offset) all)
 
--- All packets that the list accepts are this sender's, and stood less than 2^31 positions from base on arrival.
+-- All packets that the list accepts are this sender's, and stood less than halfway from base on arrival.
 module _ (s : Setting) (l : List SenderCall) (offset : ℕ) where
   abbrev pub AsSent : Log → List Step → Type 0
   AsSent log [] = Unit {0}

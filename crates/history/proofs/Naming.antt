@@ -18,7 +18,7 @@ use Rattle.decoder.specs.Model.{Rref}
 use Rattle.decoder.specs.Receiver as decoder
 use Rattle.decoder.proofs.Bytes.{laws}
 use Rattle.decoder.proofs.History as history
-use Rattle.history.specs.History.{Side, behind, ahead, sideOf, Call, source-call, repair-call, Reading, fails, located, check}
+use Rattle.history.specs.History.{Side, behind, ahead, sideOf, Call, source-call, repair-call, Reading, fails, located, check, farthest}
 use Rattle.history.specs.History.{fromSide, readSource, readRepair, reading}
 use Rattle.history.specs.Model.{packetOf, Joined, Outcome, refused, done, added, responds, answering}
 
@@ -43,7 +43,7 @@ check-named false n r a b = a
 placed-named : (n : ℕ) (p : Side) (f : ℕ → Reading) → ((d : ℕ) → NamedReading (f d)) → NamedReading (fromSide n p f)
 unfolding fromSide
 placed-named n behind f k = named Behind (λ e. absurd (omega (arith, e)))
-placed-named n (ahead d) f k = check-named (leb (d + n) 65536) 9 (f d) (named Ahead (λ e. absurd (omega (arith, e)))) (k d)
+placed-named n (ahead d) f k = check-named (leb (d + n) farthest) 9 (f d) (named Ahead (λ e. absurd (omega (arith, e)))) (k d)
 
 reading-named : (s : Setting) (base room : ℕ) (c : Call) → NamedReading (reading s base room c)
 unfolding reading readSource readRepair

@@ -25,9 +25,10 @@ use Rattle.wire.proofs.Adui.{length-adui, symbols-count}
 use Rattle.coefficients.specs.Coefficients.{keys, listsOf}
 use Rattle.coefficients.proofs.Lists.{length-keys, list-bytes}
 use Rattle.history.specs.History.{Located, source, repair, first, ahead, sideOf, Call, source-call, repair-call, baseFor, Log, baseOf, readAfter}
+use Rattle.history.specs.History.{halfway, farthest}
 use Rattle.history.specs.History.{OfBytes, esiOf, Reading, fails, located, check, fromSide, readSource, readRepair, workingSize, readPacket, reading}
 use Rattle.history.proofs.Cases.{IsLocated, packet-path, number-in}
-use Rattle.history.proofs.Sides.{side-taken}
+use Rattle.history.proofs.Sides.{limits, side-taken}
 use Rattle.history.proofs.Says.{Wholes, AllBytes}
 use Rattle.history.proofs.Answers.{Fits}
 
@@ -90,16 +91,16 @@ lists-bytes scheme dt n (k ∷ ks) = (list-bytes scheme k dt n, lists-bytes sche
 
 -- A packet's place has passed: it lies d ahead of the base, and not too far.
 pub record Places (base e n : ℕ) (next : ℕ → Reading) (q : Located) : Type 0 where
-  pub near : distanceOf e (base % 2 ^ 32) < 2 ^ 31
+  pub near : distanceOf e (base % 2 ^ 32) < halfway
   pub here : next (distanceOf e (base % 2 ^ 32)) ≡ located q
 
 places : (base e n : ℕ) (next : ℕ → Reading) (q : Located) → fromSide n (sideOf base e) next ≡ located q → Places base e n next q
 unfolding fromSide sideOf
-places base e n next q h = go (ltb (distanceOf e (base % 2 ^ 32)) (2 ^ 31)) refl
+places base e n next q h = go (ltb (distanceOf e (base % 2 ^ 32)) halfway) refl
   where
-    go : (t : Bool) → ltb (distanceOf e (base % 2 ^ 32)) (2 ^ 31) ≡ t → Places base e n next q
+    go : (t : Bool) → ltb (distanceOf e (base % 2 ^ 32)) halfway ≡ t → Places base e n next q
     go false x = absurd (subst IsLocated (sym (rw x at h)) tt)
-    go true x = record { near = ltb-true _ _ x; here = check-passed (leb (distanceOf e (base % 2 ^ 32) + n) 65536) 9 _ q (rw x at h) .1 }
+    go true x = record { near = ltb-true _ _ x; here = check-passed (leb (distanceOf e (base % 2 ^ 32) + n) farthest) 9 _ q (rw x at h) .1 }
 
 -- ---- Packets
 
@@ -110,7 +111,7 @@ module _ (s : Setting) where
   pub record SourceRead (base flow : ℕ) (p : List ℕ) (q : Located) : Type 0 where
     pub form : sourceForm p ≡ true
     pub fits : symbolCount E (length (sourceAdu p)) ≤ width
-    pub near : distanceOf (sourceEsi p) (base % 2 ^ 32) < 2 ^ 31
+    pub near : distanceOf (sourceEsi p) (base % 2 ^ 32) < halfway
     pub says : source (base + distanceOf (sourceEsi p) (base % 2 ^ 32)) (sourceSymbols flow (sourceAdu p) E) ≡ q
 
   pub source-read : (base flow : ℕ) (p : List ℕ) (q : Located) → readSource s base flow p ≡ located q → SourceRead base flow p q
@@ -126,7 +127,7 @@ module _ (s : Setting) where
   pub record RepairRead (base : ℕ) (p : List ℕ) (q : Located) : Type 0 where
     pub form : repairForm E p ≡ true
     pub fits : protectedCount p ≤ width
-    pub near : distanceOf (firstEsi p) (base % 2 ^ 32) < 2 ^ 31
+    pub near : distanceOf (firstEsi p) (base % 2 ^ 32) < halfway
     pub says :
         repair (base + distanceOf (firstEsi p) (base % 2 ^ 32)) (protectedCount p)
         (listsOf scheme (densityThreshold p) (protectedCount p) (keys (repairKey p) (length (repairSymbols E p)))) (repairSymbols E p) ≡ q
@@ -208,10 +209,10 @@ not-check k true n r a b e = b refl e
 not-check k false n r a b e = a (ap number-in e)
 
 -- n symbols at the base itself.
-side-here : (n e : ℕ) (next : ℕ → Reading) → e < 2 ^ 32 → n ≤ 65536 → fromSide n (sideOf e e) next ≡ next 0
+side-here : (n e : ℕ) (next : ℕ → Reading) → e < 2 ^ 32 → n ≤ farthest → fromSide n (sideOf e e) next ≡ next 0
 side-here n e next small h =
     let z : e ≡ (e + 0) % 2 ^ 32 = omega arith in
-    ap (λ x. fromSide n (sideOf e x) next) z ∙ side-taken e 0 (omega arith) n next (omega arith) (omega arith)
+    ap (λ x. fromSide n (sideOf e x) next) z ∙ side-taken e 0 (omega arith) n next (omega (arith, limits)) (omega arith)
 
 -- Neither 8 nor 9 can stop it.
 pub joins-near : (s : Setting) → Valid s → (room : ℕ) (c : Call) → OfBytes c → (k : ℕ) → 8 ≤ k → k ≤ 9 → reading s (esiOf c) room c ≡ fails k → ⊥
@@ -223,7 +224,7 @@ joins-near s v room (source-call flow p) (f, b) k lo hi =
     (λ form. not-check k (leb (length (sourceAdu p)) 65535 && leb n (s .width)) 4 _ (λ e. omega (arith, e))
     (λ fits h.
     let few = leb-true n (s .width) (both (leb (length (sourceAdu p)) 65535) _ fits .1) in
-    subst IsLocated (sym (side-here n (sourceEsi p) _ (source-small p form b) (omega (arith, few, v .width-most))) ∙ h) tt)))
+    subst IsLocated (sym (side-here n (sourceEsi p) _ (source-small p form b) (omega (arith, few, v .width-most, limits))) ∙ h) tt)))
 joins-near s v room (repair-call p) b k lo hi =
     not-check k _ 2 _ (λ e. omega (arith, e))
     (λ _. not-check k (repairForm (s .size) p) 5 _ (λ e. omega (arith, e))
@@ -231,7 +232,7 @@ joins-near s v room (repair-call p) b k lo hi =
     (λ fits h.
     let few = within-bounds 1 (s .width) (protectedCount p) fits .1 in
     not-check k _ 10 _ (λ e. omega (arith, e)) (λ _ g. subst IsLocated g tt)
-    (sym (side-here (protectedCount p) (firstEsi p) _ (repair-small (s .size) p form b) (omega (arith, few, v .width-most))) ∙ h))))
+    (sym (side-here (protectedCount p) (firstEsi p) _ (repair-small (s .size) p form b) (omega (arith, few, v .width-most, limits))) ∙ h))))
 
 -- What a call's packet has passed after a history.
 pub reading-passes : (s : Setting) → 0 < s .size → (l : Log) (room : ℕ) (c : Call) (q : Located) → OfBytes c → readAfter s l room c ≡ located q

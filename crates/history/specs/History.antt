@@ -70,9 +70,13 @@ pub data Side : Type 0 where
   behind : Side
   ahead : (d : ℕ) → Side
 
--- d = (e - base) mod 2^32; from 2^31 on it lies behind.
+-- From this distance on an ESI lies behind the base: half of all ESIs.
+unfoldable pub halfway : ℕ
+halfway = 2 ^ 31
+
+-- d = (e - base) mod 2^32; from halfway on it lies behind.
 unfoldable pub sideOf : (base e : ℕ) → Side
-sideOf base e = let d = distanceOf e (base % 2 ^ 32) in cond (ltb d (2 ^ 31)) (ahead d) behind
+sideOf base e = let d = distanceOf e (base % 2 ^ 32) in cond (ltb d halfway) (ahead d) behind
 
 -- ---- Reading a call
 
@@ -101,10 +105,14 @@ unfoldable pub check : Bool → ℕ → Reading → Reading
 check true n r = r
 check false n r = fails n
 
+-- How far past the base the last position that a packet names may lie.
+unfoldable pub farthest : ℕ
+farthest = 65536
+
 -- n symbols on a side of the base: 8 behind the base, 9 too far ahead of it, else what comes after.
 unfoldable pub fromSide : (n : ℕ) → Side → (ℕ → Reading) → Reading
 fromSide n behind next = fails 8
-fromSide n (ahead d) next = check (leb (d + n) 65536) 9 (next d)
+fromSide n (ahead d) next = check (leb (d + n) farthest) 9 (next d)
 
 -- The bytes that a receiver needs, and those of the working memory that a packet call borrows.
 abbrev pub memorySize : Setting → ℕ

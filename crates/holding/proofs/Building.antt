@@ -1,4 +1,6 @@
 -- A memory that holds a given state: rows spelled byte by byte.
+-- Laws:
+--   a memory for every state: Built, built; the rest lays its rows and header
 use mathlib.Core.Path.{_≡_, refl, sym, ap, ap₂, _∙_, subst}
 use mathlib.Core.Logic.{_≢_, _↔_}
 use mathlib.Core.Bool.{Bool, true, false, true≢false}

@@ -1,15 +1,18 @@
 -- A memory knows its base by two remainders. States that differ by no more than that are held by the same memories, and calls treat them alike.
+-- Laws:
+--   states: SameFrom, Same, holds-same, held-same, found-same
+--   calls: Alike, answering-alike
+--   marks: marking-alike, same-after
 use mathlib.Core.Path.{_≡_, refl, sym, ap, ap₂, _∙_, subst}
-use mathlib.Core.Bool.{Bool, true, false, cond, true≢false}
+use mathlib.Core.Bool.{Bool, true, false, true≢false}
 use mathlib.Core.Option.{Option, none, some, Option·some-injective}
 use mathlib.Core.List.{List, map}
 use Prim.Native.Nat.{ℕ, zero, suc, _+_, _-_, _%_, _^_, _≤_, _<_}
 use native.Mathlib.Nat.{mod-add-mod}
 use native.Mathlib.Omega.{arith}
-use lib.Dec.{ltb, leb}
+use lib.Dec.{leb}
 use lib.ListN.{length, getD}
 use Rattle.wire.specs.declared.Setting.{Setting}
-use Rattle.wire.specs.Numbers.{distanceOf}
 use Rattle.wire.specs.Packets.{sourceSymbols, sourceAdu, sourceEsi, protectedCount}
 use Rattle.wire.specs.Packets.{firstEsi, repairSymbols}
 use Rattle.decoder.specs.Bytes.{Byte, byte, Coded}
@@ -19,8 +22,9 @@ use Rattle.decoder.specs.Receiver as decoder
 use Rattle.decoder.specs.Packets as packets
 use Rattle.decoder.specs.Table.{read, slot, view, Echelon}
 use Rattle.table.specs.Window as window
+use Rattle.history.proofs.Sides.{side-same}
 use Rattle.holding.specs.declared.Header.{Header}
-use Rattle.history.specs.History.{source, repair, Side, behind, ahead, sideOf, Call, source-call, repair-call, Reading, fails}
+use Rattle.history.specs.History.{source, repair, Side, behind, ahead, sideOf, Call, source-call, repair-call, Reading, fails, farthest}
 use Rattle.history.specs.History.{located, check, fromSide, readSource, readRepair, reading}
 use Rattle.starts.specs.Starts.{Starts, also, moved, seen}
 use Rattle.starts.proofs.Agreeing.{Agree, also-agree, moved-agree, pass-agree}
@@ -63,7 +67,8 @@ module _ (w E : ℕ) (m : List ℕ) where
     zero-before = λ q x y z j u v.
         let k = at q x y in
         ap₂ cell (sym k) (sym (at j u (omega arith)))
-        ∙ e .zero-before (b + (q - c)) (omega arith) (omega arith) (ap (λ r. window.inUse w E (window.row w E r m)) k ∙ z) (b + (j - c)) (omega arith) (omega arith);
+        ∙ e .zero-before (b + (q - c)) (omega arith) (omega arith) (ap (λ r. window.inUse w E (window.row w E r m)) k ∙ z) (b + (j - c)) (omega arith)
+        (omega arith);
   }
     where
       cell : ℕ → ℕ → Byte
@@ -146,11 +151,7 @@ module _ (b c : ℕ) where
   side-shifted : (n : ℕ) (p : Side) (f g : ℕ → Reading) → ((d : ℕ) → Shifted b c (f d) (g d)) → Shifted b c (fromSide n p f) (fromSide n p g)
   unfolding fromSide
   side-shifted n behind f g k = both-fail 8
-  side-shifted n (ahead d) f g k = check-shifted (leb (d + n) 65536) 9 (f d) (g d) (k d)
-
-  side-same : (e : ℕ) → b % 2 ^ 32 ≡ c % 2 ^ 32 → sideOf b e ≡ sideOf c e
-  unfolding sideOf
-  side-same e h = ap (λ x. let d = distanceOf e x in cond (ltb d (2 ^ 31)) (ahead d) behind) h
+  side-shifted n (ahead d) f g k = check-shifted (leb (d + n) farthest) 9 (f d) (g d) (k d)
 
   reading-shifted : (s : Setting) (room : ℕ) (call : Call) → b % 2 ^ 32 ≡ c % 2 ^ 32 → Shifted b c (reading s b room call) (reading s c room call)
   unfolding reading readSource readRepair
@@ -158,13 +159,13 @@ module _ (b c : ℕ) where
       check-shifted _ 2 _ _
       (check-shifted _ 5 _ _
       (check-shifted _ 4 _ _
-      (rw (side-same (sourceEsi p) h)
+      (rw (side-same b c (sourceEsi p) h)
       (side-shifted _ (sideOf c (sourceEsi p)) _ _ (λ d. both-source d (sourceSymbols flow (sourceAdu p) (s .size)))))))
   reading-shifted s room (repair-call p) h =
       check-shifted _ 2 _ _
       (check-shifted _ 5 _ _
       (check-shifted _ 6 _ _
-      (rw (side-same (firstEsi p) h)
+      (rw (side-same b c (firstEsi p) h)
       (side-shifted _ (sideOf c (firstEsi p)) _ _ (λ d. check-shifted _ 10 _ _ (both-repair d (protectedCount p) _ (repairSymbols (s .size) p)))))))
 
 -- Outcomes that differ by no more than the base.

@@ -1,4 +1,9 @@
 -- The header of a receiver: what reading it finds, what refusal 3 stands for, and what opening leaves.
+-- Laws:
+--   answers told apart: setting-good, setting-bad, header-is, header-none
+--   reading: area, working-area, numbers, found, found-joined, none-short, none-row, none-setting, Headed, headed, header-room, setting-fits, header-fits
+--   a held state: header-held, setting-of, setting-held, of-header, of-joined
+--   refusal 3: zeros-unopened, other-unopened, short-unopened
 use mathlib.Core.Path.{_≡_, refl, sym, ap, _∙_, subst}
 use mathlib.Core.Bool.{Bool, true, false, cond, _&&_, true≢false}
 use mathlib.Core.Option.{Option, none, some, Option·none-ne-some, Option·some-injective}

@@ -5,7 +5,7 @@ ghost use lib.ListN.{length};
 ghost use Rattle.wire.specs.Settings.{Valid};
 ghost use Rattle.history.specs.History.{memorySize, workingSize};
 ghost use Rattle.holding.specs.Header.{headerIn};
-ghost use Rattle.holding.specs.Inner.{foundOf, freshHeader};
+ghost use Rattle.holding.specs.Inner.{foundOf, freshMemory};
 use super::Found;
 use super::Header;
 use wire::Checked;
@@ -53,11 +53,12 @@ pub fn read_header(mem: &[u8]) -> Found
     })
 }
 
-// Writes the header of a receiver that has no base.
-pub fn write_header(mem: &mut [u8], setting: Setting)
-    requires { ⌜ (64 ≤ length (now mem)) × Valid setting ⌝ }
-    ensures { λ _. ⌜ now (mem .exit) ≡ freshHeader setting (now (mem .entry)) ⌝ }
+// Writes a receiver that has no base: its setting, and zeros over all the rest that it needs.
+pub fn write_fresh(mem: &mut [u8], setting: Setting)
+    requires { ⌜ (memorySize setting ≤ length (now mem)) × Valid setting ⌝ }
+    ensures { λ _. ⌜ now (mem .exit) ≡ freshMemory setting (now (mem .entry)) ⌝ }
 {
     wire::write_setting(mem, 2, setting);
-    memory::fill_part(mem, 8, 56, 0);
+    let rest = memory_size(setting) - 8;
+    memory::fill_part(mem, 8, rest, 0);
 }

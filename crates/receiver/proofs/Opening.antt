@@ -1,26 +1,30 @@
 -- Opening: what it answers, and that the memory it leaves holds a fresh receiver.
 use mathlib.Core.Path.{_≡_, refl, sym, ap, _∙_, subst}
+use mathlib.Core.Bool.{false}
 use mathlib.Core.Option.{none, some, Option·some-injective}
 use mathlib.Core.List.{List}
-use Prim.Native.Nat.{ℕ, _+_, _≤_, _<_}
-use native.Mathlib.Nat.{zero-add}
+use Prim.Native.Nat.{ℕ, _+_, _-_, _%_, _≤_, _<_}
+use native.Mathlib.Nat.{mod-lt}
+use native.Mathlib.Decide.{decLt}
 use native.Mathlib.Omega.{arith}
-use lib.ListN.{length, take, drop}
-use lib.Seq.{take-take}
+use lib.ListN.{length, drop, getD, length-replicate, getD-replicate}
+use lib.Seq.{ext-getD}
+use lib.Dec.{ltb}
 use borrow.Author.Tests.{lt-ltb, le-ltb}
 use Rattle.memory.specs.Part.{part, splice}
 use Rattle.memory.specs.Number.{number}
-use Rattle.memory.proofs.Parts.{length-splice, past-splice, part-part}
+use Rattle.memory.proofs.Parts.{length-part, length-splice, take-splice, past-splice, getD-within, getD-part, row-fits}
 use Rattle.wire.specs.declared.Setting.{Setting}
 use Rattle.wire.specs.declared.Refusal.the-variants.{Values, Short}
 use Rattle.wire.specs.Packets.{zeros}
-use Rattle.wire.specs.Settings.{settingOf, settingIn, settingBytes, Valid}
+use Rattle.wire.specs.Settings.{settingOf, settingBytes, Valid}
 use Rattle.wire.proofs.Settings.{setting-names, setting-written, setting-kept}
-use Rattle.table.specs.Window.{stride, headerSize}
-use Rattle.table.proofs.Offsets.{header-long}
-use Rattle.placing.specs.Place.{Emptied}
+use Rattle.table.specs.Window.{headerSize, stride, rowOffset}
+use Rattle.table.proofs.Offsets.{flags-fit}
+use Rattle.placing.proofs.Moving.{window-free}
 use Rattle.starts.specs.Starts.{nowhere}
-use Rattle.marks.specs.Contracts.{Cleared}
+use Rattle.marks.specs.Marks.{marked}
+use Rattle.marks.proofs.Only.{mark-row, mark-past}
 use Rattle.wire.specs.declared.Answer.the-variants.{Done, Refused}
 use Rattle.history.specs.History.{memorySize}
 use Rattle.history.specs.Model.{opened}
@@ -29,11 +33,9 @@ use Rattle.receiver.specs.Promises.{Opened}
 use Rattle.memory.specs.Contained.{Contained}
 use Rattle.holding.specs.Layout.{headerOf, Holds, Marks}
 use Rattle.receiver.specs.Layout.{receiverLayout}
-use Rattle.holding.specs.Inner.{freshHeader}
+use Rattle.holding.specs.Inner.{freshMemory}
 use Rattle.history.proofs.Cases.{IsRefusal}
 use Rattle.holding.proofs.Headers.{found}
-use Rattle.admission.proofs.Gathering.{contained-more}
-use Rattle.admission.proofs.Marking.{only-contained, only-holds}
 
 module _ (n E w : ℕ) (m : List ℕ) where
   pub opening-values : settingOf n E w ≡ none → Opened receiverLayout n E w m m (Refused Values)
@@ -55,66 +57,96 @@ module _ (n E w : ℕ) (m : List ℕ) where
   }
 
 -- The memory that opening leaves.
-module _ (s : Setting) (v : Valid s) (m m′ : List ℕ) (room : memorySize s ≤ length m) (k : Emptied (s .width) (s .size) (freshHeader s m) m′) where
-  length-fresh : length (freshHeader s m) ≡ length m
-  unfolding freshHeader settingBytes
-  length-fresh =
-      let x = splice 0 (settingBytes 2 s) m in
-      let l : length x ≡ length m = length-splice 0 (settingBytes 2 s) m (omega arith) in
-      length-splice 8 (zeros 56) x (omega (arith, l)) ∙ l
+module _ (s : Setting) (v : Valid s) (m : List ℕ) (room : memorySize s ≤ length m) where
+  abbrev front : List ℕ
+  front = splice 0 (settingBytes 2 s) m
 
-  front : (i : ℕ) → i ≤ 16 → take i m′ ≡ take i (freshHeader s m)
-  front i h =
-      let l : i ≤ headerSize = omega (arith, header-long) in
-      sym (take-take i headerSize m′ l) ∙ ap (take i) (k .kept .header) ∙ take-take i headerSize (freshHeader s m) l
+  abbrev rest : List ℕ
+  rest = zeros (memorySize s - 8)
 
-  part-front : (a i : ℕ) → a + i ≤ 16 → part a i m′ ≡ part a i (freshHeader s m)
-  unfolding part
-  part-front a i h =
-      let e : (l : List ℕ) → part a i (part 0 headerSize l) ≡ part a i l = λ l. part-part 0 headerSize a i l (omega (arith, header-long)) ∙ ap (λ x. part x i l) (zero-add a) in
-      sym (e m′) ∙ ap (part a i) (k .kept .header) ∙ e (freshHeader s m)
+  abbrev left : List ℕ
+  left = freshMemory s m
 
-  setting-is : settingIn 2 m′ ≡ some s
-  unfolding freshHeader splice settingBytes
-  setting-is = setting-kept 2 m′ (splice 0 (settingBytes 2 s) m) (front 8 (omega arith)) ∙ setting-written 2 s m (omega arith) v
+  length-front : length front ≡ length m
+  unfolding settingBytes
+  length-front = length-splice 0 (settingBytes 2 s) m (omega arith)
 
-  row-zero : rowIn m′ ≡ 0
-  unfolding freshHeader splice settingBytes part
-  row-zero = ap number (part-front 8 2 (omega arith))
+  length-left : length left ≡ length m
+  unfolding freshMemory
+  length-left = length-splice 8 rest front (simp length-replicate (omega (arith, length-front))) ∙ length-front
 
-  base-zero : number (part 12 4 m′) ≡ 0
-  unfolding freshHeader splice settingBytes part
-  base-zero = ap number (part-front 12 4 (omega arith))
-
-  length-is : length m′ ≡ length m
-  length-is = k .kept .size ∙ length-fresh
-
-  header-is : headerIn m′ ≡ some (headerOf s (opened s))
-  header-is = found m′ s setting-is (omega (arith, length-is)) (omega (arith, row-zero)) ∙ rw (row-zero, base-zero)
-
-  held : Holds m′ s (opened s)
-  held = record { header = header-is; rows = k .free }
-
-  past-is : drop (memorySize s) m′ ≡ drop (memorySize s) m
-  unfolding freshHeader settingBytes splice headerSize stride
-  past-is =
-      let x = splice 0 (settingBytes 2 s) m in
-      k .kept .past ∙ past-splice (memorySize s) 8 (zeros 56) x (omega arith) (omega (arith, length-splice 0 (settingBytes 2 s) m (omega arith)))
+  past-left : drop (memorySize s) left ≡ drop (memorySize s) m
+  unfolding freshMemory settingBytes
+  past-left =
+      past-splice (memorySize s) 8 rest front (simp length-replicate (omega arith)) (omega (arith, length-front))
       ∙ past-splice (memorySize s) 0 (settingBytes 2 s) m (omega arith) (omega arith)
 
-  module _ (m″ : List ℕ) (f : Cleared (s .width) (s .size) m′ m″) where
-    left : (n E w : ℕ) → settingOf n E w ≡ some s → Opened receiverLayout n E w m m″ (Done 0)
-    left n E w e = record {
+  -- No byte from the setting on is anything but zero.
+  zero-at : (i : ℕ) → 8 ≤ i → i < memorySize s → getD left i 0 ≡ 0
+  unfolding freshMemory
+  zero-at i a b =
+      let e : 8 + (i - 8) ≡ i = omega arith in
+      ap (λ k. getD left k 0) (sym e) ∙ getD-within 8 (i - 8) rest front (simp length-replicate (omega arith)) (omega (arith, length-front))
+      ∙ getD-replicate (memorySize s - 8) (i - 8) 0 0 (omega arith)
+
+  zero-part : (a n : ℕ) → 8 ≤ a → a + n ≤ memorySize s → part a n left ≡ zeros n
+  zero-part a n h k =
+      let l : length (part a n left) ≡ n = length-part a n left (omega (arith, length-left)) in
+      ext-getD 0 (part a n left) (zeros n) (l ∙ sym (length-replicate n 0))
+      (λ i j.
+      let q : i < n = omega (arith, l) in
+      getD-part a n i left q ∙ zero-at (a + i) (omega arith) (omega arith) ∙ sym (getD-replicate n i 0 0 q))
+
+  header-is : headerIn left ≡ some (headerOf s (opened s))
+  unfolding freshMemory
+  header-is =
+      let is = setting-kept 2 left front (take-splice 8 8 rest front (omega arith) (omega (arith, length-front))) ∙ setting-written 2 s m (omega arith) v in
+      let row : rowIn left ≡ 0 = ap number (zero-part 8 2 (omega arith) (omega arith)) in
+      let esi : number (part 12 4 left) ≡ 0 = ap number (zero-part 12 4 (omega arith) (omega arith)) in
+      found left s is (omega (arith, length-left)) (omega (arith, row)) ∙ rw (row, esi)
+
+  -- A flag lies in its row, and the row in what the setting needs.
+  zero-flag : (r k : ℕ) → r < s .width → k < stride (s .width) (s .size) → getD left (rowOffset (s .width) (s .size) r + k) 0 ≡ 0
+  unfolding headerSize stride
+  zero-flag r k h l = zero-at (rowOffset (s .width) (s .size) r + k) (omega arith) (omega (arith, row-fits (s .width) (stride (s .width) (s .size)) r h))
+
+  held : Holds left s (opened s)
+  held = record {
+    header = header-is;
+    rows = λ b.
+        window-free (s .width) (s .size) b left (omega (arith, v .width-least))
+        (λ r l.
+        getD-part (rowOffset (s .width) (s .size) r) (stride (s .width) (s .size)) (s .width + s .size) left
+        (omega (arith, flags-fit (s .width) (s .size)))
+        ∙ zero-flag r (s .width + s .size) l (omega (arith, flags-fit (s .width) (s .size))));
+  }
+
+  none-marked : Marks left s (opened s) nowhere
+  none-marked b i l = go (decLt i (s .width))
+    where
+      go : Dec (i < s .width) → marked (s .width) (s .size) b left i ≡ false
+      go (yes h) =
+          let r = (b + i) % s .width in
+          ap (λ k. ltb 0 (getD left k 0)) (sym (mark-row (s .width) (s .size) b i r h refl))
+          ∙ ap (ltb 0) (zero-flag r (s .width + s .size + 1) (mod-lt (b + i) (omega (arith, v .width-least)))
+          (omega (arith, flags-fit (s .width) (s .size))))
+      go (no h) =
+          ap (λ k. ltb 0 (getD left k 0)) (sym (mark-past (s .width) (s .size) b i (omega arith))) ∙ ap (ltb 0) (zero-at 10 (omega arith) (omega arith))
+
+pub opening-done : (n E w : ℕ) (s : Setting) → settingOf n E w ≡ some s → (m m′ : List ℕ) → memorySize s ≤ length m → m′ ≡ freshMemory s m
+    → Opened receiverLayout n E w m m′ (Done 0)
+opening-done n E w s e m m′ room is =
+    subst (λ x. Opened receiverLayout n E w m x (Done 0)) (sym is) record {
       answer = rw (e, le-ltb (length m) (memorySize s) room);
       refused = λ i q. absurd (subst IsRefusal (sym q) tt);
       contained = λ t q.
-          subst (λ x. Contained (memorySize x) m m″) (Option·some-injective s t (sym e ∙ q))
-          (contained-more (record { same = length-is; past = past-is }) (only-contained s m′ m″ (f .only)));
-      holds = λ t q r. subst (λ x. Holds m″ x (opened x)) (Option·some-injective s t (sym e ∙ q)) (only-holds s (opened s) m′ m″ held (f .only));
-      starts = λ t q r. subst (λ x. Marks m″ x (opened x) nowhere) (Option·some-injective s t (sym e ∙ q)) (f .marks);
+          subst (λ x. Contained (memorySize x) m (freshMemory s m)) (same t q) record { same = length-left s v m room; past = past-left s v m room };
+      holds = λ t q r. subst (λ x. Holds (freshMemory s m) x (opened x)) (same t q) (held s v m room);
+      starts = λ t q r. subst (λ x. Marks (freshMemory s m) x (opened x) nowhere) (same t q) (none-marked s v m room);
     }
+  where
+    v : Valid s
+    v = setting-names n E w s e .valid
 
-pub opening-done : (n E w : ℕ) (s : Setting) → settingOf n E w ≡ some s → (m m₁ m₂ m′ : List ℕ) → memorySize s ≤ length m → m₁ ≡ freshHeader s m
-    → Emptied (s .width) (s .size) m₁ m₂ → Cleared (s .width) (s .size) m₂ m′ → Opened receiverLayout n E w m m′ (Done 0)
-opening-done n E w s e m m₁ m₂ m′ room f k b =
-    left s (setting-names n E w s e .valid) m m₂ room (subst (λ x. Emptied (s .width) (s .size) x m₂) f k) m′ b n E w e
+    same : (t : Setting) → settingOf n E w ≡ some t → s ≡ t
+    same t q = Option·some-injective s t (sym e ∙ q)

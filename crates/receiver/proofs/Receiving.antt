@@ -1,4 +1,9 @@
 -- A packet call, by how it ends: no header, a check that fails, a packet that contradicts, or one that is accepted.
+-- Laws:
+--   no header: received-unopened
+--   a place: Ready, location-is, location-width, location-size, ready, accept-asks
+--   a check fails: received-refused, received-short, received-stopped, received-out
+--   all checks passed: reading-at, received-contradiction, received-done
 use mathlib.Core.Path.{_≡_, refl, sym, ap, _∙_, subst}
 use mathlib.Core.Logic.{_≢_}
 use mathlib.Core.Option.{Option, none, some, Option·none-ne-some, Option·some-injective}
@@ -28,8 +33,10 @@ use Rattle.admission.specs.declared.packet.Location.{Location}
 use Rattle.admission.specs.declared.packet.LocationFound.the-variants.{LocationIs, Out}
 use Rattle.admission.specs.declared.packet.Gathered.{Gathered}
 use Rattle.admission.specs.declared.packet.Gathered.the-variants.{All, Contradiction}
-use Rattle.history.specs.History.{Located, source, repair, first, named, sideOf, fromSide, Call, esiOf, Reading, fails, located, check, memorySize, workingSize, reading}
+use Rattle.history.specs.History.{Located, source, repair, first, named, sideOf, fromSide, Call, esiOf, Reading}
+use Rattle.history.specs.History.{fails, located, check, memorySize, workingSize, reading}
 use Rattle.wire.specs.Answers.{value}
+use Rattle.history.specs.History.{farthest}
 use Rattle.history.specs.Model.{Joined, State, foundBy, Outcome, packetOf, added, responds, answering, stateAfter, naming, startsAfter, marking}
 use Rattle.holding.specs.Header.{headerIn}
 use Rattle.receiver.specs.Promises.{Follows, Received}
@@ -74,7 +81,7 @@ pub record Ready (at : Location) (m v : List ℕ) : Type 0 where
   pub base : at .shape .oldest < at .shape .width
   pub first : at .first < at .shape .width
   pub small : at .shape .oldest < 65535
-  pub rise : at .rise ≤ 65536
+  pub rise : at .rise ≤ farthest
 
 module _ (h : Header) (e n : ℕ) (at : Location) (q : LocationIs at ≡ locationFound h e n) where
   pub location-is : at ≡ locationAt h (distance h e n) n
@@ -120,7 +127,7 @@ module _ (h : Header) (e n : ℕ) (at : Location) (q : LocationIs at ≡ locatio
     -- What accepting asks, once the equations are gathered.
     pub accept-asks : (v′ : List ℕ) (r : Gathered) (kept own : ℕ) → r ≡ All kept
         → WorksOn (at .shape .width) (at .shape .size) v′ r → own ≤ n → n ≤ h .setting .width
-        → Based m h × packet.Works (h .setting .width) (h .setting .size) kept v′ × (at .shape .oldest < 65535) × (at .rise ≤ 65536)
+        → Based m h × packet.Works (h .setting .width) (h .setting .size) kept v′ × (at .shape .oldest < 65535) × (at .rise ≤ farthest)
         × LocatedBy h at own
     accept-asks v′ r kept own z g l f =
         let k = subst (WorksOn (at .shape .width) (at .shape .size) v′) z g in
@@ -261,7 +268,8 @@ module _ (c : Call) (m v : List ℕ) (h : Header) (has : headerIn m ≡ some h) 
             let b : ℕ = t .base + i in
             let w : h .setting .width ≡ s .width = ap (λ (y : Header). y .setting .width) is-header in
             let x : b + (d - i) ≡ t .base + d = omega (arith, w) in
-            let spelt = subst (λ (y : Header). (b i : ℕ) → decoder.over (Coded (y .setting .size)) (y .setting .width) b (packetOf (y .setting .size) (q (b + i)))
+            let spelt = subst
+            (λ (y : Header). (b i : ℕ) → decoder.over (Coded (y .setting .size)) (y .setting .width) b (packetOf (y .setting .size) (q (b + i)))
             ≡ firsts (rows (y .setting .width) (y .setting .size) i) count) is-header spell in
             let f′ = subst (λ (y : Location). Gathers y n (rows (y .shape .width) (y .shape .size)) count r m v v′) here f in
             subst ComesAt (sym here)

@@ -1,4 +1,7 @@
 -- The call for a repair packet: its checks in the history's order, its equations at its place, and what each of its answers comes to.
+-- Laws:
+--   reading: sized
+--   the call: call-form, draws-are, call-range, call-out, gather-asks, call-draws, call-contradicts, call-done
 use mathlib.Core.Path.{_≡_, refl, sym, ap, ap₂, _∙_}
 use mathlib.Core.Bool.{Bool, true, false}
 use mathlib.Core.Option.{some}
@@ -41,7 +44,8 @@ use Rattle.admission.specs.RepairSteps.{equationAt}
 use Rattle.admission.proofs.Joining.{based}
 use Rattle.admission.proofs.Locating.{distance}
 use Rattle.admission.proofs.Repairing.{repair-equations}
-use Rattle.receiver.proofs.Receiving.{location-is, location-width, location-size, ready, received-refused, received-stopped, received-out, reading-at, received-contradiction, received-done}
+use Rattle.receiver.proofs.Receiving.{location-is, location-width, location-size, ready, received-refused, received-stopped}
+use Rattle.receiver.proofs.Receiving.{received-out, reading-at, received-contradiction, received-done}
 
 -- ---- What reading the packet found
 

@@ -1,4 +1,7 @@
 -- The call for a source packet: its checks in the history's order, and one law for each way it ends.
+-- Laws:
+--   reading: Fields, adu-length, source-fields, source-none
+--   the call: call-form, call-long, call-many, call-out, call-contradicts, call-done
 use mathlib.Core.Path.{_≡_, refl, sym, ap, ap₂, _∙_, subst}
 use mathlib.Core.Bool.{Bool, true, false, cond}
 use mathlib.Core.Option.{some}

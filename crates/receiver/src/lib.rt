@@ -10,12 +10,12 @@ use admission::source;
 use coefficients::Filled;
 use holding::Found;
 use holding::Spot;
+use holding::Stand;
 use holding::find;
 use holding::front;
 pub use holding::front::memory_size;
 pub use holding::front::working_size;
 use starts::Handed;
-use table::Shape;
 use wire::Checked;
 use wire::Esi;
 use wire::Refusal;
@@ -42,14 +42,7 @@ pub fn open(mem: &mut [u8], scheme: usize, size: usize, width: usize) -> Answer
     if mem.len() < front::memory_size(setting) {
         return Answer::Refused(Refusal::Short);
     }
-    front::write_header(mem, setting);
-    let shape = Shape {
-        width: setting.width,
-        size: setting.size,
-        oldest: 0,
-    };
-    placing::clear(mem, shape);
-    marks::clear(mem, shape);
+    front::write_fresh(mem, setting);
     Answer::Done(0)
 }
 
@@ -87,26 +80,10 @@ pub fn symbol_place(mem: &[u8], esi: Esi) -> Answer
 pub fn adu(mem: &[u8], esi: Esi, out: &mut [u8]) -> Handed
     ensures { λ r. ⌜ AduAnswered receiverLayout (now (mem .entry)) (esi .0) (now (out .entry)) (now (out .exit)) r ⌝ }
 {
-    let Found::HeaderIs(header) = front::read_header(mem) else {
-        return Handed::Withheld(Refusal::Unopened);
-    };
-    if !header.joined {
-        return Handed::Withheld(Refusal::Unknown);
+    match find::stand(mem, esi) {
+        Stand::Outside(refusal) => Handed::Withheld(refusal),
+        Stand::Inside(shape, d) => handing::hand_out(mem, shape, d, out),
     }
-    let width = header.setting.width;
-    let d = esi.distance(header.esi) as usize;
-    if d >= 2147483648 {
-        return Handed::Withheld(Refusal::Behind);
-    }
-    if d >= width {
-        return Handed::Withheld(Refusal::Unknown);
-    }
-    let shape = Shape {
-        width,
-        size: header.setting.size,
-        oldest: header.oldest,
-    };
-    handing::hand_out(mem, shape, d, out)
 }
 
 // Receives a source packet that came with a flow. The state is only read until all its symbols are known to agree with it. Gives how many

@@ -16,7 +16,7 @@ use Rattle.coefficients.specs.Coefficients.{nonzeroFrom, bitOf, byteOf, extend,
 use Rattle.decoder.specs.Model as model
 use Rattle.decoder.specs.Receiver as decoder
 use Rattle.decoder.specs.Packets as packets
-use Rattle.history.specs.History.{sideOf, check, fromSide, readSource, readRepair, reading}
+use Rattle.history.specs.History.{halfway, sideOf, check, farthest, fromSide, readSource, readRepair, reading}
 use Rattle.history.specs.Model.{answering}
 use Rattle.text.specs.Text.{ascii, digit, decimalWithin, decimal}
 use Rattle.printing.specs.Printed.{recordLine, lastLine}
@@ -46,7 +46,7 @@ unfolding
     symbolCount adui sourceSymbols sourceForm sourceAdu sourceEsi
     repairCount repairForm repairKey densityThreshold protectedCount firstEsi repairSymbols
     inRange settingOf part
-    sideOf check fromSide readSource readRepair reading answering
+    halfway sideOf check farthest fromSide readSource readRepair reading answering
     packets.source packets.source-rows packets.row packets.only packets.repair
     decoder.empty decoder.receive decoder.rise decoder.newly decoder.count-new decoder.is-new
     decoder.embed decoder.advance-by decoder.insert-all

@@ -27,6 +27,7 @@ use Rattle.starts.specs.Starts.{Starts, nowhere, pass}
 use Rattle.history.specs.Symbol.{bytesOf}
 use Rattle.history.specs.History.{Call, source-call, repair-call, esiOf, sideOf, check, fromSide, readSource, readRepair, reading, workingSize}
 use Rattle.wire.specs.Answers.{Said, value, refusal as refuses}
+use Rattle.history.specs.History.{halfway, farthest}
 use Rattle.history.specs.Model as receiver
 use Rattle.receiver.specs.Promises.{drawsFor}
 use Rattle.history.specs.Model.{State, foundBy, saidOf, stateAfter, answering, receiving, Finding, shows, hides, finding, startsAfter, marking, aduAt}
@@ -337,7 +338,7 @@ unfolding
     symbolCount adui sourceSymbols sourcePacket sourceForm sourceAdu sourceEsi
     repairHeader repairPacket repairCount repairForm repairKey densityThreshold protectedCount firstEsi repairSymbols
     inRange settingOf field part settingIn headerSize headerIn repairSymbol opening adding repairing
-    sideOf check fromSide readSource readRepair reading answering finding
+    halfway sideOf check farthest fromSide readSource readRepair reading answering finding
     packets.source packets.source-rows packets.row packets.only packets.repair
     decoder.empty decoder.receive decoder.rise decoder.newly decoder.count-new decoder.is-new
     decoder.embed decoder.advance-by decoder.insert-all

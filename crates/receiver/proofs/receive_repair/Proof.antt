@@ -38,23 +38,34 @@ header p = p .header .given .0 .0
 has : (p : tie.After-header) → headerIn (p .before .before .before .before .before .before .before .args .mem .now) ≡ some (header p)
 has p = header-is _ (header p) (p .before .before .read-header .ensures) (p .header .given .1)
 
-lent : (p : tie.Else1) → workingSize (header (p .before .before .before .before) .setting) ≤ length (p .before .before .before .before .before .before .before .before .before .before .before .args .work .now)
+lent : (p : tie.Else1)
+    → workingSize (header (p .before .before .before .before) .setting) ≤ length
+    (p .before .before .before .before .before .before .before .before .before .before .before .args .work .now)
 lent p = rw (p .before .working-size .ensures) at (p .if1 .left)
 
 abbrev fields : tie.After-fields → RepairFields
 fields p = p .fields .given .0 .0
 
-read : (p : tie.After-fields) → Repair (fields p) ≡ repairHeaderOf (header (p .before .before .before .before .before .before .before) .setting .size) (p .before .before .before .before .before .before .before .before .before .before .before .before .before .before .args .packet .now)
+read : (p : tie.After-fields)
+    → Repair (fields p) ≡ repairHeaderOf (header (p .before .before .before .before .before .before .before) .setting .size)
+    (p .before .before .before .before .before .before .before .before .before .before .before .before .before .before .args .packet .now)
 read p = sym (p .fields .given .1) ∙ p .before .before .read-repair .ensures
 
-fits : (p : tie.Else2) → within 1 (header (p .before .before .before .before .before .before .before .before .before .before) .setting .width) (fields (p .before .before .before) .nss) ≡ true
+fits : (p : tie.Else2)
+    → within 1 (header (p .before .before .before .before .before .before .before .before .before .before) .setting .width)
+    (fields (p .before .before .before) .nss) ≡ true
 fits p = sym (p .before .between .ensures) ∙ not-false (p .before .between .result) (p .if2 .left)
 
 -- no more symbols than the width, and lists that fit the room for them
 few : (p : tie.Else2) → fields (p .before .before .before) .nss ≤ 255
 few p =
     let h = p .before .before .before .before .before .before .before .before .before .before in
-    omega (arith, within-bounds 1 (header h .setting .width) (fields (p .before .before .before) .nss) (fits p) .1, headed _ (header h) (has h) .valid .width-most)
+    omega (
+      arith,
+      within-bounds 1 (header h .setting .width) (fields (p .before .before .before) .nss) (fits p) .1,
+      headed _ (header h)
+          (has h) .valid .width-most,
+    )
 
 lists-fit : (p : tie.Else2) → fields (p .before .before .before) .count * fields (p .before .before .before) .nss ≤ 4080
 lists-fit p = mul-le-mul (sized _ _ (fields (p .before .before .before)) (read (p .before .before .before)) .0) (few p)
@@ -127,8 +138,12 @@ locate-requires c κs =
     let e = c .before in
     let q = e .before .before .before in
     let p = q .before .before .before .before .before .before .before in
-    rw (c .join .ensures)
-    (headed _ (header p) (has p) .valid, based _ (header p) (fields q .first .0) (has p) .row-lt, within-bounds 1 (header p .setting .width) (fields q .nss) (fits e) .1)
+    rw (c .join .ensures) (
+      headed _ (header p) (has p) .valid,
+      based _ (header p) (fields q .first .0) (has p) .row-lt,
+      within-bounds 1 (header p .setting .width)
+          (fields q .nss) (fits e) .1,
+    )
 
 returns-5 : tie.Need-returns-5
 returns-5 c =
@@ -138,7 +153,8 @@ returns-5 c =
     let q = p .before .before .before in
     answered-refused
     (call-out _ _ _ (header h) (has h) (lent (p .before .before .before .before .before .before)) (fields q) (read q) (fits p) _
-    (sym (c .before .refusal .given .1) ∙ c .before .before .before .locate .ensures ∙ ap (λ (x : Header). locationFound x (fields q .first .0) (fields q .nss)) (joined .join .ensures)))
+    (sym (c .before .refusal .given .1) ∙ c .before .before .before .locate .ensures
+    ∙ ap (λ (x : Header). locationFound x (fields q .first .0) (fields q .nss)) (joined .join .ensures)))
 
 fill-lists-requires : tie.Need-fill-lists-requires
 fill-lists-requires c κs =

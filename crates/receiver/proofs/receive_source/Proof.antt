@@ -34,14 +34,17 @@ says : (p : tie.After-header) → Headed (p .before .before .before .before .bef
 says p = headed _ (header p) (has p)
 
 -- working memory is long enough
-room : (p : tie.Else1) → workingSize (header (p .before .before .before .before) .setting) ≤ length (p .before .before .before .before .before .before .before .before .before .before .before .args .work .now)
+room : (p : tie.Else1)
+    → workingSize (header (p .before .before .before .before) .setting) ≤ length
+    (p .before .before .before .before .before .before .before .before .before .before .before .args .work .now)
 room p = rw (p .before .working-size .ensures) at (p .if1 .left)
 
 -- the packet's fields
 abbrev fields : tie.After-fields → SourceFields
 fields p = p .fields .given .0 .0
 
-reads : (p : tie.After-fields) → Fields (p .before .before .before .before .before .before .before .before .before .before .before .before .before .before .args .packet .now) (fields p)
+reads : (p : tie.After-fields)
+    → Fields (p .before .before .before .before .before .before .before .before .before .before .before .before .before .before .args .packet .now) (fields p)
 reads p = source-fields _ (fields p) (p .before .before .read-source .result) (p .before .before .read-source .ensures) (p .fields .given .1)
 
 -- the packet's location, and what was read before it
@@ -54,7 +57,8 @@ read-header p = p .before .before .before .before .before .before .before .befor
 abbrev read-fields : tie.After-at → tie.After-fields
 read-fields p = p .before .before .before .before .before .before .before .before .before .before
 
-long-enough : (p : tie.After-at) → workingSize (header (read-header p) .setting) ≤ length (read-header p .before .before .before .before .before .before .before .args .work .now)
+long-enough : (p : tie.After-at)
+    → workingSize (header (read-header p) .setting) ≤ length (read-header p .before .before .before .before .before .before .before .args .work .now)
 long-enough p = room (read-fields p .before .before .before)
 
 -- the header for the packet
@@ -64,10 +68,13 @@ base p = headerFor (header (read-header p)) (fields (read-fields p) .first .0)
 bases : (p : tie.After-at) → Based (read-header p .before .before .before .before .before .before .before .args .mem .now) (base p)
 bases p = based _ (header (read-header p)) (fields (read-fields p) .first .0) (has (read-header p))
 
-found : (p : tie.After-at) → LocationIs (location p) ≡ locationFound (base p) (fields (read-fields p) .first .0) (p .before .before .before .before .before .before .symbol-count .result)
+found : (p : tie.After-at)
+    → LocationIs (location p) ≡ locationFound (base p) (fields (read-fields p) .first .0)
+    (p .before .before .before .before .before .before .symbol-count .result)
 found p =
     sym (p .at .given .1) ∙ p .before .before .locate .ensures
-    ∙ ap (λ (x : Header). locationFound x (fields (read-fields p) .first .0) (p .before .before .before .before .before .before .symbol-count .result)) (p .before .before .before .join .ensures)
+    ∙ ap (λ (x : Header). locationFound x (fields (read-fields p) .first .0) (p .before .before .before .before .before .before .symbol-count .result))
+    (p .before .before .before .join .ensures)
 
 returns : tie.Need-returns
 returns c = answered-refused (received-unopened _ _ _ (header-none _ (c .before .before .read-header .ensures) (c .enum-told .given .1)))
@@ -94,14 +101,16 @@ returns-4 c =
     answered-refused (call-long _ _ _ _ (header p) (has p) (room (q .before .before .before)) (fields q) (reads q) (c .if2 .taken))
 
 symbol-count-requires : tie.Need-symbol-count-requires
-symbol-count-requires c κs = let v = says (c .before .before .before .before .before .before .before .before .before .before) .valid in omega (arith, v .size-least, v .size-most, c .if2 .left)
+symbol-count-requires c κs = let v = says (c .before .before .before .before .before .before .before .before .before .before) .valid in omega
+    (arith, v .size-least, v .size-most, c .if2 .left)
 
 returns-5 : tie.Need-returns-5
 returns-5 c =
     let q = c .before .before .before .before .before .before in
     let p = q .before .before .before .before .before .before .before in
     answered-refused
-    (call-many _ _ _ _ (header p) (has p) (room (q .before .before .before)) (fields q) (reads q) (c .before .before .before .if2 .left) _ (c .before .before .symbol-count .ensures)
+    (call-many _ _ _ _ (header p) (has p) (room (q .before .before .before)) (fields q) (reads q) (c .before .before .before .if2 .left) _
+    (c .before .before .symbol-count .ensures)
     (c .if3 .taken))
 
 join-requires : tie.Need-join-requires
@@ -119,9 +128,11 @@ returns-6 c =
     let q = j .before .before .before .before .before .before .before in
     let p = q .before .before .before .before .before .before .before in
     answered-refused
-    (call-out _ _ _ _ (header p) (has p) (room (q .before .before .before)) (fields q) (reads q) (j .before .before .before .before .if2 .left) _ (j .before .before .before .symbol-count .ensures)
+    (call-out _ _ _ _ (header p) (has p) (room (q .before .before .before)) (fields q) (reads q) (j .before .before .before .before .if2 .left) _
+    (j .before .before .before .symbol-count .ensures)
     (j .before .if3 .left) _
-    (sym (c .before .refusal .given .1) ∙ c .before .before .before .locate .ensures ∙ ap (λ (x : Header). locationFound x (fields q .first .0) (j .before .before .before .symbol-count .result)) (j .join .ensures)))
+    (sym (c .before .refusal .given .1) ∙ c .before .before .before .locate .ensures
+    ∙ ap (λ (x : Header). locationFound x (fields q .first .0) (j .before .before .before .symbol-count .result)) (j .join .ensures)))
 
 part-requires : tie.Need-part-requires
 part-requires c κs = omega (arith, reads (read-fields (c .before)) .within)
@@ -147,7 +158,8 @@ returns-7 c =
     let p = c .before .before .before .before .before .before .before .before .before in
     let gathered = c .before .before .before .before .gather-source in
     answered-refused (call-contradicts _ _ _ _ (header (read-header p)) (has (read-header p)) (long-enough p) (fields (read-fields p)) (reads (read-fields p))
-    (p .before .before .before .before .before .before .before .if2 .left) _ (p .before .before .before .before .before .before .symbol-count .ensures) (p .before .before .before .before .if3 .left) (location p) (found p) _ _ (c .before .before .before .before .before .before .before .part .ensures .bytes)
+    (p .before .before .before .before .before .before .before .if2 .left) _ (p .before .before .before .before .before .before .symbol-count .ensures)
+    (p .before .before .before .before .if3 .left) (location p) (found p) _ _ (c .before .before .before .before .before .before .before .part .ensures .bytes)
     (gathered .result) (gathered .ensures) (c .enum-told3 .given .1))
 
 accept-requires : tie.Need-accept-requires
@@ -157,7 +169,8 @@ accept-requires c κs =
     let gathered = c .before .before .before .before .before .before .before .gather-source in
     rw (p .before .before .before .join .ensures)
     (accept-asks _ _ _ (location p) (found p) _ (start .args .work .now) (bases p) (long-enough p)
-    _ (gathered .result) _ _ (c .before .before .before .kept .given .1) (gathered .ensures .works) (omega arith) (p .before .before .before .before .if3 .left))
+    _ (gathered .result) _ _ (c .before .before .before .kept .given .1) (gathered .ensures .works) (omega arith)
+    (p .before .before .before .before .if3 .left))
 
 returns-8 : tie.Need-returns-8
 returns-8 c =
@@ -165,9 +178,12 @@ returns-8 c =
     let gathered = c .before .before .before .before .before .before .before .before .before .before .gather-source in
     let kept = c .before .before .before .before .before .before .kept .given .1 in
     let accepted = rw (p .before .before .before .join .ensures) at (c .before .before .accept .ensures) in
-    answered-done (header (read-header p)) (base p) _ _ _ (gathered .result) _ _ _ _ (has (read-header p)) kept (gathered .ensures .works) accepted refl (omega arith)
+    answered-done (header (read-header p)) (base p) _ _ _ (gathered .result) _ _ _ _ (has (read-header p)) kept (gathered .ensures .works) accepted refl
+    (omega arith)
     (call-done _ _ _ _ (header (read-header p)) (has (read-header p)) (long-enough p) (fields (read-fields p)) (reads (read-fields p))
-    (p .before .before .before .before .before .before .before .if2 .left) _ (p .before .before .before .before .before .before .symbol-count .ensures) (p .before .before .before .before .if3 .left) (location p) (found p) _ _ (c .before .before .before .before .before .before .before .before .before .before .before .before .before .part .ensures .bytes)
+    (p .before .before .before .before .before .before .before .if2 .left) _ (p .before .before .before .before .before .before .symbol-count .ensures)
+    (p .before .before .before .before .if3 .left) (location p) (found p) _ _
+    (c .before .before .before .before .before .before .before .before .before .before .before .before .before .part .ensures .bytes)
     (gathered .result) (gathered .ensures) _ _ _ kept accepted)
 
 pub receive-source-spec : {M : Type 1} → statement M

@@ -20,78 +20,81 @@ Inv-loop mem work₀ lists packet location n count size kept₀ i₀ work kept i
 abbrev μ-loop : tie.MeasureT-loop
 μ-loop mem work₀ lists packet location n count size kept₀ i₀ work kept i = count - i
 
--- list i lies in the lists, and symbol i in the packet
-within : (p : tie.In-loop Inv-loop μ-loop) → p .before .loop .i * p .before .before .before .before .before .before .args .n + p .before .before .before .before .before .before .args .n ≤ length (p .before .before .before .before .before .before .args .lists .now)
-within p = let s = p .before .before .before .before .before .before in omega (arith, row-fits (s .args .count) (s .args .n) (p .before .loop .i) (p .loop-test .taken), s .pre .5)
+-- The call's entry, from a turn of the loop.
+abbrev start : tie.In-loop Inv-loop μ-loop → tie.Start Inv-loop μ-loop
+start p = p .before .before .before .before .before .before
 
-inside : (p : tie.In-loop Inv-loop μ-loop) → 8 + p .before .loop .i * p .before .before .before .before .before .before .args .location .shape .size + p .before .before .before .before .before .before .args .location .shape .size ≤ length (p .before .before .before .before .before .before .args .packet .now)
-inside p =
-    let s = p .before .before .before .before .before .before in
-    omega (arith, row-fits (s .args .count) (s .args .location .shape .size) (p .before .loop .i) (p .loop-test .taken), s .pre .6)
+-- List i lies in the lists, and symbol i in the packet.
+within : (p : tie.In-loop Inv-loop μ-loop)
+    → let a = start p .args in
+    p .before .loop .i * a .n + a .n ≤ length (a .lists .now)
+within p = let s = start p in omega (arith, row-fits (s .args .count) (s .args .n) (p .before .loop .i) (p .loop-test .taken), s .pre .5)
 
--- what the loop's body did, of list i and symbol i
+inside : (p : tie.In-loop Inv-loop μ-loop)
+    → let a = start p .args in
+    8 + p .before .loop .i * a .location .shape .size + a .location .shape .size ≤ length (a .packet .now)
+inside p = let s = start p in omega (arith, row-fits (s .args .count) (s .args .location .shape .size) (p .before .loop .i) (p .loop-test .taken), s .pre .6)
+
+-- What the loop's body did, of list i and symbol i.
 one : (p : tie.After-admit-symbol Inv-loop μ-loop)
-    → Admits (p .before .before .before .before .before .before .before .before .before .before .args .location) (p .before .before .before .before .before .before .before .before .before .before .args .n) (λ d. equationAt (p .before .before .before .before .before .before .before .before .before .before .args .location .shape .width) (p .before .before .before .before .before .before .before .before .before .before .args .location .shape .size) (p .before .before .before .before .before .before .before .before .before .before .args .n) (p .before .before .before .before .before .before .before .before .before .before .args .lists .now) (p .before .before .before .before .before .before .before .before .before .before .args .packet .now) d (p .before .before .before .before .before .loop .i)) (p .before .before .before .before .before .loop .kept) (p .admit-symbol .result) (p .before .before .before .before .before .before .before .before .before .before .args .mem .now) (p .before .before .before .before .before .loop .work) (p .admit-symbol .last .1 .0)
+    → let q = p .before .before .before .before in
+    let a = start q .args in
+    let l = q .before .loop in
+    let s = a .location .shape in
+    Admits (a .location) (a .n) (λ d. equationAt (s .width) (s .size) (a .n) (a .lists .now) (a .packet .now) d (l .i)) (l .kept)
+    (p .admit-symbol .result) (a .mem .now) (l .work) (p .admit-symbol .last .1 .0)
 one p =
-    let a = p .before .before .before .before .before .before .before .before .before .before .args in
-    let i = p .before .before .before .before .before .loop .i in
-    let size = a .location .shape .size in
     let q = p .before .before .before .before in
-    symbol-of (a .location) (p .before .before .before .before .before .loop .kept) (a .n) i _ (a .lists .now) (a .packet .now) (a .mem .now) (p .before .before .before .before .before .loop .work) _ _ (cut (i * a .n) (a .n) (a .lists .now))
-    (rw (cut (i * a .n) (a .n) (a .lists .now)) (length-part (i * a .n) (a .n) (a .lists .now) (within q))) (rw (cut (8 + i * size) size (a .packet .now)) at (p .admit-symbol .ensures))
+    let a = start q .args in
+    let l = q .before .loop in
+    let i = l .i in
+    let size = a .location .shape .size in
+    symbol-of (a .location) (l .kept) (a .n) i _ (a .lists .now) (a .packet .now) (a .mem .now) (l .work) _ _ (cut (i * a .n) (a .n) (a .lists .now))
+    (rw (cut (i * a .n) (a .n) (a .lists .now)) (length-part (i * a .n) (a .n) (a .lists .now) (within q)))
+    (rw (cut (8 + i * size) size (a .packet .now)) at (p .admit-symbol .ensures))
 
--- src/repair.rt:54:5
 loop-holds : tie.Need-loop-holds Inv-loop μ-loop
 loop-holds c =
     let s = c .before .before .before .before in
-    let a = s .args in
-    (omega arith, gathers-none (a .location) (a .n) (equationAt (a .location .shape .width) (a .location .shape .size) (a .n) (a .lists .now) (a .packet .now)) (a .mem .now) (a .work .now) (s .pre .1))
+    let a = s .args in (
+      omega arith,
+      gathers-none (a .location) (a .n)
+          (equationAt (a .location .shape .width) (a .location .shape .size) (a .n) (a .lists .now) (a .packet .now)) (a .mem .now) (a .work .now) (s .pre .1),
+    )
 
--- src/repair.rt:55:20
 mul-from : tie.Need-mul-from Inv-loop μ-loop
 mul-from c = omega (arith, within c)
 
--- src/repair.rt:56:22
 mul-at : tie.Need-mul-at Inv-loop μ-loop
 mul-at c = omega (arith, inside c)
 
--- src/repair.rt:56:18
 add-at : tie.Need-add-at Inv-loop μ-loop
 add-at c = omega (arith, inside c)
 
--- src/repair.rt:60:26
 add-admit-symbol : tie.Need-add-admit-symbol Inv-loop μ-loop
 add-admit-symbol c = omega (arith, within (c .before))
 
--- src/repair.rt:60:13
 sub-admit-symbol : tie.Need-sub-admit-symbol Inv-loop μ-loop
 sub-admit-symbol c = omega arith
 
--- src/repair.rt:60:13
 part-admit-symbol-start : tie.Need-part-admit-symbol-start Inv-loop μ-loop
 part-admit-symbol-start c = omega arith
 
--- src/repair.rt:60:13
 part-admit-symbol-end : tie.Need-part-admit-symbol-end Inv-loop μ-loop
 part-admit-symbol-end c = omega (arith, within (c .before))
 
--- src/repair.rt:61:24
 add-admit-symbol-2 : tie.Need-add-admit-symbol-2 Inv-loop μ-loop
 add-admit-symbol-2 c = omega (arith, inside (c .before .before))
 
--- src/repair.rt:61:13
 sub-admit-symbol-2 : tie.Need-sub-admit-symbol-2 Inv-loop μ-loop
 sub-admit-symbol-2 c = omega arith
 
--- src/repair.rt:61:13
 part-admit-symbol-start-2 : tie.Need-part-admit-symbol-start-2 Inv-loop μ-loop
 part-admit-symbol-start-2 c = omega arith
 
--- src/repair.rt:61:13
 part-admit-symbol-end-2 : tie.Need-part-admit-symbol-end-2 Inv-loop μ-loop
 part-admit-symbol-end-2 c = omega (arith, inside (c .before .before))
 
--- src/repair.rt:57:34
 admit-symbol-requires : tie.Need-admit-symbol-requires Inv-loop μ-loop
 admit-symbol-requires c κs =
     let s = c .before .before .before .before .before .before .before .before .before in
@@ -107,19 +110,16 @@ admit-symbol-requires c κs =
       rw (cut (8 + l .i * size) size (a .packet .now)) (length-part (8 + l .i * size) size (a .packet .now) (inside p)),
     )
 
--- src/repair.rt:57:27
 enum-known-now : tie.Need-enum-known-now Inv-loop μ-loop
 enum-known-now c = search needs
 
--- src/repair.rt:66:13
 enum-told : tie.Need-enum-told Inv-loop μ-loop
 enum-told c = search needs
 
--- src/repair.rt:66:13
 same-length : tie.Need-same-length Inv-loop μ-loop
-same-length c = one (c .before .before .before .before) .contained .same ∙ c .before .before .before .before .before .before .before .before .before .loop .inv .1 .contained .same
+same-length c = one (c .before .before .before .before) .contained .same
+    ∙ c .before .before .before .before .before .before .before .before .before .loop .inv .1 .contained .same
 
--- src/repair.rt:66:13
 returns : tie.Need-returns Inv-loop μ-loop
 returns c =
     let a = c .before .before .before .before .before .before .before .before .before .before .before .before .before .before .args in
@@ -128,29 +128,27 @@ returns c =
     gathers-stop _ _ _ _ _ (l .i) (a .count) (l .kept) (admitted .admit-symbol .result) (l .work) (admitted .admit-symbol .last .1 .0)
     (omega (arith, admitted .before .before .before .before .loop-test .taken)) (l .inv .1) (one admitted) (c .enum-told .given .1)
 
--- src/repair.rt:54:9
 add-i : tie.Need-add-i Inv-loop μ-loop
 add-i c =
     let t = c .before .before .before .before .before .before .before .before .before in
     omega (arith, t .loop-test .taken, t .before .before .before .before .before .before .pre .7)
 
--- src/repair.rt:54:5
 loop-less : tie.Need-loop-less Inv-loop μ-loop
 loop-less c = omega (arith, c .before .before .before .before .before .before .before .before .before .loop-test .taken)
 
--- src/repair.rt:54:5
 loop-again : tie.Need-loop-again Inv-loop μ-loop
 loop-again c =
     let l = c .before .before .before .before .before .before .before .before .before .before .loop in
     let admitted = c .before .before .before .before .before in
-    let t = c .before .before .before .before .before .before .before .before .before .loop-test .taken in
-    (omega (arith, t), gathers-on _ _ _ _ _ (l .i) (l .kept) _ (admitted .admit-symbol .result) (l .work) (admitted .admit-symbol .last .1 .0) (l .inv .1) (one admitted) (c .before .now .given .1))
+    let t = c .before .before .before .before .before .before .before .before .before .loop-test .taken in (
+      omega (arith, t),
+      gathers-on _ _ _ _ _ (l .i) (l .kept) _ (admitted .admit-symbol .result) (l .work) (admitted .admit-symbol .last .1 .0)
+          (l .inv .1) (one admitted) (c .before .now .given .1),
+    )
 
--- src/repair.rt:38:1
 same-length-2 : tie.Need-same-length-2 Inv-loop μ-loop
 same-length-2 c = c .before .loop .inv .1 .contained .same
 
--- src/repair.rt:38:1
 returns-2 : tie.Need-returns-2 Inv-loop μ-loop
 returns-2 c = let l = c .before .loop in gathers-all _ _ _ _ _ (l .i) _ (l .kept) (l .work) (omega arith) (l .inv .1)
 

@@ -10,8 +10,15 @@ admit-equation-requires : tie.Need-admit-equation-requires
 admit-equation-requires c κs =
     let start = c .before .before .before .before .before .before .before .before .before .before .before in
     let a = start .args in
-    let p = start .pre in
-    (p .0, works-stored _ _ (a .kept) _ _ _ (p .1) (length-symbol (a .flow) _ _ (a .i) (omega (arith, p .1 .some-symbol)) (p .5)) (c .before .before .before .before .write-row .ensures), p .2, c .before .before .before .before .before .before .row-after .ensures .small, omega (arith, p .1 .some-width))
+    let p = start .pre in (
+      p .0,
+      works-stored _ _ (a .kept) _ _ _ (p .1) (length-symbol (a .flow) _ _ (a .i) (omega (arith, p .1 .some-symbol)) (p .5))
+          (c .before .before .before .before .write-row .ensures),
+      p .2,
+      c .before .before .before .before .before .before .row-after .ensures .small,
+      omega
+          (arith, p .1 .some-width),
+    )
 
 returns : tie.Need-returns
 returns c =

@@ -13,7 +13,8 @@ use Rattle.admission.proofs.source.gather_source.Tie as tie
 
 abbrev Inv-loop : tie.InvT-loop
 Inv-loop mem work₀ location flow adu count kept₀ i₀ work kept i =
-    (i ≤ count) × Gathers location (symbolCount (location .shape .size) (length adu)) (equationOf (location .shape .width) (location .shape .size) flow adu) i (All kept) mem work₀ work
+    (i ≤ count) × Gathers location (symbolCount (location .shape .size) (length adu))
+    (equationOf (location .shape .width) (location .shape .size) flow adu) i (All kept) mem work₀ work
 
 abbrev μ-loop : tie.MeasureT-loop
 μ-loop mem work₀ location flow adu count kept₀ i₀ work kept i = count - i

@@ -13,13 +13,15 @@ use Rattle.admission.proofs.source.write_row.Statement.{statement}
 use Rattle.admission.proofs.source.write_row.Tie as tie
 
 -- the row lies in working memory
-inside : (p : tie.After-symbol-offset) → p .symbol-offset .result + p .before .before .before .args .shape .size ≤ length (p .before .before .before .args .work .now)
+inside : (p : tie.After-symbol-offset)
+    → p .symbol-offset .result + p .before .before .before .args .shape .size ≤ length (p .before .before .before .args .work .now)
 inside p =
     let a = p .before .before .before .args in
     omega (arith, p .symbol-offset .ensures .start, row-room (a .shape .width) (a .shape .size) (a .k) (a .work .now) (p .before .before .before .pre .0))
 
 lent : (p : tie.After-symbol-offset)
-    → length (take (p .symbol-offset .result + p .before .before .before .args .shape .size - p .symbol-offset .result) (drop (p .symbol-offset .result) (p .before .before .before .args .work .now)))
+    → length (take (p .symbol-offset .result + p .before .before .before .args .shape .size - p .symbol-offset .result)
+    (drop (p .symbol-offset .result) (p .before .before .before .args .work .now)))
     ≡ p .before .before .before .args .shape .size
 lent p =
     let a = p .before .before .before .args in
