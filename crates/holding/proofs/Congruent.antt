@@ -306,7 +306,3 @@ module _ (s : Setting) where
       subst (λ S. let x : Joined s = record { base = u .base; window = S } in Agree w (marking s t M r (responds s t r)) (marking s x N q (responds s x q)))
       (k .window)
       (marking-shifted (t .base) (u .base) (t .window) M N a r q (reading-shifted (t .base) (u .base) s room c (k .esi)))
-
-  pub same-after : (o p : Outcome s) → Alike s o p → (t u : State s) → Same s t u → Same s (stateAfter t o) (stateAfter u p)
-  same-after o p (both-refused n) t u k = k
-  same-after o p (both-done n x y e) t u k = e

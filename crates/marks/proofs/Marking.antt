@@ -1,5 +1,5 @@
 -- Marks that are set, dropped and moved on.
--- One mark: written, written-only, added. The first are dropped: dropped-none, dropped-more, dropped-to, cleared.
+-- One mark: written, written-only, added. The first are dropped: dropped-none, dropped-more, dropped-to.
 -- The window moves on: moved-none, moved-far, moved-near.
 use mathlib.Core.Path.{_≡_, refl, sym, ap, _∙_, subst}
 use mathlib.Core.Logic.{_≢_}
@@ -16,7 +16,7 @@ use borrow.Author.Tests.{eq-eqb, ne-eqb, le-leb, lt-leb}
 use Rattle.starts.specs.Starts.{Starts, also, moved}
 use Rattle.marks.specs.Marks.{markAt, marked, Marks, OnlyMarks}
 use Rattle.marks.specs.MarkSteps.{markByte, Written, Dropped}
-use Rattle.marks.specs.Contracts.{Cleared, MarkSet, MarksMoved}
+use Rattle.marks.specs.Contracts.{MarkSet, MarksMoved}
 use Rattle.marks.proofs.Only.{mark-row, mark-past, mark-apart, no-mark, only-refl, only-trans}
 
 -- ---- one mark
@@ -84,9 +84,6 @@ none-left w E oldest m m′ near f b i = go (decLt i w)
         ap (λ x. ltb 0 (getD m′ x 0)) (sym (mark-row w E b i r a refl) ∙ mark-row w E oldest j r l e) ∙ ap (ltb 0) (f .gone j (omega arith))
     go (no a) =
         ap (λ x. ltb 0 (getD m′ x 0)) (sym (mark-past w E b i (omega arith)) ∙ mark-past w E oldest w (omega arith)) ∙ ap (ltb 0) (f .gone w (omega arith))
-
-pub cleared : (w E oldest : ℕ) (m m′ : List ℕ) → oldest < w → Dropped w E oldest (w + 1) m m′ → Cleared w E m m′
-cleared w E oldest m m′ near f = record { only = f .only; marks = λ b i l. none-left w E oldest m m′ near f b i }
 
 -- ---- the window moves on
 

@@ -10,11 +10,6 @@ use Rattle.starts.specs.Starts.{Starts, nowhere, also, moved, pass, seen}
 use Rattle.marks.specs.Marks.{Marks, OnlyMarks, notedIn, OnlyStarts}
 use Rattle.starts.specs.Settled.{Settled}
 
--- No position is marked, wherever the base will be.
-pub record Cleared (w E : ℕ) (m m′ : List ℕ) : Type 0 where
-  pub only : OnlyMarks w E m m′
-  pub marks : (oldest : ℕ) → Marks w E oldest m′ nowhere
-
 -- One more position is marked.
 pub record MarkSet (w E oldest i : ℕ) (m m′ : List ℕ) : Type 0 where
   pub only : OnlyMarks w E m m′

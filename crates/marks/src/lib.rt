@@ -5,7 +5,7 @@ ghost use lib.ListN.{length};
 ghost use Rattle.table.specs.Window.{headerSize, rowOffset, Fits};
 ghost use Rattle.marks.specs.Marks.{markAt, marked};
 ghost use Rattle.marks.specs.MarkSteps.{Written, Dropped, Noted, Stepped, Followed, Owned, Decided, Extended, Updated, OneKnown, Tallied};
-ghost use Rattle.marks.specs.Contracts.{Cleared, MarkSet, MarksMoved, Passed};
+ghost use Rattle.marks.specs.Contracts.{MarkSet, MarksMoved, Passed};
 use table::Shape;
 
 // Where the mark of the i-th position of the window, or of the one just past it, stands.
@@ -83,14 +83,6 @@ fn set(mem: &mut [u8], shape: Shape, i: usize)
     ensures { λ _. ⌜ MarkSet (shape .width) (shape .size) (shape .oldest) i (now (mem .entry)) (now (mem .exit)) ⌝ }
 {
     write(mem, shape, i, 1);
-}
-
-// No position is marked.
-pub fn clear(mem: &mut [u8], shape: Shape)
-    requires { ⌜ Fits (shape .width) (shape .size) (now mem) × (shape .oldest < shape .width) ⌝ }
-    ensures { λ _. ⌜ Cleared (shape .width) (shape .size) (now (mem .entry)) (now (mem .exit)) ⌝ }
-{
-    drop_first(mem, shape, shape.width + 1);
 }
 
 // The window moves on by `rise` positions: marks below its base are dropped, and the one just past it comes into a row.

@@ -1,6 +1,5 @@
 -- To unmark the rows of the positions that leave moves the window on.
 -- One row unmarked: other, moved-to. Row after row: Leaving, leaving-none, leaving-more. A rise past the width: position, window-free, moved-past.
--- All rows unmarked: Emptying, emptying-none, emptying-more, emptied.
 use mathlib.Core.Path.{_≡_, refl, sym, ap, _∙_, subst}
 use mathlib.Core.Logic.{_≢_}
 use mathlib.Core.Bool.{Bool, true, false, true≢false}
@@ -23,7 +22,7 @@ use Rattle.decoder.proofs.Jump.{advance-by-suc, advance-by-empty}
 use Rattle.decoder.proofs.Refine.{view-advance}
 use Rattle.decoder.proofs.Steps.{moves-echelon}
 use Rattle.table.specs.Window.{row, flag, inUse, line, table, Window, Fits, Kept}
-use Rattle.placing.specs.Place.{Emptied, RowsMoved}
+use Rattle.placing.specs.Place.{RowsMoved}
 use Rattle.table.specs.RowSteps.{flagged}
 use Rattle.table.proofs.Rows.{kept-refl, kept-trans, fits-kept}
 use Rattle.table.proofs.Flags.{unused, unused-flag, flagged-unused, flagged-flag, flagged-rest, flagged-kept, flags-changed}
@@ -183,28 +182,3 @@ moved-past w E oldest rise m m′ pos g f = record {
       (window-anywhere w E (b + w) (b + rise) m′ pos
       (subst (λ S′. Window w E m′ (b + w) S′) (advance-by-empty w S (omega arith)) (f .moves b S e h)));
 }
-
--- The rows before `i` are not in use.
-pub record Emptying (w E i : ℕ) (m m′ : List ℕ) : Type 0 where
-  pub kept : Kept w E m m′
-  pub free : (q : ℕ) → q < i → flag w E (row w E q m′) ≡ 0
-
-pub emptying-none : (w E : ℕ) (m : List ℕ) → Emptying w E 0 m m
-emptying-none w E m = record { kept = kept-refl; free = λ q h. absurd (omega arith) }
-
-pub emptying-more : (w E i : ℕ) (m m₁ m₂ : List ℕ) → Fits w E m → i < w → Emptying w E i m m₁ → m₂ ≡ flagged w E i 0 m₁ → Emptying w E (i + 1) m m₂
-emptying-more w E i m m₁ m₂ fits h f e =
-    subst (λ x. Emptying w E (i + 1) m x) (sym e) record {
-      kept = kept-trans (f .kept) (flagged-kept w E i 0 m₁ room h);
-      free = λ q l. go q l (ℕ-discrete q i);
-    }
-  where
-    room : Fits w E m₁
-    room = fits-kept fits (f .kept)
-
-    go : (q : ℕ) → q < i + 1 → Dec (q ≡ i) → flag w E (row w E q (flagged w E i 0 m₁)) ≡ 0
-    go q l (yes e) = ap (λ x. flag w E (row w E x (flagged w E i 0 m₁))) e ∙ flagged-flag w E i 0 m₁ room h
-    go q l (no e) = ap (flag w E) (flagged-rest w E i 0 m₁ room h q (omega arith) e) ∙ f .free q (omega arith)
-
-pub emptied : (w E i : ℕ) (m m′ : List ℕ) → 0 < w → i ≡ w → Emptying w E i m m′ → Emptied w E m m′
-emptied w E i m m′ pos e f = record { kept = f .kept; free = λ b. window-free w E b m′ pos (λ r l. f .free r (omega arith)) }

@@ -11,11 +11,6 @@ use Rattle.decoder.specs.Receiver.{empty, advance-by, insert-all, newly}
 use Rattle.table.specs.Window.{row, line, Window, Kept}
 use Rattle.table.specs.Packet.{Gathered}
 
--- The memory holds a system without rows, for a window from anywhere on.
-pub record Emptied (w E : ℕ) (m m′ : List ℕ) : Type 0 where
-  pub kept : Kept w E m m′
-  pub free : (b : ℕ) → Window w E m′ b (empty (Coded E) w)
-
 -- The window has moved on by `rise` positions.
 pub record RowsMoved (w E oldest rise : ℕ) (m m′ : List ℕ) : Type 0 where
   pub kept : Kept w E m m′

@@ -1,11 +1,11 @@
-// What changes the window's equations: no rows at all, the window moves on, and a packet's rows join those of the window.
+// What changes the window's equations: the window moves on, and a packet's rows join those of the window.
 // And whether a position is known, which its row's first flag says.
 ghost use mathlib.Core.Path.{_≡_};
 ghost use mathlib.Core.Logic.{_≢_};
 ghost use Prim.Native.Nat.{_+_, _≤_, _<_};
 ghost use lib.ListN.{length, getD};
 ghost use Rattle.table.specs.Window.{rowOffset, Fits};
-ghost use Rattle.placing.specs.Place.{Emptied, RowsMoved, KnownAt, Committed};
+ghost use Rattle.placing.specs.Place.{RowsMoved, KnownAt, Committed};
 ghost use Rattle.table.specs.Packet.{Works};
 ghost use Rattle.table.specs.RowSteps.{flagged, Tested};
 ghost use Rattle.placing.specs.PlaceSteps.{RowMarked, ClearedRow, FirstWith, Stored, RowPlaced, KeptRow, PlacedKept, RowsPlaced};
@@ -20,17 +20,6 @@ fn set_flag(mem: &mut [u8], shape: Shape, r: usize, v: u8)
     let at = table::row_offset(shape, r);
     let n = shape.width + shape.size;
     mem[at + n] = v;
-}
-
-// No row is in use.
-pub fn clear(mem: &mut [u8], shape: Shape)
-    requires { ⌜ Fits (shape .width) (shape .size) (now mem) ⌝ }
-    ensures { λ _. ⌜ Emptied (shape .width) (shape .size) (now (mem .entry)) (now (mem .exit)) ⌝ }
-{
-    let w = shape.width;
-    for r in 0..w {
-        set_flag(mem, shape, r, 0);
-    }
 }
 
 // The window moves on by `rise` positions: the rows of those that leave are no longer in use.
