@@ -2,14 +2,8 @@
 -- Laws:
 --   the new header: rebased, rebased-length, rebased-front, rebased-past, rebased-row, rebased-esi, rebased-window
 --   the state after the packet: finished
-use mathlib.Core.Path.{_≡_, refl, sym, ap, _∙_, subst}
-use mathlib.Core.Option.{some}
-use mathlib.Core.List.{List}
-use Prim.Native.Nat.{ℕ, _+_, _%_, _^_, _≤_, _<_}
-use native.Mathlib.Nat.{mod-lt}
-use native.Mathlib.Omega.{arith}
-use lib.ListN.{length, take, drop, getD}
-use lib.Seq.{take-take, getD-take}
+use Rattle.words.specs.Words.{_≡_, arith, ℕ, _≤_, _+_, List, length, _<_, refl, _∙_, sym, ap, some, _%_, getD, subst, drop, _^_, take, mod-lt, getD-take}
+use lib.Seq.{take-take}
 use Rattle.memory.specs.Part.{part, splice}
 use Rattle.memory.specs.Number.{number, bytes}
 use Rattle.memory.proofs.Number.{number-bytes, length-bytes}
@@ -19,13 +13,9 @@ use Rattle.wire.specs.Numbers.{esiAfter}
 use Rattle.wire.specs.Settings.{settingIn}
 use Rattle.wire.proofs.Settings.{setting-kept}
 use Rattle.decoder.specs.Bytes.{Coded}
-use Rattle.decoder.specs.Model as model
-use Rattle.decoder.specs.Receiver as decoder
 use Rattle.decoder.proofs.Bytes.{laws}
-use Rattle.decoder.proofs.History as history
 use Rattle.table.specs.Window.{headerSize}
 use Rattle.table.proofs.Offsets.{header-long}
-use Rattle.table.specs.Window as window
 use Rattle.placing.specs.Place.{Committed}
 use Rattle.table.proofs.Rows.{fits-kept}
 use Rattle.table.proofs.Holding.{window-header}
@@ -40,6 +30,10 @@ use Rattle.admission.specs.Joining.{Based}
 use Rattle.admission.specs.Steps.{Finished}
 use Rattle.holding.proofs.Headers.{found-joined}
 use Rattle.admission.proofs.Joining.{based-fits}
+use Rattle.decoder.specs.Model as model
+use Rattle.decoder.specs.Receiver as decoder
+use Rattle.decoder.proofs.History as history
+use Rattle.table.specs.Window as window
 
 -- The equations that a system takes leave it reduced.
 taken-reduced : (w E rise : ℕ) (S T : model.State (Coded E) w) (es : List (model.Row (Coded E) w)) → 0 < E → model.Rref S
@@ -119,7 +113,8 @@ module _ (h : Header) (location : Location) (kept count esi : ℕ) (work m m₁ 
       let l : 16 ≤ length m₁ = long in
       let fits : window.Fits (s .width) (s .size) m₁ = subst (λ x. window.Fits (x .width) (x .size) m₁) same room in
       let front : take 8 (rebased n esi m₁) ≡ take 8 m =
-      rebased-front n esi m₁ l ∙ sym (take-take 8 headerSize m₁ (omega (arith, header-long))) ∙ ap (take 8) (f .unchanged .header) ∙ take-take 8 headerSize m (omega (arith, header-long)) in
+      rebased-front n esi m₁ l ∙ sym (take-take 8 headerSize m₁ (omega (arith, header-long))) ∙ ap (take 8) (f .unchanged .header) ∙ take-take 8 headerSize m
+      (omega (arith, header-long)) in
       let set : settingIn 2 (rebased n esi m₁) ≡ some s =
       setting-kept 2 (rebased n esi m₁) m front ∙ has .setting ∙ ap some same in
       let at : rowIn (rebased n esi m₁) ≡ (t .base + location .rise) % s .width + 1 = rebased-row n esi m₁ l (omega arith) ∙ ap (λ x. x + 1) row in
@@ -145,7 +140,8 @@ module _ (h : Header) (location : Location) (kept count esi : ℕ) (work m m₁ 
     marks = record {
       header = λ k l g.
           ap (λ x. getD x k 0) stored ∙ rebased-spare (location .shape .oldest + 1) esi m₁ long k l g
-          ∙ sym (getD-take headerSize m₁ k 0 (omega (arith, header-long))) ∙ ap (λ x. getD x k 0) (f .unchanged .header) ∙ getD-take headerSize m k 0 (omega (arith, header-long));
+          ∙ sym (getD-take headerSize m₁ k 0 (omega (arith, header-long))) ∙ ap (λ x. getD x k 0) (f .unchanged .header) ∙ getD-take headerSize m k 0
+          (omega (arith, header-long));
       rows = λ r l.
           let w = h .setting .width in
           let E = h .setting .size in

@@ -4,24 +4,15 @@
 --   a stored symbol: stored-only, works-stored, stored-is
 --   one equation: equation-admitted, stored-admitted
 --   all equations: firsts-same, firsts-cons, contradiction-stays, gathers-none, gathers-on, gathers-stop, gathers-all
-use mathlib.Core.Path.{_≡_, refl, sym, ap, ap₂, _∙_, subst}
-use mathlib.Core.Option.{none, some}
-use mathlib.Core.List.{List, [], _∷_, _++_}
-use Prim.Native.Nat.{ℕ, zero, suc, _+_, _≤_, _<_}
-use native.Mathlib.Decide.{ℕ-discrete}
-use native.Mathlib.Omega.{arith}
-use lib.ListN.{length, getD}
+use Rattle.words.specs.Words.{_≡_, arith, ℕ, _≤_, _+_, List, length, _<_, refl, _∙_, sym, ap, [], some, _∷_, suc, zero, none, getD, _++_, subst, ap₂}
+use Rattle.words.specs.Words.{ℕ-discrete}
 use Rattle.memory.specs.Part.{splice}
 use Rattle.memory.proofs.Parts.{getD-part, getD-within, row-fits}
 use Rattle.decoder.specs.Bytes.{Coded}
-use Rattle.decoder.specs.Model as model
-use Rattle.decoder.specs.Receiver as decoder
 use Rattle.decoder.specs.Stretch.{symbol-at}
 use Rattle.decoder.proofs.Jump.{insert-all-append}
 use Rattle.gather.specs.declared.Verdict.{Verdict}
-use Rattle.gather.specs.declared.Verdict.the-variants as verdict
 use Rattle.table.specs.Window.{stride, rowOffset, row, equation}
-use Rattle.table.specs.Packet as packet
 use Rattle.gather.specs.Gather.{Only, LaidIn, Admitted, Agrees, count-kept}
 use Rattle.table.proofs.Offsets.{flags-fit}
 use Rattle.gather.proofs.Framing.{only-trans, only-wider, only-splice, works-only, row-room}
@@ -34,6 +25,10 @@ use Rattle.admission.specs.declared.packet.Gathered.the-variants.{All, C
 use Rattle.history.specs.Symbol.{symbolOf}
 use Rattle.memory.specs.Contained.{Contained}
 use Rattle.admission.specs.Steps.{gatheredBy, Comes, WorksOn, Spells, firsts, Lies, EquationAdmitted, Admits, Gathers}
+use Rattle.decoder.specs.Model as model
+use Rattle.decoder.specs.Receiver as decoder
+use Rattle.gather.specs.declared.Verdict.the-variants as verdict
+use Rattle.table.specs.Packet as packet
 
 -- ---- Memories that keep their length and what lies past a size
 
@@ -73,7 +68,8 @@ module _ (w E kept : ℕ) (x work work₁ : List ℕ) (g : packet.Works w E kept
   pub stored-only : Only (rowOffset w E kept) (rowOffset w E kept + stride w E) work work₁
   stored-only =
       subst (λ m₁. Only (rowOffset w E kept) (rowOffset w E kept + stride w E) work m₁) (sym stored)
-      (only-splice (rowOffset w E kept) (rowOffset w E kept + stride w E) (rowOffset w E kept + w) x work (omega arith) (omega (arith, flags-fit w E, size)) inside)
+      (only-splice (rowOffset w E kept) (rowOffset w E kept + stride w E) (rowOffset w E kept + w) x work (omega arith) (omega (arith, flags-fit w E, size))
+      inside)
 
   pub works-stored : packet.Works w E kept work₁
   works-stored = works-only (omega arith) stored-only g
@@ -112,7 +108,8 @@ module _ (at : Location) (kept first : ℕ) (cs : List ℕ) (v : Verdict) (m wor
     outcome = λ b d S es e lies held reduced spells gathered.
         let pos : 0 < E = omega (arith, g .some-symbol) in
         let q : ℕ = b + at .rise in
-        let before = gathered-only w E q kept (rowOffset w E kept + w) (decoder.advance-by (at .rise) S) work work₁ es pos (l .only) (omega (arith, flags-fit w E)) gathered in
+        let before = gathered-only w E q kept (rowOffset w E kept + w) (decoder.advance-by (at .rise) S) work work₁ es pos (l .only)
+        (omega (arith, flags-fit w E)) gathered in
         let same = symbol-moved E w w (row w E kept work₁) (row w E kept work) (laid-symbol w E kept first cs work work₁ l) in
         let is : equation w E q (row w E kept work₁) ≡ e = spells (row w E kept work₁) (l .laid) same in
         comes-by v q (decoder.advance-by (at .rise) S) (es ++ (e ∷ []))

@@ -1,15 +1,8 @@
 -- The header for a packet: with a base it is the receiver's own, and without one the packet's first ESI is the base.
-use mathlib.Core.Path.{_≡_, sym, ap, ap₂}
-use mathlib.Core.Bool.{Bool, true, false, cond}
-use mathlib.Core.Option.{none, some}
-use mathlib.Core.List.{List}
-use Prim.Native.Nat.{ℕ, _%_, _^_, _<_}
-use native.Mathlib.Nat.{mod-lt, mod-eq-of-lt}
-use native.Mathlib.Omega.{arith}
+use Rattle.words.specs.Words.{_≡_, arith, ℕ, List, _<_, sym, ap, some, _%_, true, none, false, Bool, _^_, ap₂, cond, mod-lt, mod-eq-of-lt}
 use Rattle.wire.specs.declared.Setting.{Setting}
 use Rattle.wire.specs.Settings.{Valid}
 use Rattle.decoder.proofs.Bytes.{laws}
-use Rattle.decoder.proofs.History as history
 use Rattle.table.specs.Window.{Fits}
 use Rattle.history.specs.Model.{State, foundBy}
 use Rattle.holding.specs.declared.Header.{Header}
@@ -17,6 +10,7 @@ use Rattle.holding.specs.Header.{headerIn}
 use Rattle.holding.specs.Layout.{headerFrom, Stands, Holds}
 use Rattle.admission.specs.Joining.{headerFor, Based}
 use Rattle.holding.proofs.Headers.{headed, setting-fits, header-held}
+use Rattle.decoder.proofs.History as history
 
 -- The header for a packet, with a base and without.
 pub for-joined : (h : Header) (e : ℕ) → h .joined ≡ true → h ≡ headerFor h e

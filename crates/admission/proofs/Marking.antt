@@ -3,30 +3,17 @@
 --   only marks changed: header-same, starts-contained, starts-holds
 --   marks not changed: same-marks
 --   a packet is accepted: update-asks, count-asks, count-again, accepted
-use mathlib.Core.Path.{_≡_, refl, sym, ap, ap₂, _∙_, subst}
-use mathlib.Core.Bool.{Bool, false}
-use mathlib.Core.Option.{Option, none, some}
-use mathlib.Core.List.{List}
-use Prim.Native.Nat.{ℕ, _+_, _-_, _%_, _≤_, _<_}
-use native.Mathlib.Nat.{mod-lt, mod-add-mod}
-use native.Mathlib.Decide.{decLt}
-use native.Mathlib.Omega.{arith}
-use lib.ListN.{length, drop, getD, length-drop}
-use lib.Seq.{ext-getD, getD-drop}
-use lib.Dec.{ltb}
+use Rattle.words.specs.Words.{_≡_, arith, ℕ, _≤_, _+_, List, length, _<_, refl, _∙_, sym, ap, _-_, some, _%_, none, getD, false, Bool, subst, Option, drop, ap₂}
+use Rattle.words.specs.Words.{ltb, mod-lt, decLt, mod-add-mod, length-drop, getD-drop, ext-getD}
 use Rattle.memory.specs.Part.{part}
 use Rattle.memory.proofs.Parts.{length-part, getD-part}
 use Rattle.wire.specs.declared.Setting.{Setting}
 use Rattle.wire.specs.Settings.{settingIn}
 use Rattle.wire.proofs.Settings.{setting-kept}
 use Rattle.decoder.specs.Bytes.{Coded}
-use Rattle.decoder.specs.Model as model
-use Rattle.decoder.specs.Receiver as decoder
 use Rattle.table.proofs.Offsets.{header-long}
-use Rattle.table.specs.Window as window
 use Rattle.starts.specs.Starts.{Starts, owning, moved, pass, seen}
 use Rattle.starts.specs.Settled.{Settled, Old}
-use Rattle.marks.specs.Marks as marks
 use Rattle.marks.specs.MarkSteps.{Updated, Tallied}
 use Rattle.marks.proofs.Only.{starts-window, header-no-mark, past-no-mark, mark-row, mark-past}
 use Rattle.marks.proofs.Gaining.{old-ones}
@@ -43,6 +30,10 @@ use Rattle.admission.specs.Steps.{SameMarks, LocatedBy, Finished, Accept
 use Rattle.holding.proofs.Headers.{header-fits, setting-of}
 use Rattle.admission.proofs.Joining.{based-fits}
 use Rattle.admission.proofs.Gathering.{contained-more}
+use Rattle.decoder.specs.Model as model
+use Rattle.decoder.specs.Receiver as decoder
+use Rattle.table.specs.Window as window
+use Rattle.marks.specs.Marks as marks
 
 -- ---- nothing but marks has changed
 
@@ -54,7 +45,8 @@ module _ (w E : ℕ) (m m′ : List ℕ) (o : marks.OnlyStarts w E m m′) (long
       ext-getD 0 (part a n m′) (part a n m) (l ∙ sym (length-part a n m (omega arith)))
       (λ i k.
       let j : i < n = omega (arith, l) in
-      getD-part a n i m′ j ∙ o .others (a + i) (header-no-mark w E (a + i) (omega (arith, header-long)) (away i j .0)) (away i j .1) ∙ sym (getD-part a n i m j))
+      getD-part a n i m′ j ∙ o .others (a + i) (header-no-mark w E (a + i) (omega (arith, header-long)) (away i j .0)) (away i j .1) ∙ sym
+      (getD-part a n i m j))
 
   setting-same : settingIn 2 m′ ≡ settingIn 2 m
   unfolding part

@@ -1,9 +1,5 @@
 -- A repair packet's equations: a row with its coefficients and its symbol spells the model's equation, and all are the model's packet.
-use mathlib.Core.Path.{_≡_, refl, sym, ap, ap₂, _∙_}
-use mathlib.Core.List.{List, [], _∷_}
-use Prim.Native.Nat.{ℕ, _+_, _-_, _*_}
-use native.Mathlib.Omega.{arith}
-use lib.ListN.{length, getD, drop}
+use Rattle.words.specs.Words.{_≡_, arith, ℕ, _+_, List, length, refl, _∙_, sym, ap, _-_, [], _∷_, _*_, getD, drop, ap₂}
 use Rattle.memory.specs.Part.{part, splice}
 use Rattle.memory.proofs.Parts.{part-drop}
 use Rattle.wire.specs.Packets.{chunks}
@@ -11,7 +7,6 @@ use Rattle.wire.proofs.Adui.{length-chunks, getD-chunks}
 use Rattle.decoder.specs.Bytes.{byte, Coded}
 use Rattle.decoder.specs.Model.{Row}
 use Rattle.decoder.specs.Receiver.{embed, over}
-use Rattle.decoder.specs.Packets as packets
 use Rattle.table.specs.Window.{rowOffset}
 use Rattle.table.specs.Packet.{Works}
 use Rattle.gather.proofs.Spelling.{spells}
@@ -23,6 +18,7 @@ use Rattle.history.specs.Model.{packetOf}
 use Rattle.admission.specs.Steps.{firsts, EquationAdmitted, Admits}
 use Rattle.admission.specs.RepairSteps.{repairEquation, equationAt}
 use Rattle.admission.proofs.Gathering.{stored-admitted, firsts-same, firsts-cons}
+use Rattle.decoder.specs.Packets as packets
 
 -- ---- One symbol
 

@@ -1,20 +1,10 @@
 -- A source packet's equations: a row with the coefficient one at the symbol's position spells the model's equation, and all are the model's packet.
-use mathlib.Core.Path.{_≡_, refl, sym, ap, ap₂, _∙_}
-use mathlib.Core.List.{List, [], _∷_, map}
-use Prim.Native.Nat.{ℕ, zero, suc, _+_, _-_, _%_, _<_}
-use native.Mathlib.Nat.{mod-add-mod}
-use native.Mathlib.Omega.{arith}
-use lib.ListN.{length, getD}
+use Rattle.words.specs.Words.{_≡_, arith, ℕ, _+_, List, length, _<_, refl, _∙_, sym, ap, _-_, [], _%_, _∷_, suc, zero, getD, ap₂, map, mod-add-mod}
 use Rattle.memory.specs.Part.{splice}
 use Rattle.wire.specs.Packets.{symbolCount, adui, symbolAt, sourceSymbols}
-use Rattle.wire.proofs.Adui as adui
 use Rattle.decoder.specs.Bytes.{Coded}
-use Rattle.decoder.specs.Model as model
-use Rattle.decoder.specs.Receiver as decoder
-use Rattle.decoder.specs.Packets as packets
 use Rattle.decoder.specs.Stretch.{symbol-at}
 use Rattle.table.specs.Window.{rowOffset, row}
-use Rattle.table.specs.Packet as packet
 use Rattle.table.specs.RowSteps.{RowOf}
 use Rattle.gather.proofs.Spelling.{spells-one}
 use Rattle.admission.specs.declared.packet.Location.{Location}
@@ -25,6 +15,11 @@ use Rattle.history.specs.Model.{packetOf}
 use Rattle.admission.specs.Steps.{firsts, Lies, EquationAdmitted, Admits}
 use Rattle.admission.specs.SourceSteps.{equationOf}
 use Rattle.admission.proofs.Gathering.{stored-admitted, firsts-same, firsts-cons}
+use Rattle.wire.proofs.Adui as adui
+use Rattle.decoder.specs.Model as model
+use Rattle.decoder.specs.Receiver as decoder
+use Rattle.decoder.specs.Packets as packets
+use Rattle.table.specs.Packet as packet
 
 -- ---- One symbol
 

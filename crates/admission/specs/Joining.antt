@@ -1,11 +1,6 @@
 -- Contracts of inner functions: a reader need not believe these.
 -- The header that a packet is worked on with, and the memory that has it.
-use mathlib.Core.Path.{_≡_}
-use mathlib.Core.Bool.{true, cond}
-use mathlib.Core.Option.{some}
-use mathlib.Core.List.{List}
-use Prim.Native.Nat.{ℕ, _%_, _^_, _≤_, _<_}
-use lib.ListN.{length}
+use Rattle.words.specs.Words.{_≡_, ℕ, _≤_, List, length, _<_, some, _%_, true, _^_, cond}
 use Rattle.wire.specs.Settings.{settingIn, Valid}
 use Rattle.history.specs.History.{memorySize}
 use Rattle.holding.specs.declared.Header.{Header}

@@ -1,8 +1,6 @@
 -- Contracts of inner functions: a reader need not believe these.
 -- A repair packet's equations.
-use mathlib.Core.List.{List}
-use Prim.Native.Nat.{ℕ, _+_, _*_}
-use lib.ListN.{getD}
+use Rattle.words.specs.Words.{ℕ, _+_, List, _*_, getD}
 use Rattle.memory.specs.Part.{part}
 use Rattle.decoder.specs.Bytes.{byte, Coded}
 use Rattle.decoder.specs.Model.{Row}

@@ -1,8 +1,6 @@
 -- Contracts of inner functions: a reader need not believe these.
 -- A source packet's equations.
-use mathlib.Core.List.{List}
-use Prim.Native.Nat.{ℕ}
-use lib.ListN.{length}
+use Rattle.words.specs.Words.{ℕ, List, length}
 use Rattle.wire.specs.Packets.{symbolCount, symbolAt}
 use Rattle.decoder.specs.Bytes.{Coded}
 use Rattle.decoder.specs.Model.{Row}

@@ -1,23 +1,13 @@
 -- Contracts of inner functions: a reader need not believe these.
 -- The steps of a packet call: the packet's place, its equations in working memory, and the state after it.
-use mathlib.Core.Path.{_≡_}
-use mathlib.Core.Bool.{cond}
-use mathlib.Core.Option.{none, some}
-use mathlib.Core.List.{List, [], _∷_, _++_}
-use Prim.Native.Nat.{ℕ, zero, suc, _+_, _-_, _*_, _%_, _≤_, _<_}
-use lib.Dec.{leb}
-use lib.ListN.{length, getD}
+use Rattle.words.specs.Words.{_≡_, ℕ, _≤_, _+_, List, length, _<_, _-_, [], some, _%_, _∷_, suc, zero, none, _*_, getD, _++_, cond, leb}
 use Rattle.wire.specs.declared.Setting.{Setting}
 use Rattle.wire.specs.declared.Refusal.the-variants.{Behind, Ahead}
 use Rattle.decoder.specs.Bytes.{Coded}
-use Rattle.decoder.specs.Model as model
-use Rattle.decoder.specs.Receiver as decoder
 use Rattle.decoder.specs.Stretch.{symbol-at}
 use Rattle.gather.specs.declared.Verdict.{Verdict}
-use Rattle.gather.specs.declared.Verdict.the-variants as verdict
 use Rattle.table.specs.Window.{rowOffset, row, equation, Window}
 use Rattle.gather.specs.Gather.{Laid}
-use Rattle.table.specs.Packet as packet
 use Rattle.starts.specs.Starts.{Starts, owning, moved, pass, seen}
 use Rattle.marks.specs.Marks.{flagAt}
 use Rattle.holding.specs.declared.Header.{Header}
@@ -31,6 +21,10 @@ use Rattle.history.specs.History.{memorySize, Side, behind, ahead, sideOf, fart
 use Rattle.history.specs.Model.{Joined}
 use Rattle.memory.specs.Contained.{Contained}
 use Rattle.holding.specs.Layout.{headerFrom, Stands, Holds, MarksFrom}
+use Rattle.decoder.specs.Model as model
+use Rattle.decoder.specs.Receiver as decoder
+use Rattle.gather.specs.declared.Verdict.the-variants as verdict
+use Rattle.table.specs.Packet as packet
 
 -- ---- The packet's place
 

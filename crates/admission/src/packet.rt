@@ -1,7 +1,5 @@
 // The steps that both packet calls share: where the packet lies, what one more equation makes of it, and the state after it.
-ghost use mathlib.Core.Path.{_≡_};
-ghost use Prim.Native.Nat.{_≤_, _<_};
-ghost use lib.ListN.{length};
+ghost use Rattle.words.specs.Words.{_≡_, _≤_, length, _<_};
 ghost use Rattle.wire.specs.Settings.{Valid};
 ghost use Rattle.table.specs.Window.{Fits};
 ghost use Rattle.table.specs.Packet.{Works};

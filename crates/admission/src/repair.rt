@@ -1,7 +1,5 @@
 // A repair packet's equations: one for each repair symbol, which says that it is its combination of the positions' symbols.
-ghost use mathlib.Core.Path.{_≡_};
-ghost use Prim.Native.Nat.{_+_, _*_, _≤_, _<_};
-ghost use lib.ListN.{length};
+ghost use Rattle.words.specs.Words.{_≡_, _≤_, _+_, length, _<_, _*_};
 ghost use Rattle.table.specs.Window.{Fits};
 ghost use Rattle.table.specs.Packet.{Works};
 ghost use Rattle.admission.specs.Steps.{Admits, Gathers};

@@ -1,7 +1,5 @@
 // A source packet's equations: one for each symbol of its ADU, which says that the position holds it.
-ghost use mathlib.Core.Path.{_≡_};
-ghost use Prim.Native.Nat.{_+_, _≤_, _<_};
-ghost use lib.ListN.{length};
+ghost use Rattle.words.specs.Words.{_≡_, _≤_, _+_, length, _<_};
 ghost use Rattle.memory.specs.Part.{splice};
 ghost use Rattle.wire.specs.Packets.{symbolCount, symbolAt};
 ghost use Rattle.table.specs.Window.{rowOffset, Fits};

@@ -1,11 +1,5 @@
 -- A packet line's answer, and a first line's opening.
-use mathlib.Core.Path.{_≡_, refl, sym, ap, _∙_, subst}
-use mathlib.Core.List.{List}
-use mathlib.Core.Option.{Option, none, some, Option·none-ne-some}
-use Prim.Native.Nat.{ℕ, _≤_, _<_}
-use native.Mathlib.Omega.{arith}
-use lib.ListN.{length}
-use borrow.Author.Tests.{lt-leb}
+use Rattle.words.specs.Words.{_≡_, arith, ℕ, _≤_, List, length, _<_, refl, _∙_, sym, ap, some, none, subst, Option, Option·none-ne-some, lt-leb}
 use Rattle.memory.specs.Part.{part}
 use Rattle.wire.specs.declared.Setting.{Setting}
 use Rattle.receiver.specs.declared.PacketAnswer.{PacketAnswer}

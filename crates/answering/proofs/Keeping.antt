@@ -1,9 +1,5 @@
 -- The bytes that are kept of a line that has not ended.
-use mathlib.Core.Path.{_≡_, refl}
-use mathlib.Core.List.{List, [], _++_}
-use Prim.Native.Nat.{ℕ, _+_, _-_, _≤_, _<_}
-use native.Mathlib.Omega.{arith}
-use lib.ListN.{length, length-append}
+use Rattle.words.specs.Words.{_≡_, arith, ℕ, _≤_, _+_, List, length, _<_, refl, [], _++_, length-append}
 use Rattle.memory.specs.Part.{part, splice}
 use Rattle.memory.proofs.Parts.{whole}
 use Rattle.printing.proofs.Laws.{put-splice}

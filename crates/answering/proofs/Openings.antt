@@ -1,13 +1,6 @@
 -- A first line's opening.
-use mathlib.Core.Path.{_≡_, refl, sym, ap, _∙_, subst}
-use mathlib.Core.Bool.{Bool, true, false, cond, _&&_}
-use mathlib.Core.List.{List}
-use mathlib.Core.Option.{Option, none, some}
-use Prim.Native.Nat.{ℕ, _≤_, _<_}
-use native.Mathlib.Omega.{arith}
-use lib.Dec.{leb, ltb}
-use lib.ListN.{length}
-use borrow.Author.Tests.{lt-leb, le-leb, ltb-true, ltb-false}
+use Rattle.words.specs.Words.{_≡_, arith, ℕ, _≤_, List, length, _<_, refl, _∙_, sym, ap, some, true, none, false, Bool, subst, Option, cond, ltb, leb, le-leb}
+use Rattle.words.specs.Words.{_&&_, lt-leb, ltb-true, ltb-false}
 use Rattle.wire.specs.declared.Setting.{Setting}
 use Rattle.wire.specs.declared.Checked.{Checked}
 use Rattle.wire.specs.declared.Checked.the-variants.{Good, Bad}
@@ -21,7 +14,6 @@ use Rattle.history.specs.Model.{opened}
 use Rattle.receiver.specs.Promises.{opening}
 use Rattle.holding.specs.Layout.{Holds}
 use Rattle.lines.specs.declared.First.{First}
-use Rattle.lines.specs.declared.First.the-variants as first
 use Rattle.lines.specs.Forms.{Values, longest}
 use Rattle.lines.specs.Reading.{on, valuesIn}
 use Rattle.lines.specs.Inner.{valuesOf}
@@ -30,6 +22,7 @@ use Rattle.records.specs.Records.{room}
 use Rattle.records.specs.Replay.{fitting, settingNamed}
 use Rattle.records.specs.Standing.{Kept}
 use Rattle.answering.specs.Inner.{OpensOrNot, OpenedBy}
+use Rattle.lines.specs.declared.First.the-variants as first
 
 -- no line that can be kept so opens a receiver
 pub opens-none : {have : ℕ} {line : List ℕ} (m′ : List ℕ) → ((l : List ℕ) → Kept have line l → settingNamed l ≡ none) → OpenedBy have line m′ false

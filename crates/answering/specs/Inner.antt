@@ -1,9 +1,5 @@
 -- Contracts of inner functions.
-use mathlib.Core.Path.{_≡_}
-use mathlib.Core.Bool.{Bool, true, false}
-use mathlib.Core.List.{List, _++_}
-use mathlib.Core.Option.{Option, none, some}
-use Prim.Native.Nat.{ℕ, _≤_}
+use Rattle.words.specs.Words.{_≡_, ℕ, _≤_, List, some, true, none, false, _++_, Bool, Option}
 use Rattle.wire.specs.declared.Setting.{Setting}
 use Rattle.history.specs.Model.{State, opened}
 use Rattle.holding.specs.Layout.{Holds}

@@ -1,7 +1,5 @@
 // What a line of a capture makes of the receiver: the bytes kept of it, the opening that a first line names, the answer to a packet line.
-ghost use mathlib.Core.Path.{_≡_};
-ghost use Prim.Native.Nat.{_≤_};
-ghost use lib.ListN.{length};
+ghost use Rattle.words.specs.Words.{_≡_, _≤_, length};
 ghost use Rattle.wire.specs.Answers.{said};
 ghost use Rattle.receiver.specs.Promises.{answerOf};
 ghost use Rattle.records.specs.Replay.{recordOf};

@@ -1,7 +1,5 @@
 // The row operations and the calls of sender and receiver under C names, for the drivers of bench/. A row operation whose lengths do not fit does nothing.
-ghost use mathlib.Core.Path.{_≡_};
-ghost use Prim.Native.Nat.{_<_};
-ghost use lib.ListN.{length};
+ghost use Rattle.words.specs.Words.{_≡_, length, _<_};
 ghost use Rattle.rows.specs.Rows.{addScaled};
 ghost use Rattle.table.specs.Window.{Fits};
 use field::Gf256;

@@ -1,7 +1,6 @@
 // Prints the bench sheet of document 01, C1 to C12, as the code computes them: a line for each case, packets and symbols in hexadecimal.
 // C10 begins after a packet at ESI 0 (document 02, No. 2).
-ghost use mathlib.Core.Path.{_≡_};
-ghost use lib.ListN.{length};
+ghost use Rattle.words.specs.Words.{_≡_, length};
 
 mod receiving;
 

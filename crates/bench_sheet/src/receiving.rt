@@ -1,6 +1,5 @@
 // The receiver's cases: what each packet call answers, and then what the symbol call shows. E is 4 and F is 1 throughout.
-ghost use mathlib.Core.Path.{_≡_};
-ghost use lib.ListN.{length};
+ghost use Rattle.words.specs.Words.{_≡_, length};
 use report::print;
 use report::repair;
 use report::show;

@@ -1,15 +1,15 @@
 // The calls of sender and receiver, and that for the window, under C names (include/rlc8681.h): each takes numbers and slices, that one a number to
 // write, and answers one signed number. What a function promises is the promise of the call that it wraps, of the answer that its number codes.
-ghost use mathlib.Core.Path.{_≡_};
+ghost use Rattle.words.specs.Words.{_≡_};
 ghost use Rattle.wire.specs.Settings.{settingOf};
 ghost use Rattle.latency.specs.Promises.{WindowAnswered};
-ghost use Rattle.sender.specs.State as sender;
 ghost use Rattle.sender.specs.Promises.{Opens, Adds, RepairMade};
 ghost use Rattle.history.specs.History.{memorySize, workingSize, source-call, repair-call};
 ghost use Rattle.wire.specs.Answers.{said};
 ghost use Rattle.receiver.specs.Promises.{Opened, PacketAnswered, SymbolAnswered, PlaceAnswered, AduAnswered, handedSaid};
 ghost use Rattle.receiver.specs.Layout.{receiverLayout};
 ghost use Rattle.coding.specs.Coding.{coded, packetSaid, repairSaid, windowSaid, remainderAfter, Codes, asked};
+ghost use Rattle.sender.specs.State as sender;
 use wire::Checked;
 use wire::Esi;
 use wire::Refusal;

@@ -1,12 +1,6 @@
 -- Calls of `feed` one after the other: one call more.
-use mathlib.Core.Path.{_≡_, refl, sym, ap, _∙_, subst}
-use mathlib.Core.Logic.{inl, inr}
-use mathlib.Core.Bool.{Bool, true, false, not}
-use mathlib.Core.List.{List, [], _∷_, _++_, append-assoc, append-nil}
-use Prim.Native.Nat.{ℕ, _+_, _-_, _≤_, _<_}
-use native.Mathlib.Omega.{arith}
-use lib.ListN.{length, take, drop, take-append-drop, length-drop}
-use lib.Seq.{drop-drop, drop-length}
+use Rattle.words.specs.Words.{_≡_, arith, ℕ, _≤_, _+_, List, length, _<_, refl, _∙_, sym, ap, _-_, [], _∷_, true, false, _++_, Bool, subst, drop, take, inr}
+use Rattle.words.specs.Words.{inl, append-assoc, length-drop, append-nil, not, take-append-drop, drop-drop, drop-length}
 use Rattle.records.specs.declared.Progress.{Progress}
 use Rattle.records.specs.declared.Pass.{Pass}
 use Rattle.records.specs.Promises.{isOver, Fed}

@@ -1,10 +1,6 @@
 -- What the program's function that is given a piece of the input does with it: it hands it to the library in order, and all of it as long as more is wanted,
 -- unless it says that it failed. Whether it may say so no contract can tell, since none speaks of what was written; nor does any say what was read.
-use mathlib.Core.Path.{_≡_}
-use mathlib.Core.Logic.{_⊎_}
-use mathlib.Core.Bool.{true, false, not}
-use mathlib.Core.List.{List, [], _++_}
-use Prim.Native.Nat.{ℕ}
+use Rattle.words.specs.Words.{_≡_, ℕ, List, [], true, false, _++_, _⊎_, not}
 use Rattle.records.specs.declared.Progress.{Progress}
 use Rattle.records.specs.Promises.{isOver}
 use Rattle.records.specs.Pieces.{Piece, taken, InTurn, reached, lineLeft, memoryLeft}

@@ -1,7 +1,6 @@
 // Works through a capture on standard input and prints what the receiver answered (document 02, No. 4). All but reading and writing is done by the
 // library `replay`.
-ghost use mathlib.Core.Path.{_≡_};
-ghost use lib.ListN.{length};
+ghost use Rattle.words.specs.Words.{_≡_, length};
 ghost use Rattle.capture.specs.Going.{Went};
 use libc::STDERR_FILENO;
 use libc::STDIN_FILENO;

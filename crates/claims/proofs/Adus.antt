@@ -1,9 +1,5 @@
 -- The symbols of an ADU give its flow and the ADU; its first symbol gives its length.
-use mathlib.Core.Path.{_≡_, sym, ap, _∙_}
-use mathlib.Core.List.{List, []}
-use Prim.Native.Nat.{ℕ, _≤_}
-use native.Mathlib.Omega.{arith}
-use lib.ListN.{length, getD}
+use Rattle.words.specs.Words.{_≡_, arith, ℕ, _≤_, List, length, _∙_, sym, ap, [], getD}
 use Rattle.memory.specs.Part.{part}
 use Rattle.memory.proofs.Number.{number-bytes}
 use Rattle.wire.specs.Packets.{joined, symbolCount, adui, sourceSymbols}

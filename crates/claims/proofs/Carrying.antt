@@ -1,10 +1,7 @@
 -- A filling that carries a list of symbols holds every stretch of them; and there is one.
-use mathlib.Core.Path.{_≡_, sym, ap, _∙_}
-use mathlib.Core.List.{List, [], _∷_, _++_}
-use Prim.Native.Nat.{ℕ, zero, suc, _+_, _≤_, _<_}
-use native.Mathlib.Omega.{arith}
-use lib.ListN.{length, getD, take, drop, length-append, length-take, length-drop, List·getD-append}
-use lib.Seq.{take-append-seam, drop-at, getD-take, getD-drop, getD-append-seam, ext-getD}
+use Rattle.words.specs.Words.{_≡_, arith, ℕ, _≤_, _+_, List, length, _<_, _∙_, sym, ap, [], _∷_, suc, zero, getD, _++_, drop, take, length-append, length-drop}
+use Rattle.words.specs.Words.{length-take, getD-drop, List·getD-append, ext-getD, take-append-seam, getD-take}
+use lib.Seq.{drop-at, getD-append-seam}
 use Rattle.history.specs.Symbol.{bytesOf, symbolOf}
 use Rattle.history.specs.History.{Filling, symbolsAt}
 use Rattle.history.proofs.Says.{bytes-symbol, length-at, getD-at}

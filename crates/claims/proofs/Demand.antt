@@ -1,26 +1,31 @@
 -- Demand 3 holds of every list of calls that the promises allow.
-use mathlib.Core.Path.{_≡_, refl, sym, ap, ap₂, _∙_, subst}
-use mathlib.Core.Logic.{_↔_, _⊎_, inl, inr, Iff·trans}
-use mathlib.Core.Option.{Option, none, some, Option·none-ne-some, Option·some-injective}
-use mathlib.Core.List.{List, [], _∷_, _++_, map}
-use denote.Ref.{RefT, now}
-use Prim.Native.Nat.{ℕ, _+_, _%_, _^_, _≤_, _<_}
-use native.Mathlib.Decide.{decLt}
-use native.Mathlib.Omega.{arith}
-use lib.ListN.{length}
+-- Index
+--   some-bytes
+--   Stands: the memory holds a state that follows the history
+--   read-found: what is read of a call by the history is what the state x makes of it, and what passes the checks
+--   read-passes
+--   called: a call on a memory that holds the state x
+--   stands
+--   held-fresh: before any base the memory holds that
+--   From, held-from
+--   at-base: what the two calls find at the ESI of the position b + d
+--   symbol, found, here, exactly, value-is, opened-stands
+--   had-setting: an opening that answers 0 had a setting
+--   demand-3, no-choice
+use Rattle.words.specs.Words.{_≡_, arith, ℕ, _≤_, _+_, List, length, _<_, refl, _∙_, sym, ap, [], some, _%_, _∷_, none, _++_, subst, Option, _^_, ap₂, _↔_}
+use Rattle.words.specs.Words.{Option·some-injective, Option·none-ne-some, map, decLt, _⊎_, inr, inl, now, RefT}
+use mathlib.Core.Logic.{Iff·trans}
 use Rattle.wire.specs.declared.Setting.{Setting}
 use Rattle.wire.specs.Settings.{settingOf, Valid}
 use Rattle.wire.proofs.Settings.{setting-names}
 use Rattle.decoder.specs.Model.{known}
-use Rattle.decoder.specs.Receiver as decoder
 use Rattle.wire.specs.declared.Answer.{Answer}
 use Rattle.history.specs.Symbol.{Symbol, bytesOf}
-use Rattle.history.specs.History.{IsValue, Located, Filling, All, Known, located, reading, Log, fresh, OfBytes, esiOf}
-use Rattle.wire.specs.Answers.{value, refusal, said}
-use Rattle.history.specs.History.{baseOf, readAfter, logged, Judged}
+use Rattle.history.specs.History.{IsValue, Located, Filling, All, Known, located, reading, Log, fresh, OfBytes, esiOf, baseOf, readAfter, logged, Judged}
 use Rattle.history.specs.History.{halfway}
-use Rattle.history.specs.Model.{Joined, State, opened, foundBy, Outcome, refused, done, saidOf, stateAfter, responds, answering, receiving}
-use Rattle.history.specs.Model.{Finding, shows, hides, shown, finding}
+use Rattle.wire.specs.Answers.{value, refusal, said}
+use Rattle.history.specs.Model.{Joined, State, opened, foundBy, Outcome, refused, done, saidOf, stateAfter, responds, answering, receiving, Finding, shows}
+use Rattle.history.specs.Model.{hides, shown, finding}
 use Rattle.receiver.specs.Promises.{Layout, opening, Opened, Follows, Received, Finds, SymbolAnswered, Shows, PartShown}
 use Rattle.history.proofs.Answers.{Tracks, TracksFrom, Passes, baseIn, base-found, judged, known-exactly, known-value, tracks-consistent, fresh-tracks}
 use Rattle.history.proofs.Counting.{judged-once}
@@ -28,6 +33,7 @@ use Rattle.history.proofs.Readings.{reading-passes}
 use Rattle.history.proofs.Sides.{limits, found-inside, found-past, found-behind}
 use Rattle.claims.specs.Run.{Step, Run, final, read, goes-on, history}
 use Rattle.claims.specs.Demand.{esi, ShownExactly, HiddenBefore, HiddenOutside, Demand-3, Every-list, Alike, No-choice}
+use Rattle.decoder.specs.Receiver as decoder
 
 module _ (L : Layout) (s : Setting) (v : Valid s) where
   open Setting s using (size as E, width)

@@ -1,12 +1,9 @@
 -- The draws that the calls give are those that the packets take: the headers of both ends keep the setting of the opening.
-use mathlib.Core.Path.{sym, ap, ap₂, _∙_}
-use Prim.Native.Nat.{ℕ}
-use lib.ListN.{length, take}
+use Rattle.words.specs.Words.{ℕ, length, _∙_, sym, ap, take, ap₂}
 use Rattle.wire.specs.declared.Scheme.{Scheme}
 use Rattle.wire.specs.Settings.{settingOf}
 use Rattle.wire.proofs.Settings.{setting-names}
 use Rattle.coefficients.specs.Coefficients.{packetDraws}
-use Rattle.sender.specs.State as sender
 use Rattle.history.specs.History.{fresh}
 use Rattle.receiver.specs.Promises.{drawsFor}
 use Rattle.holding.specs.Layout.{headerOf}
@@ -16,6 +13,7 @@ use Rattle.claims.specs.SenderRun.{symbolsOf}
 use Rattle.claims.specs.Drawing.{Accepted-draws, Made-draws}
 use Rattle.claims.proofs.Demand.{opened-stands, stands, had-setting}
 use Rattle.claims.proofs.Sending.{run-held}
+use Rattle.sender.specs.State as sender
 
 pub accepted-draws : Accepted-draws
 accepted-draws scheme E w m₀ m a p e ts r =

@@ -1,12 +1,7 @@
 -- The ADU call hands out what the history says, after every list of calls that the promises allow.
-use mathlib.Core.Path.{_≡_, sym, ap, ap₂, _∙_, subst}
-use mathlib.Core.Logic.{_↔_, Iff·trans}
-use mathlib.Core.Option.{none, some, Option·none-ne-some, Option·some-injective}
-use mathlib.Core.List.{List, [], _∷_, _++_}
-use Prim.Native.Nat.{ℕ, _+_, _%_, _^_, _≤_, _<_}
-use native.Mathlib.Omega.{arith}
-use lib.ListN.{length, take, drop}
-use lib.Seq.{take-append-seam}
+use Rattle.words.specs.Words.{_≡_, arith, ℕ, _≤_, _+_, List, length, _<_, _∙_, sym, ap, [], some, _%_, _∷_, none, _++_, subst, drop, _^_, take, ap₂, _↔_}
+use Rattle.words.specs.Words.{Option·some-injective, Option·none-ne-some, take-append-seam}
+use mathlib.Core.Logic.{Iff·trans}
 use Rattle.wire.specs.declared.Setting.{Setting}
 use Rattle.wire.specs.Settings.{settingOf, Valid}
 use Rattle.wire.specs.Packets.{sourceSymbols}
@@ -24,8 +19,8 @@ use Rattle.history.specs.Model.{Joined, State, opened, foundBy, stateAfter, res
 use Rattle.receiver.specs.Promises.{Layout, Opened, Received, AduAnswered}
 use Rattle.history.proofs.Answers.{Tracks, TracksFrom, baseIn, fresh-tracks}
 use Rattle.history.proofs.Sides.{limits, adu-inside, adu-past, adu-behind}
-use Rattle.history.proofs.Starting.{Sees, shown-whole, unseen, shows-held, held-shows, shows-inside, seen-outside, AreStarts, MarksTrack}
-use Rattle.history.proofs.Starting.{fresh-marks, tracks-sees, marking-tracks}
+use Rattle.history.proofs.Starting.{Sees, shown-whole, unseen, shows-held, held-shows, shows-inside, seen-outside, AreStarts, MarksTrack, fresh-marks}
+use Rattle.history.proofs.Starting.{tracks-sees, marking-tracks}
 use Rattle.claims.specs.Run.{Step, Run, final, read, goes-on, history}
 use Rattle.claims.specs.Demand.{esi}
 use Rattle.claims.specs.Handing.{Told, HoldsAdu, Handed-out, Handing-told, Hands-out}

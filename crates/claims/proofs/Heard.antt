@@ -1,13 +1,6 @@
 -- Positions become starts: after an ADU that is held at one, and where a source packet was accepted.
-use mathlib.Core.Path.{_≡_, refl, sym, ap, _∙_, subst}
-use mathlib.Core.Logic.{inl, inr}
-use mathlib.Core.Option.{Option, some, Option·some-injective}
-use mathlib.Core.List.{List, [], _∷_, _++_, append-assoc}
-use Prim.Native.Nat.{ℕ, _+_, _-_, _≤_, _<_}
-use native.Mathlib.Omega.{arith}
-use lib.Dec.{leb}
-use lib.ListN.{length, getD, drop}
-use borrow.Author.Tests.{leb-true}
+use Rattle.words.specs.Words.{_≡_, arith, ℕ, _≤_, _+_, List, length, _<_, refl, _∙_, sym, ap, _-_, [], some, _∷_, getD, _++_, subst, Option, drop, leb}
+use Rattle.words.specs.Words.{Option·some-injective, inr, inl, append-assoc, leb-true}
 use Rattle.wire.specs.declared.Setting.{Setting}
 use Rattle.wire.specs.Settings.{Valid}
 use Rattle.wire.specs.Packets.{symbolCount, sourceSymbols, sourceAdu}
@@ -17,11 +10,9 @@ use Rattle.starts.specs.declared.Handed.{Handed}
 use Rattle.starts.specs.declared.Handed.the-variants.{Adu}
 use Rattle.starts.proofs.Chaining.{symbols-some}
 use Rattle.history.specs.Symbol.{bytesOf, symbolOf}
-use Rattle.history.specs.History.{Filling, symbolsAt, Located, source, repair, Satisfied, All, Consistent, Known, Reading, fails, located, first}
+use Rattle.history.specs.History.{Filling, symbolsAt, Located, source, repair, Satisfied, All, Consistent, Known, Reading, fails, located, first, esiOf}
+use Rattle.history.specs.History.{readSource, readPacket, baseFor, Log, fresh, IsValue, raised, baseOf, logged, Spanned, MarkedBy, already, later, Start}
 use Rattle.wire.specs.Answers.{Said, value, refusal, said}
-use Rattle.history.specs.History.{esiOf, readSource, readPacket, baseFor, Log, fresh, IsValue, raised, baseOf, logged}
-use Rattle.history.specs.History.{Spanned, MarkedBy}
-use Rattle.history.specs.History.{already, later, Start}
 use Rattle.receiver.specs.Promises.{Layout, AduAnswered}
 use Rattle.history.proofs.Says.{symbol-bytes}
 use Rattle.history.proofs.Readings.{check-passed, source-read, reading-passed}

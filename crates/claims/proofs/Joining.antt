@@ -1,17 +1,11 @@
 -- Joining a stream: 8 and 9 can't stop the first packet, its first ESI is the base, and no repair packet marks a start.
-use mathlib.Core.Path.{_≡_, refl, sym, ap, _∙_, subst}
-use mathlib.Core.Logic.{_⊎_, inl, inr}
-use mathlib.Core.Option.{none, some}
-use mathlib.Core.List.{List, [], _∷_, _++_}
-use Prim.Native.Nat.{ℕ, _≤_}
-use native.Mathlib.Omega.{arith}
-use lib.ListN.{length}
+use Rattle.words.specs.Words.{_≡_, arith, ℕ, _≤_, List, length, refl, _∙_, sym, ap, [], some, _∷_, none, _++_, subst, _⊎_, inr, inl}
 use Rattle.wire.specs.declared.Setting.{Setting}
-use Rattle.wire.specs.Settings.{settingOf, Valid}
+use Rattle.wire.specs.Settings.{Valid}
 use Rattle.wire.proofs.Settings.{setting-names}
 use Rattle.wire.specs.Answers.{Said, value, refusal, said}
-use Rattle.history.specs.History.{Located, source, repair, first, named, OfBytes, esiOf, Reading, fails, located, baseFor, joinedAt, Log, fresh}
-use Rattle.history.specs.History.{IsValue, Consistent, raised, baseOf, logged, reading, Judged, Reached, already, later, MarkedBy, Start}
+use Rattle.history.specs.History.{Located, source, repair, first, OfBytes, esiOf, Reading, fails, located, baseFor, joinedAt, Log, fresh, IsValue, Consistent}
+use Rattle.history.specs.History.{raised, baseOf, logged, reading, Judged, Reached, already, later, MarkedBy, Start}
 use Rattle.receiver.specs.Promises.{Layout}
 use Rattle.history.proofs.Cases.{numeral}
 use Rattle.history.proofs.Readings.{reading-fits, joins-at, joins-near}

@@ -1,11 +1,6 @@
 -- Every list of packet calls has a run: each call has an answer, and a memory to leave, that its promise allows.
-use mathlib.Core.Path.{_≡_, refl, sym, ap, _∙_, subst}
-use mathlib.Core.Logic.{_≢_}
-use mathlib.Core.Option.{none, some, Option·none-ne-some, Option·some-injective}
-use mathlib.Core.List.{List, [], _∷_, map}
-use Prim.Native.Nat.{ℕ, _%_, _≤_, _<_}
-use native.Mathlib.Omega.{arith}
-use lib.ListN.{length, drop, length-drop}
+use Rattle.words.specs.Words.{_≡_, arith, ℕ, _≤_, List, length, _<_, refl, _∙_, sym, ap, [], some, _%_, _∷_, none, subst, drop, _≢_, Option·some-injective}
+use Rattle.words.specs.Words.{Option·none-ne-some, map, length-drop}
 use Rattle.wire.specs.declared.Setting.{Setting}
 use Rattle.wire.specs.Settings.{settingOf, Valid}
 use Rattle.wire.proofs.Settings.{setting-names}
@@ -13,7 +8,6 @@ use Rattle.wire.specs.declared.Answer.{Answer}
 use Rattle.wire.specs.declared.Answer.the-variants.{Done, Refused}
 use Rattle.holding.specs.declared.Header.{Header}
 use Rattle.starts.specs.Starts.{Starts, seen}
-use Rattle.marks.specs.Marks as stored
 use Rattle.marks.specs.Marks.{marked, notedIn}
 use Rattle.starts.specs.Settled.{Settled}
 use Rattle.marks.proofs.Choosing.{with-starts}
@@ -36,6 +30,7 @@ use Rattle.admission.proofs.Marking.{starts-holds, starts-contained}
 use Rattle.claims.specs.Run.{Step, Run}
 use Rattle.claims.specs.NotEmpty.{Asked, asked, AllOfBytes, Runs-exist}
 use Rattle.claims.proofs.Demand.{had-setting}
+use Rattle.marks.specs.Marks as stored
 
 module _ (s : Setting) (v : Valid s) where
   abbrev some-bytes : 0 < s .size

@@ -1,27 +1,21 @@
 -- The place of a symbol holds what the history says, after every list of calls that the promises allow.
-use mathlib.Core.Path.{_≡_, refl, sym, ap, _∙_, subst}
-use mathlib.Core.Option.{Option, none, some}
-use mathlib.Core.List.{List}
-use Prim.Native.Nat.{ℕ, _+_, _<_}
-use native.Mathlib.Omega.{arith}
-use lib.ListN.{length}
+use Rattle.words.specs.Words.{_≡_, arith, ℕ, _+_, List, length, _<_, refl, _∙_, sym, ap, some, none, subst, Option}
 use Rattle.memory.specs.Part.{part}
 use Rattle.wire.specs.declared.Setting.{Setting}
 use Rattle.wire.specs.Settings.{settingOf, Valid}
 use Rattle.wire.proofs.Settings.{setting-names}
-use Rattle.decoder.specs.Receiver as decoder
 use Rattle.wire.specs.declared.Answer.{Answer}
 use Rattle.history.specs.Symbol.{Symbol, bytesOf}
 use Rattle.wire.specs.Answers.{value, refusal, said}
 use Rattle.history.specs.History.{Filling, Located, All, fresh}
 use Rattle.history.specs.Model.{Finding, hides, finding}
 use Rattle.receiver.specs.Promises.{Layout, Places, PlaceAnswered}
-use Rattle.history.proofs.Sides.{found-past, found-behind}
-use Rattle.history.proofs.Sides.{limits}
+use Rattle.history.proofs.Sides.{found-past, found-behind, limits}
 use Rattle.claims.specs.Run.{final, history}
 use Rattle.claims.specs.Demand.{esi}
 use Rattle.claims.specs.Placing.{PlacedExactly, Placed, Every-place}
 use Rattle.claims.proofs.Demand.{stands, From, held-fresh, held-from, at-base, symbol, found, here, exactly, value-is, opened-stands, had-setting}
+use Rattle.decoder.specs.Receiver as decoder
 
 module _ (L : Layout) (s : Setting) (v : Valid s) (m : List ℕ) where
   open Setting s using (size as E, width)

@@ -1,21 +1,12 @@
 -- Every packet that RFC 8681 can write within our sizes is read at its place.
-use mathlib.Core.Path.{_≡_, refl, _∙_}
-use mathlib.Core.Bool.{true}
-use mathlib.Core.List.{List}
-use Prim.Native.Nat.{ℕ, _+_, _%_, _^_, _≤_, _<_}
-use native.Mathlib.Nat.{mod-lt}
-use native.Mathlib.Omega.{arith}
-use lib.ListN.{length}
-use lib.Dec.{lit<}
-use borrow.Author.Tests.{le-leb}
+use Rattle.words.specs.Words.{_≡_, arith, ℕ, _≤_, _+_, List, length, _<_, refl, _∙_, _%_, true, _^_, mod-lt, le-leb, lit<}
 use Rattle.wire.specs.declared.Setting.{Setting}
 use Rattle.wire.specs.Packets.{Sized, symbolCount, sourceSymbols, sourcePacket, repairPacket}
 use Rattle.wire.proofs.Settings.{within-true}
-use Rattle.wire.proofs.Reading.{source-form, source-adu, source-esi, repair-form, repair-symbols, repair-key, density-threshold, protected-count}
-use Rattle.wire.proofs.Reading.{first-esi}
+use Rattle.wire.proofs.Reading.{source-form, source-adu, source-esi, repair-form, repair-symbols, repair-key, density-threshold, protected-count, first-esi}
 use Rattle.coefficients.specs.Coefficients.{keys, listsOf, allOk}
-use Rattle.history.specs.History.{Located, source, repair, sideOf, source-call, repair-call, Reading, located, check, fromSide, workingSize}
-use Rattle.history.specs.History.{readSource, readRepair, reading}
+use Rattle.history.specs.History.{Located, source, repair, sideOf, source-call, repair-call, Reading, located, check, fromSide, workingSize, readSource}
+use Rattle.history.specs.History.{readRepair, reading}
 use Rattle.history.proofs.Sides.{side-taken, fails-behind, fails-far}
 use Rattle.claims.specs.Reading.{ReadBy, Reads}
 

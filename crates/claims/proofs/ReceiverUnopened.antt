@@ -1,17 +1,15 @@
 -- What refusal 3 stands for at a receiver.
-use mathlib.Core.Path.{sym, _∙_}
-use native.Mathlib.Omega.{arith}
-use lib.ListN.{length}
+use Rattle.words.specs.Words.{arith, length, _∙_, sym}
 use Rattle.wire.specs.Settings.{settingOf}
 use Rattle.wire.proofs.Settings.{setting-names}
-use Rattle.sender.specs.State as sender
-use Rattle.sender.proofs.Heads as heads
 use Rattle.history.specs.History.{fresh}
 use Rattle.holding.specs.Layout.{headerOf}
 use Rattle.receiver.specs.Layout.{receiverLayout}
 use Rattle.holding.proofs.Headers.{headed, setting-of, zeros-unopened, other-unopened, short-unopened}
 use Rattle.claims.specs.ReceiverUnopened.{Receiver-unopened}
 use Rattle.claims.proofs.Demand.{had-setting, stands, opened-stands}
+use Rattle.sender.specs.State as sender
+use Rattle.sender.proofs.Heads as heads
 
 pub receiver-unopened : Receiver-unopened
 receiver-unopened = record {

@@ -1,14 +1,17 @@
 -- Every packet that a sender writes is of the symbols that it took: by the calls of its list, one after the other.
-use mathlib.Core.Path.{_≡_, refl, sym, ap, _∙_}
-use mathlib.Core.Bool.{Bool, true, false, _||_, not}
-use mathlib.Core.Option.{Option, none, some}
-use Prim.Native.Nat.{ℕ, _+_, _*_, _%_, _^_, _≤_, _<_}
-use native.Mathlib.Omega.{arith}
-use mathlib.Core.List.{List, [], _∷_, _++_, map, append-assoc, append-nil}
+-- Index
+--   symbols-append: the symbols of calls, and of those after them
+--   run-held: and the memory after the calls holds what they took
+--   run-size, sender-symbols, sender-sends
+--   Taken: a flow, bytes, and no more than its length's two bytes can say
+--   begun
+--   begun-symbols: its symbols stand among the sender's
+--   sent-wrote: a packet of the sender's is of its symbols
+--   sender-packets
+use Rattle.words.specs.Words.{_≡_, arith, ℕ, _≤_, _+_, List, length, _<_, refl, _∙_, sym, ap, [], some, _%_, _∷_, true, none, _*_, false, _++_, Bool, Option}
+use Rattle.words.specs.Words.{_^_, take, ltb, eqb, map, not-false, append-assoc, length-drop, append-nil, _||_, length-take, not, ltb-false, eqb-false}
+use Rattle.words.specs.Words.{take-append-drop}
 use lib.Seq.{append-snoc}
-use lib.ListN.{length, take, length-drop, length-take, take-append-drop}
-use lib.Dec.{ltb, eqb}
-use borrow.Author.Tests.{ltb-false, eqb-false, not-false}
 use Rattle.memory.specs.Part.{splice}
 use Rattle.memory.specs.Number.{Bytes}
 use Rattle.memory.proofs.Parts.{take-new}
@@ -27,8 +30,8 @@ use Rattle.wire.specs.Answers.{value, refusal, said}
 use Rattle.sender.specs.Promises.{Follows}
 use Rattle.sender.proofs.Heads.{opened}
 use Rattle.sender.proofs.Repairing.{written-small}
-use Rattle.claims.specs.SenderRun.{SenderCall, added, repaired, Calls, memoryAfter, SenderRun, symbolsOf, Packet, repair, packetsOf}
-use Rattle.claims.specs.SenderRun.{Wrote, wrote-source, wrote-repair, AllWrote, Sender-symbols, Sender-packets}
+use Rattle.claims.specs.SenderRun.{SenderCall, added, repaired, Calls, memoryAfter, SenderRun, symbolsOf, Packet, repair, packetsOf, Wrote, wrote-source}
+use Rattle.claims.specs.SenderRun.{wrote-repair, AllWrote, Sender-symbols, Sender-packets}
 use Rattle.claims.specs.SentAdus.{Begins, Sent, sent-source, sent-repair, AllSent, Sender-sends}
 use Rattle.claims.proofs.Symbols.{are-symbols}
 

@@ -1,12 +1,16 @@
 -- The sender's symbols satisfy the sender's packets, which are accepted and shown.
-use mathlib.Core.Path.{_≡_, refl, sym, ap, _∙_, subst}
-use mathlib.Core.Option.{Option, none, some, Option·none-ne-some}
-use mathlib.Core.List.{List, [], _∷_, _++_, map}
-use Prim.Native.Nat.{ℕ, _+_, _-_, _%_, _^_, _≤_, _<_}
-use native.Mathlib.Nat.{mod-lt}
-use native.Mathlib.Omega.{arith}
-use lib.Dec.{lit<}
-use lib.ListN.{length, length-map}
+-- Index
+--   found-again: a sender's position near the base is found again by its ESI, unless it lies behind
+--   Rounds: what arrives is near the base for it, and the offset is a number of whole rounds of ESIs
+--   arrived
+--   esi-wrote: a sender's packet has the ESI of its position
+--   From: packets that begin at a position or later
+--   from-zero, written-satisfied, arrived-satisfied, written-filled, joined-from
+--   none-accepted: without a base there is no packet
+--   sender-fills, peer-size, peer-symbols, sent-accepted, sent-behind, sent-shown
+use Rattle.words.specs.Words.{_≡_, arith, ℕ, _≤_, _+_, List, length, _<_, refl, _∙_, sym, ap, _-_, [], some, _%_, _∷_, none, _++_, subst, Option, _^_, mod-lt}
+use Rattle.words.specs.Words.{Option·none-ne-some, map, lit<}
+use lib.ListN.{length-map}
 use Rattle.wire.specs.declared.Scheme.{Scheme}
 use Rattle.wire.specs.declared.Setting.{Setting}
 use Rattle.wire.specs.Numbers.{distanceOf}
@@ -18,16 +22,14 @@ use Rattle.coefficients.proofs.Lists.{length-keys}
 use Rattle.rows.specs.Combination.{combination}
 use Rattle.rows.proofs.Combinations.{length-combination}
 use Rattle.sender.specs.Repair.{repairSymbol}
-use Rattle.history.specs.History.{Filling, Located, source, repair, first, Satisfied, All, Call, source-call, repair-call, esiOf, Reading, fails}
+use Rattle.history.specs.History.{Filling, Located, source, repair, first, Satisfied, All, Call, source-call, repair-call, esiOf, Reading, fails, located}
+use Rattle.history.specs.History.{workingSize, readPacket, reading, baseFor, joinedAt, Log, fresh, IsValue, readAfter, baseOf, logged, Judged, halfway}
+use Rattle.history.specs.History.{farthest}
 use Rattle.wire.specs.Answers.{Said, value, refusal, said}
-use Rattle.history.specs.History.{located, workingSize, readPacket, reading, baseFor, joinedAt, Log, fresh, IsValue, readAfter}
-use Rattle.history.specs.History.{baseOf, logged, Judged}
 use Rattle.receiver.specs.Promises.{Layout}
-use Rattle.history.specs.History.{halfway, farthest}
 use Rattle.history.proofs.Readings.{source-read, repair-read, reading-passed}
 use Rattle.history.proofs.Sides.{limits}
-use Rattle.claims.specs.SenderRun.{SenderCall, symbolsOf, AreSymbols, Packet}
-use Rattle.claims.specs.SenderRun.{Wrote, wrote-source, wrote-repair}
+use Rattle.claims.specs.SenderRun.{SenderCall, symbolsOf, AreSymbols, Packet, Wrote, wrote-source, wrote-repair}
 use Rattle.claims.specs.Run.{Step, read, goes-on, history}
 use Rattle.claims.specs.Carrying.{Carries}
 use Rattle.claims.specs.Reading.{ReadBy}
@@ -54,7 +56,8 @@ arrived (some b) offset p w a = (w b refl, a)
 -- A sender's packet has the ESI of its position.
 pub esi-wrote : (scheme : Scheme) (E : ℕ) (all : List (List ℕ)) (x : Packet) (p : ℕ) → Wrote scheme E all x p → esiOf (callOf x) ≡ p % 2 ^ 32
 esi-wrote scheme E all x p (wrote-source before after flow adu i j l e) = source-esi adu (p % 2 ^ 32) (mod-lt p (lit< tt))
-esi-wrote scheme E all x p (wrote-repair before window after key dt count k d w v i j o e) = first-esi key dt (length window) (p % 2 ^ 32) _ (mod-lt p (lit< tt))
+esi-wrote scheme E all x p (wrote-repair before window after key dt count k d w v i j o e) = first-esi key dt (length window) (p % 2 ^ 32) _
+    (mod-lt p (lit< tt))
 
 -- Packets that begin at a position or later.
 abbrev pub From : ℕ → List Located → Type 0
@@ -312,7 +315,8 @@ sent-accepted t s l k v offset ts w x p o within c room enough a j = go (baseOf 
         let sum : p % 2 ^ 32 + n ≡ p = omega arith in
         taken t s l k ts x p o v c room enough a j (p % 2 ^ 32) n (omega arith)
         (ap (λ u. baseFor u (esiOf (callOf x))) e ∙ esi-wrote (s .scheme) (s .size) (symbolsOf (s .size) l) x p o) (omega (arith, sum))
-        (omega (arith, sum, few, limits)) (subst (λ qs. All (s .size) qs (filler (s .size) n (symbolsOf (s .size) l))) (sym (none-accepted s (history s ts) e)) tt)
+        (omega (arith, sum, few, limits)) (subst (λ qs. All (s .size) qs (filler (s .size) n (symbolsOf (s .size) l))) (sym (none-accepted s (history s ts) e))
+        tt)
     go (some b) e (h, g) =
         taken t s l k ts x p o v c room enough a j b offset
         (written-filled s (omega (arith, v .size-least)) (symbolsOf (s .size) l) offset ts w .0 b e) (ap (λ u. baseFor u (esiOf (callOf x))) e) h g

@@ -1,13 +1,10 @@
 -- A sender's ADUs at the receiver: only the ADU that begins at a position is handed out there, and packets of the sender's alone mark no other start.
-use mathlib.Core.Path.{_≡_, refl, sym, ap, _∙_, subst}
-use mathlib.Core.Logic.{_⊎_, inl, inr}
-use mathlib.Core.Option.{Option·none-ne-some}
-use mathlib.Core.List.{List, [], _∷_, _++_, append-nil}
-use Prim.Native.Nat.{ℕ, _+_, _%_, _^_, _≤_, _<_}
-use native.Mathlib.Nat.{add-zero, mod-lt}
-use native.Mathlib.Omega.{arith}
-use lib.Dec.{lit<}
-use lib.ListN.{length, getD, length-append}
+-- Index
+--   junk-gives
+--   first-here: where a filling holds an ADU from a position on, its first symbol stands there, and says its length
+--   length-here, start-gives, sent-written, sent-starts, sent-handed
+use Rattle.words.specs.Words.{_≡_, arith, ℕ, _≤_, _+_, List, length, _<_, refl, _∙_, sym, ap, [], _%_, _∷_, getD, _++_, subst, _^_, mod-lt, Option·none-ne-some}
+use Rattle.words.specs.Words.{add-zero, length-append, _⊎_, inr, inl, lit<, append-nil}
 use lib.Seq.{append-snoc}
 use Rattle.wire.specs.declared.Setting.{Setting}
 use Rattle.wire.specs.Numbers.{distanceOf}
@@ -17,9 +14,9 @@ use Rattle.wire.proofs.Reading.{source-adu, source-esi}
 use Rattle.starts.specs.Adu.{lengthIn, needs}
 use Rattle.wire.specs.declared.Answer.the-variants.{Done, Refused}
 use Rattle.history.specs.Symbol.{bytesOf, symbolOf}
-use Rattle.history.specs.History.{Filling, symbolsAt, Located, Satisfied, All, Known, Reading, fails, located, readPacket}
+use Rattle.history.specs.History.{Filling, symbolsAt, Located, Satisfied, All, Known, Reading, fails, located, readPacket, esiOf, baseFor, baseOf, Log, fresh}
+use Rattle.history.specs.History.{IsValue, logged, MarkedBy, Reached, already, later, Start}
 use Rattle.wire.specs.Answers.{Said, value, refusal, said}
-use Rattle.history.specs.History.{esiOf, baseFor, baseOf, Log, fresh, IsValue, logged, MarkedBy, Reached, already, later, Start}
 use Rattle.starts.proofs.Chaining.{symbols-some}
 use Rattle.history.proofs.Says.{symbol-bytes, getD-at}
 use Rattle.history.proofs.Readings.{source-read, repair-read}
@@ -28,8 +25,8 @@ use Rattle.claims.specs.Run.{Step, read, goes-on, history}
 use Rattle.claims.specs.Carrying.{Carries}
 use Rattle.claims.specs.Handing.{HoldsAdu}
 use Rattle.claims.specs.Sent.{callOf, Near, AsWritten, Peers}
-use Rattle.claims.specs.SentAdus.{Begins, Boundary, Sent, sent-source, sent-repair, AsSent}
-use Rattle.claims.specs.SentAdus.{Start-gives, Junk-gives, Sent-written, Sent-starts, Sent-handed}
+use Rattle.claims.specs.SentAdus.{Begins, Boundary, Sent, sent-source, sent-repair, AsSent, Start-gives, Junk-gives, Sent-written, Sent-starts}
+use Rattle.claims.specs.SentAdus.{Sent-handed}
 use Rattle.claims.proofs.Sending.{symbols-append, begun, begun-symbols, sent-wrote}
 use Rattle.claims.proofs.Adus.{length-first, same-adu}
 use Rattle.claims.proofs.Carrying.{carried-stretch, stretch, Differ, differ}
@@ -142,7 +139,8 @@ module _ (t s : Setting) (l : List SenderCall) (k : Peers t s l) where
     next : (p : ℕ) → Boundary E l (p + offset) → Known E qs p → (f : Filling E) → All E qs f → Boundary E l (p + needs E (bytesOf E (f p)) + offset)
     next p b known f a = go (begins-or-ends E l (p + offset) (b .before) (b .after) (b .split) (b .place))
       where
-        go : ((flow : ℕ) × (adu : List ℕ) × Begins E l (p + offset) flow adu) ⊎ (p + offset ≡ length all) → Boundary E l (p + needs E (bytesOf E (f p)) + offset)
+        go : ((flow : ℕ) × (adu : List ℕ) × Begins E l (p + offset) flow adu) ⊎ (p + offset ≡ length all) → Boundary E l
+            (p + needs E (bytesOf E (f p)) + offset)
         go (inr e) = absurd (end-unknown p e known)
         go (inl (flow, adu, g)) =
             let c = ends .one in

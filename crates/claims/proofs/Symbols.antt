@@ -1,11 +1,6 @@
 -- A sender's symbols have E bytes; and what refusal 3 stands for at a sender.
-use mathlib.Core.Path.{_≡_}
-use Prim.Native.Nat.{ℕ, zero, suc, _+_, _-_, _*_, _/_, _^_, _<_}
-use native.Mathlib.Nat.{mod-lt, le-of-suc-le-suc, not-suc-le-zero}
-use native.Mathlib.Omega.{arith}
-use mathlib.Core.List.{List, [], _∷_, _++_}
-use lib.ListN.{length, take, drop, getD}
-use lib.Dec.{lit<}
+use Rattle.words.specs.Words.{_≡_, arith, ℕ, _+_, List, length, _<_, _-_, [], _∷_, suc, zero, _*_, getD, _++_, drop, _^_, take, mod-lt, _/_, not-suc-le-zero}
+use Rattle.words.specs.Words.{le-of-suc-le-suc, lit<}
 use Rattle.memory.specs.Number.{bytes, Bytes}
 use Rattle.wire.specs.Packets.{zeros, chunks, symbolCount, adui, sourceSymbols, Sized}
 use Rattle.wire.proofs.Adui.{symbols-sized}
@@ -67,7 +62,8 @@ small-symbols flow adu E h b =
     let n = symbolCount E (length adu) * E - (3 + length adu) in
     let pad = zeros n in
     small-chunks (symbolCount E (length adu)) E (adui flow adu E)
-    (bytes-cons flow (bytes 2 (length adu) ++ (adu ++ pad)) h (bytes-append (bytes 2 (length adu)) (adu ++ pad) (bytes-number 2 (length adu)) (bytes-append adu pad b (bytes-zeros n))))
+    (bytes-cons flow (bytes 2 (length adu) ++ (adu ++ pad)) h (bytes-append (bytes 2 (length adu)) (adu ++ pad) (bytes-number 2 (length adu))
+    (bytes-append adu pad b (bytes-zeros n))))
 
 small-append : (xs ys : List (List ℕ)) → Small xs → Small ys → Small (xs ++ ys)
 small-append [] ys a b = b
@@ -89,13 +85,15 @@ small-at (x ∷ xs) s (suc p) = small-at xs (s .1) p
 
 taken-sized : (E : ℕ) → 0 < E → (l : List SenderCall) → Sized E (symbolsOf E l)
 taken-sized E z [] = tt
-taken-sized E z (added flow adu out (Done n) m′ out′ ∷ l) = sized-append E (sourceSymbols flow adu E) (symbolsOf E l) (symbols-sized flow adu E z) (taken-sized E z l)
+taken-sized E z (added flow adu out (Done n) m′ out′ ∷ l) = sized-append E (sourceSymbols flow adu E) (symbolsOf E l) (symbols-sized flow adu E z)
+    (taken-sized E z l)
 taken-sized E z (added flow adu out (Refused n) m′ out′ ∷ l) = taken-sized E z l
 taken-sized E z (repaired key dt count out r out′ ∷ l) = taken-sized E z l
 
 taken-small : (E : ℕ) (m : List ℕ) (l : List SenderCall) → Calls m l → Small (symbolsOf E l)
 taken-small E m [] c = tt
-taken-small E m (added flow adu out (Done n) m′ out′ ∷ l) (h, b, p, c) = small-append (sourceSymbols flow adu E) (symbolsOf E l) (small-symbols flow adu E h b) (taken-small E m′ l c)
+taken-small E m (added flow adu out (Done n) m′ out′ ∷ l) (h, b, p, c) = small-append (sourceSymbols flow adu E) (symbolsOf E l) (small-symbols flow adu E h b)
+    (taken-small E m′ l c)
 taken-small E m (added flow adu out (Refused n) m′ out′ ∷ l) (h, b, p, c) = taken-small E m′ l c
 taken-small E m (repaired key dt count out r out′ ∷ l) (h, p, c) = taken-small E m l c
 

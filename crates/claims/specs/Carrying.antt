@@ -1,8 +1,5 @@
 -- A filling that carries a sender's symbols.
-use mathlib.Core.Path.{_≡_}
-use mathlib.Core.List.{List, []}
-use Prim.Native.Nat.{ℕ, _+_, _≤_, _<_}
-use lib.ListN.{length, getD}
+use Rattle.words.specs.Words.{_≡_, ℕ, _≤_, _+_, List, length, _<_, [], getD}
 use Rattle.history.specs.Symbol.{bytesOf}
 use Rattle.history.specs.History.{Filling}
 

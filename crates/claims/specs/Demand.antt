@@ -1,19 +1,12 @@
 -- Demand 3: what is claimed of every list of packet calls from a fresh receiver.
-use mathlib.Core.Path.{_≡_}
-use mathlib.Core.Logic.{_↔_, _⊎_}
-use mathlib.Core.List.{List, [], _∷_, _++_, map}
-use mathlib.Core.Option.{none, some}
-use denote.Ref.{RefT, now}
-use Prim.Native.Nat.{ℕ, _+_, _%_, _^_, _≤_, _<_}
-use lib.ListN.{length, getD}
+use Rattle.words.specs.Words.{_≡_, ℕ, _≤_, _+_, List, length, _<_, [], some, _%_, _∷_, none, getD, _++_, _^_, _↔_, map, _⊎_, now, RefT}
 use Rattle.wire.specs.declared.Setting.{Setting}
 use Rattle.wire.specs.Settings.{settingOf}
 use Rattle.wire.specs.declared.Answer.{Answer}
 use Rattle.history.specs.Symbol.{bytesOf}
 use Rattle.wire.specs.Answers.{value, refusal, said}
-use Rattle.history.specs.History.{Filling, Located, All, Consistent, Known, baseOf, Judged}
+use Rattle.history.specs.History.{Filling, Located, All, Consistent, Known, baseOf, Judged, halfway}
 use Rattle.receiver.specs.Promises.{Layout, Opened, SymbolAnswered, PartShown}
-use Rattle.history.specs.History.{halfway}
 use Rattle.claims.specs.Run.{Step, Run, final, read, history}
 use Rattle.claims.specs.Carrying.{Carries}
 

@@ -1,9 +1,5 @@
 -- The draws that the calls give beside their counts, at both ends, from an opening on.
-use mathlib.Core.Path.{_≡_}
-use mathlib.Core.List.{List}
-use mathlib.Core.Option.{some}
-use Prim.Native.Nat.{ℕ}
-use lib.ListN.{take}
+use Rattle.words.specs.Words.{_≡_, ℕ, List, some, take}
 use Rattle.wire.specs.declared.Setting.{Setting}
 use Rattle.wire.specs.Settings.{settingOf}
 use Rattle.sender.specs.declared.RepairAnswer.the-variants.{Made}

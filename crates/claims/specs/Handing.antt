@@ -1,11 +1,5 @@
 -- Handing out an ADU: what is claimed of the ADU call after every list of packet calls from a fresh receiver, and that positions become starts.
-use mathlib.Core.Path.{_≡_}
-use mathlib.Core.Logic.{_↔_}
-use mathlib.Core.Bool.{Bool, true}
-use mathlib.Core.Option.{none, some}
-use mathlib.Core.List.{List, _∷_, _++_}
-use Prim.Native.Nat.{ℕ, _+_, _^_, _≤_, _<_}
-use lib.ListN.{length, drop}
+use Rattle.words.specs.Words.{_≡_, ℕ, _≤_, _+_, List, length, _<_, some, _∷_, true, none, _++_, Bool, drop, _^_, _↔_}
 use Rattle.wire.specs.declared.Setting.{Setting}
 use Rattle.wire.specs.Settings.{settingOf, Valid}
 use Rattle.wire.specs.Packets.{longestAdu, symbolCount, sourceSymbols, sourceAdu}
@@ -16,8 +10,8 @@ use Rattle.wire.specs.declared.Answer.{Answer}
 use Rattle.history.specs.Symbol.{bytesOf}
 use Rattle.wire.specs.Answers.{value, said}
 use Rattle.history.specs.History.{Filling, symbolsAt, Located, first, All, Consistent, Known, source-call, located, Log, IsValue, baseOf, MarkedBy, Start}
-use Rattle.receiver.specs.Promises.{Layout, Opened, AduAnswered}
 use Rattle.history.specs.History.{halfway}
+use Rattle.receiver.specs.Promises.{Layout, Opened, AduAnswered}
 use Rattle.claims.specs.Run.{Step, Run, final, read, history}
 use Rattle.claims.specs.Demand.{esi}
 

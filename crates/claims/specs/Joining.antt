@@ -1,9 +1,5 @@
 -- Joining a stream (document 02, No. 2): what is claimed of packet calls before any base, and of the starts after them.
-use mathlib.Core.Path.{_≡_}
-use mathlib.Core.Logic.{_≢_}
-use mathlib.Core.Option.{none, some}
-use mathlib.Core.List.{List, [], _∷_, _++_}
-use Prim.Native.Nat.{ℕ}
+use Rattle.words.specs.Words.{_≡_, ℕ, List, [], some, _∷_, none, _++_, _≢_}
 use Rattle.wire.specs.declared.Setting.{Setting}
 use Rattle.wire.specs.Settings.{settingOf}
 use Rattle.wire.specs.declared.Answer.{Answer}

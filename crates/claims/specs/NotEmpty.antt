@@ -1,7 +1,5 @@
 -- The claims are not empty: from every opened memory, every list of packet calls has a run.
-use mathlib.Core.Path.{_≡_}
-use mathlib.Core.List.{List, [], _∷_, map}
-use Prim.Native.Nat.{ℕ}
+use Rattle.words.specs.Words.{_≡_, ℕ, List, [], _∷_, map}
 use Rattle.wire.specs.declared.Answer.{Answer}
 use Rattle.wire.specs.Answers.{value, said}
 use Rattle.history.specs.History.{Call, OfBytes}

@@ -1,17 +1,13 @@
 -- The place of a symbol: what is claimed of the call for it after every list of packet calls from a fresh receiver.
-use mathlib.Core.Path.{_≡_}
-use mathlib.Core.Option.{none, some}
-use mathlib.Core.List.{List}
-use Prim.Native.Nat.{ℕ, _+_, _^_, _≤_, _<_}
+use Rattle.words.specs.Words.{_≡_, ℕ, _≤_, _+_, List, _<_, some, none, _^_}
 use Rattle.memory.specs.Part.{part}
 use Rattle.wire.specs.declared.Setting.{Setting}
 use Rattle.wire.specs.Settings.{settingOf}
 use Rattle.wire.specs.declared.Answer.{Answer}
 use Rattle.history.specs.Symbol.{bytesOf}
 use Rattle.wire.specs.Answers.{value, refusal, said}
-use Rattle.history.specs.History.{Filling, Located, All, Known, Log, baseOf}
+use Rattle.history.specs.History.{Filling, Located, All, Known, Log, baseOf, halfway}
 use Rattle.receiver.specs.Promises.{Layout, Opened, PlaceAnswered}
-use Rattle.history.specs.History.{halfway}
 use Rattle.claims.specs.Run.{Step, Run, final, history}
 use Rattle.claims.specs.Demand.{esi}
 

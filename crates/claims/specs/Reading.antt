@@ -1,9 +1,5 @@
 -- What is claimed of reading: every packet that RFC 8681 can write within our sizes is read at its place, by how far its ESI lies from the base alone.
-use mathlib.Core.Path.{_≡_}
-use mathlib.Core.Bool.{true}
-use mathlib.Core.List.{List}
-use Prim.Native.Nat.{ℕ, _+_, _%_, _^_, _≤_, _<_}
-use lib.ListN.{length}
+use Rattle.words.specs.Words.{_≡_, ℕ, _≤_, _+_, List, length, _<_, _%_, true, _^_}
 use Rattle.wire.specs.declared.Setting.{Setting}
 use Rattle.wire.specs.Settings.{Valid}
 use Rattle.wire.specs.Packets.{Sized, longestAdu, symbolCount, sourceSymbols, sourcePacket, repairPacket}

@@ -1,13 +1,8 @@
 -- What refusal 3 stands for at a receiver (document 01, "Why a call says no"): memory that is all zero, of the other end, or shorter than opening
 -- asked; never memory that the receiver opened and only its calls changed since, lent whole.
-use mathlib.Core.Path.{_≡_}
-use mathlib.Core.Option.{none, some}
-use mathlib.Core.List.{List}
-use Prim.Native.Nat.{ℕ, _<_}
-use lib.ListN.{take}
+use Rattle.words.specs.Words.{_≡_, ℕ, List, _<_, some, none, take}
 use Rattle.wire.specs.declared.Setting.{Setting}
 use Rattle.wire.specs.Packets.{zeros}
-use Rattle.sender.specs.State as sender
 use Rattle.wire.specs.declared.Answer.{Answer}
 use Rattle.holding.specs.declared.Header.{Header}
 use Rattle.wire.specs.Answers.{value, said}
@@ -18,6 +13,7 @@ use Rattle.receiver.specs.Promises.{Opened}
 use Rattle.holding.specs.Layout.{Holds}
 use Rattle.receiver.specs.Layout.{receiverLayout}
 use Rattle.claims.specs.Run.{Step, Run, final}
+use Rattle.sender.specs.State as sender
 
 pub record Receiver-unopened : Type 0 where
   pub zero : (n : ℕ) → headerIn (zeros n) ≡ none

@@ -1,7 +1,5 @@
 -- A list of packet calls from a fresh receiver, each as its promise allows (without the draws: `answerOf`), and the history that the list makes.
-use mathlib.Core.List.{List, [], _∷_}
-use Prim.Native.Nat.{ℕ}
-use lib.ListN.{length}
+use Rattle.words.specs.Words.{ℕ, List, length, [], _∷_}
 use Rattle.wire.specs.declared.Setting.{Setting}
 use Rattle.wire.specs.declared.Answer.{Answer}
 use Rattle.history.specs.History.{Call, OfBytes, Reading, Log, fresh, readAfter, logged}

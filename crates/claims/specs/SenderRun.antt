@@ -1,10 +1,7 @@
--- A list of calls of one sender, each as it promises (without the draws: `answerOf`), from an opening that answered 0; the symbols of the ADUs that it took, in order from
+-- A list of calls of one sender, each as it promises (without the draws: `answerOf`), from an opening that answered 0; the symbols of the ADUs that it took,
+-- in order from
 -- number 0 (document 01, "Receiver, as a plain history"), and the packets that it wrote.
-use mathlib.Core.Path.{_≡_}
-use mathlib.Core.Bool.{true}
-use Prim.Native.Nat.{ℕ, _%_, _^_, _≤_, _<_}
-use mathlib.Core.List.{List, [], _∷_, _++_, map}
-use lib.ListN.{length, take, getD}
+use Rattle.words.specs.Words.{_≡_, ℕ, _≤_, List, length, _<_, [], _%_, _∷_, true, getD, _++_, _^_, take, map}
 use Rattle.memory.specs.Number.{Bytes}
 use Rattle.wire.specs.declared.Scheme.{Scheme}
 use Rattle.wire.specs.declared.Setting.{Setting}

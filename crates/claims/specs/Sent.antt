@@ -1,19 +1,13 @@
 -- The sender's filling, and what becomes of a sender's packets at the receiver.
-use mathlib.Core.Path.{_≡_}
-use mathlib.Core.Option.{Option, none, some}
-use mathlib.Core.List.{List, [], _∷_}
-use denote.Ref.{RefT, now}
-use Prim.Native.Nat.{ℕ, _+_, _^_, _≤_, _<_}
-use lib.ListN.{length, getD}
+use Rattle.words.specs.Words.{_≡_, ℕ, _≤_, _+_, List, length, _<_, [], some, _∷_, none, getD, Option, now, RefT}
 use Rattle.wire.specs.declared.Setting.{Setting}
 use Rattle.wire.specs.Settings.{Valid}
 use Rattle.wire.specs.Packets.{symbolCount, sourceAdu, protectedCount}
 use Rattle.wire.specs.declared.Answer.{Answer}
 use Rattle.wire.specs.Answers.{Said, value, refusal, said}
-use Rattle.history.specs.History.{Filling, All, Call, source-call, repair-call, workingSize, Log, fresh, IsValue, readAfter}
-use Rattle.history.specs.History.{baseOf, logged, Judged, joinedAt}
-use Rattle.receiver.specs.Promises.{Layout, SymbolAnswered, PartShown}
+use Rattle.history.specs.History.{Filling, All, Call, source-call, repair-call, workingSize, Log, fresh, IsValue, readAfter, baseOf, logged, Judged, joinedAt}
 use Rattle.history.specs.History.{halfway, farthest}
+use Rattle.receiver.specs.Promises.{Layout, SymbolAnswered, PartShown}
 use Rattle.claims.specs.SenderRun.{SenderCall, SenderRun, symbolsOf, Packet, source, repair, Wrote}
 use Rattle.claims.specs.Run.{Step, read, history}
 use Rattle.claims.specs.Carrying.{Carries}

@@ -1,8 +1,5 @@
 -- A sender's ADUs at the receiver: what is handed out at the start of one, and that packets of the sender's alone mark no other position.
-use mathlib.Core.Path.{_≡_}
-use mathlib.Core.List.{List, [], _∷_, _++_}
-use Prim.Native.Nat.{ℕ, _+_, _%_, _^_, _≤_}
-use lib.ListN.{length, take, drop}
+use Rattle.words.specs.Words.{_≡_, ℕ, _≤_, _+_, List, length, [], _%_, _∷_, _++_, drop, _^_, take}
 use Rattle.wire.specs.declared.Scheme.{Scheme}
 use Rattle.wire.specs.declared.Setting.{Setting}
 use Rattle.wire.specs.Packets.{symbolCount, sourceSymbols, sourcePacket}
@@ -84,7 +81,8 @@ Sent-starts =
     (t s : Setting) (l : List SenderCall) → Peers t s l → (offset : ℕ) (ts : List Step) → AsSent s l offset fresh ts
     → (p : ℕ) → Start s (history s ts) p → Boundary (s .size) l (p + offset)
 
--- And an ADU that every filling holds at a start, whatever the base b, is one that it took, with its flow. Together with `handed` this is what the ADU call hands out.
+-- And an ADU that every filling holds at a start, whatever the base b, is one that it took, with its flow. Together with `handed` this is what the ADU call
+-- hands out.
 abbrev pub Sent-handed : Type 0
 Sent-handed =
     (t s : Setting) (l : List SenderCall) → Peers t s l → (offset : ℕ) (ts : List Step) → AsSent s l offset fresh ts

@@ -1,10 +1,6 @@
 -- What refusal 3 stands for at a sender (document 01, "Why a call says no"): memory that is all zero, of the other end, or shorter than opening asked;
 -- never memory that holds a sender.
-use mathlib.Core.Path.{_≡_}
-use mathlib.Core.Option.{none, some}
-use Prim.Native.Nat.{ℕ, _<_}
-use mathlib.Core.List.{List}
-use lib.ListN.{take}
+use Rattle.words.specs.Words.{_≡_, ℕ, List, _<_, some, none, take}
 use Rattle.wire.specs.declared.Setting.{Setting}
 use Rattle.wire.specs.Packets.{zeros}
 use Rattle.wire.specs.Settings.{settingIn}

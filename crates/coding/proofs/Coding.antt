@@ -1,17 +1,13 @@
 -- Laws of the coding: of a value, of a refusal, of an answer whose case is known, and of the sizes.
-use mathlib.Core.Path.{_≡_, refl, sym, ap, ap₂, _∙_, subst}
-use mathlib.Core.Logic.{_≢_}
-use Prim.Native.Nat.{ℕ, zero, suc, _+_, _*_, _^_, _≤_, _<_, min}
-use native.Mathlib.Omega.{arith}
-use lib.Dec.{lit<}
+use Rattle.words.specs.Words.{_≡_, arith, ℕ, _≤_, _+_, _<_, refl, _∙_, sym, ap, suc, zero, _*_, subst, _≢_, _^_, ap₂, lit<, min}
 use lib.IntN.{ℤ, pos, negsuc, negℤ, natAbs, _-ℤ_, +ℤ-idl}
 use mir.Syntax.{w64}
 use lib.Signed.{mag}
 use mir.Val.{toZ, ofZ}
 use mir.Facts.{toZ-pos, toZ-ofZ}
 use Rattle.wire.specs.declared.Refusal.{Refusal}
-use Rattle.wire.specs.declared.Refusal.the-variants.{Values, Short, Unopened, Long, Form, Range, Empty}
-use Rattle.wire.specs.declared.Refusal.the-variants.{Behind, Ahead, Draws, Contradiction, Unknown, NoStart, Padding}
+use Rattle.wire.specs.declared.Refusal.the-variants.{Values, Short, Unopened, Long, Form, Range, Empty, Behind, Ahead, Draws, Contradiction, Unknown, NoStart}
+use Rattle.wire.specs.declared.Refusal.the-variants.{Padding}
 use Rattle.wire.specs.declared.Setting.{Setting}
 use Rattle.wire.specs.declared.Checked.{Checked}
 use Rattle.wire.specs.declared.Checked.the-variants.{Good, Bad}

@@ -1,8 +1,5 @@
 -- How the exported functions code what a call says as one signed number: a value is itself, 0 or more, and a refusal is minus its number.
-use mathlib.Core.Path.{_≡_}
-use mathlib.Core.Logic.{_≢_}
-use mathlib.Core.Option.{Option, none, some}
-use Prim.Native.Nat.{ℕ, _+_, _*_, _%_, _/_, _≤_, _<_, min}
+use Rattle.words.specs.Words.{_≡_, ℕ, _≤_, _+_, _<_, some, _%_, none, _*_, Option, _≢_, _/_, min}
 use lib.IntN.{ℤ, pos, negℤ}
 use Rattle.wire.specs.declared.Setting.{Setting}
 use Rattle.wire.specs.Numbers.{numberOf}

@@ -1,6 +1,5 @@
 // How what a call answers is coded as one signed number.
-ghost use mathlib.Core.Path.{_≡_};
-ghost use Prim.Native.Nat.{_+_, _*_};
+ghost use Rattle.words.specs.Words.{_≡_, _+_, _*_};
 ghost use Rattle.wire.specs.Numbers.{numberOf};
 ghost use Rattle.wire.specs.Answers.{value, refusal, said};
 ghost use Rattle.receiver.specs.Promises.{handedSaid};

@@ -1,13 +1,22 @@
 -- How a list, and the lists of a packet, come to stand in the output: the invariants of the two loops, and what a caller learns from an answer.
-use mathlib.Core.Path.{_≡_, refl, sym, ap, _∙_}
-use mathlib.Core.Bool.{Bool, true, false, cond}
-use mathlib.Core.List.{List, [], _∷_, _++_, append-assoc, append-nil}
-use Prim.Native.Nat.{ℕ, zero, suc, _+_, _-_, _*_, _≤_, _<_}
-use native.Mathlib.Nat.{le-of-eq, le-of-suc-le-suc, not-suc-le-zero, add-zero, zero-add, suc-mul, zero-mul}
-use native.Mathlib.Numerals.{add-one}
-use native.Mathlib.Omega.{arith}
-use lib.ListN.{length, take, drop, getD, set, replicate, length-append, length-replicate, length-take, take-append-drop}
-use lib.Seq.{take-suc-set, take-all, take-at, drop-at, drop-drop}
+-- Index
+--   Partly: the first i bytes of out are the first i coefficients
+--   partly-none, partly-more
+--   next-draws: no more than 17 draws for each
+--   partly-refused, partly-draws, partly-all, fills-done, fills-refused
+--   fills-ones: all ones, where GF(2) has the density threshold 15
+--   fills-was-done, fills-was-refused
+--   Listed: after i lists
+--   listed-none, lent-length, listed-more, lists-refused
+--   listed-draws: the draws so far are no more than those of a whole packet
+--   lists-done, lists-were-done, lists-were-refused
+--   list-at: list i, where the lists stand
+--   lists-cut: the lists, cut out of the bytes where they stand one after the other
+use Rattle.words.specs.Words.{_≡_, arith, ℕ, _≤_, _+_, List, length, _<_, refl, _∙_, sym, ap, _-_, [], _∷_, suc, true, zero, _*_, getD, false, _++_, Bool, drop}
+use Rattle.words.specs.Words.{take, cond, add-zero, add-one, length-append, not-suc-le-zero, zero-add, le-of-suc-le-suc, zero-mul, append-assoc, set, replicate}
+use Rattle.words.specs.Words.{append-nil, length-take, suc-mul, take-all, length-replicate, take-append-drop, drop-drop, take-at}
+use native.Mathlib.Nat.{le-of-eq}
+use lib.Seq.{take-suc-set, drop-at}
 use Rattle.tinymt.specs.Generator.{startOf}
 use Rattle.memory.specs.Part.{part, splice}
 use Rattle.memory.proofs.Parts.{cut, put, length-part, length-splice, past-splice, row-fits}
@@ -21,7 +30,8 @@ use Rattle.coefficients.specs.declared.Filled.{Filled}
 use Rattle.coefficients.specs.declared.Filled.the-variants.{Done, Refused}
 use Rattle.coefficients.specs.Coefficients.{coefficientOf, Coefficients, coefficientsOf, keys, listsOf, allOk, drawsOf}
 use Rattle.coefficients.specs.Promises.{filledOf, Fills, FillsLists}
-use Rattle.coefficients.proofs.Lists.{extend-ok, list-more, list-length, refused-stays, ones, length-keys, coefficient-draws-most, list-draws-most, packet-draws-most}
+use Rattle.coefficients.proofs.Lists.{extend-ok, list-more, list-length, refused-stays, ones, length-keys, coefficient-draws-most, list-draws-most}
+use Rattle.coefficients.proofs.Lists.{packet-draws-most}
 
 -- the first i bytes of out are the first i coefficients, none was refused, they took so many draws, and state are the words after them
 pub record Partly (scheme : Scheme) (key dt : ℕ) (out state : List ℕ) (drawn i : ℕ) : Type 0 where
@@ -153,7 +163,13 @@ module _ {scheme : Scheme} {dt n first count : ℕ} {out₀ out : List ℕ} {key
         let h : take (i * n + n) (take (i * n) out ++ (x ++ drop (i * n + n - i * n) (drop (i * n) out))) ≡ take (i * n) out ++ x =
         rw (← append-assoc (take (i * n) out) x) (take-at (take (i * n) out ++ x) _ (i * n + n) g) in
         let t = rw left at (l .draws) in
-        record { size = rw spliced resized; ok = o; draws = omega (arith, t, z); bytes = rw (m, h) b; past = rw (m, spliced) (passed (i * n + n) (omega arith)) }
+        record {
+          size = rw spliced resized;
+          ok = o;
+          draws = omega (arith, t, z);
+          bytes = rw (m, h) b;
+          past = rw (m, spliced) (passed (i * n + n) (omega arith));
+        }
 
     pub lists-refused : r ≡ Refused
         → FillsLists scheme dt n (keys first count) out₀ Refused (take (i * n) out ++ (x ++ drop (i * n + n - i * n) (drop (i * n) out)))

@@ -1,14 +1,21 @@
 -- Laws of lists of coefficients: their lengths, that GF(2) never refuses and has zeros and ones only, that all are bytes, how many draws they take.
-use mathlib.Core.Path.{_≡_, refl, ap, _∙_}
-use mathlib.Core.Bool.{Bool, true, false, cond}
-use mathlib.Core.List.{List, [], _∷_, _++_}
-use Prim.Native.Nat.{ℕ, zero, suc, _+_, _*_, _^_, _%_, _≤_, _<_}
-use native.Mathlib.Nat.{not-suc-le-zero, le-of-suc-le-suc}
-use native.Mathlib.Numerals.{add-one}
+-- Index
+--   extend-ok, extend-refused, list-more, refused-stays
+--   list-length: a list that was not refused has as many coefficients as were asked
+--   ones: at the density threshold 15 GF(2) has all ones, for any key
+--   length-keys
+--   key-at: key i is i after the first, modulo 65,536
+--   Below: every element is below b
+--   list-bytes: every coefficient is a byte
+--   bits-ok: GF(2) never meets refusal 10
+--   bits-all-ok
+--   coefficient-draws-most: one coefficient takes at most 17
+--   list-draws-most, packet-draws-most
+--   written-draws: a packet takes the draws of the lists that its symbols were made with
+use Rattle.words.specs.Words.{_≡_, arith, ℕ, _≤_, _+_, List, length, _<_, refl, _∙_, ap, [], _%_, _∷_, suc, true, zero, _*_, getD, false, _++_, Bool, _^_, cond}
+use Rattle.words.specs.Words.{leb, eqb, add-one, length-append, not-suc-le-zero, le-of-suc-le-suc, lit<, replicate}
 use native.Mathlib.Decide.{le-ind}
-use native.Mathlib.Omega.{arith}
-use lib.ListN.{length, replicate, getD, length-append, replicate-append-replicate}
-use lib.Dec.{eqb, leb, lit<}
+use lib.ListN.{replicate-append-replicate}
 use Rattle.tinymt.specs.Generator.{startOf, drawOf, low4, low8}
 use Rattle.memory.specs.Number.{Bytes}
 use Rattle.wire.specs.Numbers.{keyAfter}
@@ -17,7 +24,8 @@ use Rattle.wire.proofs.Reading.{repair-symbols, repair-key, density-threshold, 
 use Rattle.wire.specs.declared.Scheme.{Scheme}
 use Rattle.wire.specs.declared.Scheme.the-variants.{Gf2, Gf256}
 use Rattle.coefficients.specs.declared.Coefficient.{Coefficient}
-use Rattle.coefficients.specs.Coefficients.{lastZero, nonzeroFrom, bitOf, byteOf, coefficientOf, Coefficients, extend, coefficientsOf, keys, allOk, drawsOf, packetDraws}
+use Rattle.coefficients.specs.Coefficients.{lastZero, nonzeroFrom, bitOf, byteOf, coefficientOf, Coefficients, extend, coefficientsOf, keys, allOk}
+use Rattle.coefficients.specs.Coefficients.{drawsOf, packetDraws}
 
 -- one coefficient more after a list that was not refused, and after one that was
 module _ (scheme : Scheme) (dt : ℕ) (l : Coefficients) where

@@ -1,13 +1,6 @@
 -- The draws that look for a nonzero byte: the first one that is found is taken, and refusal 10 comes after sixteen zeros and at no other time.
-use mathlib.Core.Path.{_≡_, refl, sym, _∙_}
-use mathlib.Core.Bool.{Bool, true, false, cond, true≢false}
-use mathlib.Core.List.{List, [], _∷_, _++_, map}
-use Prim.Native.Nat.{ℕ, zero, suc, _+_, _≤_, _<_}
-use native.Mathlib.Nat.{add-zero}
-use native.Mathlib.Omega.{arith}
-use lib.ListN.{replicate}
-use lib.Dec.{eqb, leb}
-use borrow.Author.Tests.{eq-eqb, ne-eqb, eqb-true, eqb-false, le-leb}
+use Rattle.words.specs.Words.{_≡_, arith, ℕ, _≤_, _+_, List, _<_, refl, _∙_, sym, [], _∷_, suc, true, zero, false, _++_, Bool, cond, leb, eqb, le-leb, add-zero}
+use Rattle.words.specs.Words.{map, ne-eqb, eq-eqb, true≢false, replicate, eqb-true, eqb-false}
 use Rattle.tinymt.specs.Generator.{drawOf, firstDraws, low4, low8}
 use Rattle.tinymt.specs.declared.Drawn.{Drawn}
 use Rattle.memory.proofs.Parts.{cons-eq}

@@ -1,9 +1,5 @@
 -- What the calls of this crate promise. Refusal 10 is the answer `Refused`; what the output then holds is free, but for what is said here.
-use mathlib.Core.Path.{_≡_}
-use Prim.Native.Nat.{ℕ, _*_}
-use mathlib.Core.Bool.{Bool, true, false}
-use mathlib.Core.List.{List, _++_}
-use lib.ListN.{length, drop}
+use Rattle.words.specs.Words.{_≡_, ℕ, List, length, true, _*_, false, _++_, Bool, drop}
 use Rattle.wire.specs.declared.Scheme.{Scheme}
 use Rattle.wire.specs.Packets.{joined}
 use Rattle.coefficients.specs.declared.Filled.{Filled}

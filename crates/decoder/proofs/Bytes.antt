@@ -1,10 +1,7 @@
 -- Bytes are a field, and symbols of at least one byte a space over it.
-use mathlib.Core.Path.{_≡_, sym, ap, ap₂, _∙_}
-use mathlib.Core.Logic.{_≢_}
-use Prim.Native.Nat.{ℕ, zero, suc, _<_}
-use native.Mathlib.Nat.{suc-ne-zero, mod-eq-of-lt}
-use native.Mathlib.Omega.{arith}
-use lib.Bits.{bitXor, xor-lt, xor-comm, xor-zero-r, xor-self}
+use Rattle.words.specs.Words.{_≡_, arith, ℕ, _<_, _∙_, sym, ap, suc, zero, _≢_, ap₂, bitXor, mod-eq-of-lt, xor-zero-r, xor-lt, xor-comm}
+use native.Mathlib.Nat.{suc-ne-zero}
+use lib.Bits.{xor-self}
 use Rattle.field.specs.Gf256.{product, inverse}
 use Rattle.field.proofs.Xor.{xor-assoc}
 use Rattle.field.proofs.Laws.{product-lt, product-comm, product-assoc, product-sum-right, product-zero-right, product-one, product-inverse, inverse-lt}

@@ -1,10 +1,7 @@
 -- The reduced form is canonical: two reduced systems with the same fillings are one.
-use mathlib.Core.Path.{_≡_, refl, sym, ap, ap₂, _∙_, subst}
-use mathlib.Core.Logic.{_↔_}
-use Prim.Native.Nat.{ℕ, zero}
+use Rattle.words.specs.Words.{_≡_, ℕ, refl, _∙_, sym, ap, zero, subst, ap₂, _↔_}
 use Rattle.decoder.specs.Field.{Ops, Laws}
-use Rattle.decoder.specs.Model.{ext, Filling, Row, State, end, free, pivot, Sat, Reduced, Rref}
-use Rattle.decoder.specs.Model.{eval}
+use Rattle.decoder.specs.Model.{ext, Filling, Row, State, end, free, pivot, Sat, Reduced, Rref, eval}
 use Rattle.decoder.proofs.Linear as lin
 use Rattle.decoder.proofs.Elimination as elimination
 

@@ -1,19 +1,23 @@
 -- Reducing and placing one row after the other: what it does to an equation, to the reduced form and to the packet's equations.
-use mathlib.Core.Path.{_≡_, refl, sym, ap, ap₂, _∙_, subst}
-use mathlib.Core.Logic.{_≢_}
-use mathlib.Core.Option.{Option, none, some}
-use mathlib.Core.List.{List, [], _∷_, _++_}
-use Prim.Native.Nat.{ℕ, zero, suc, _<_}
-use native.Mathlib.Decide.{decLt}
-use native.Mathlib.Omega.{arith}
+-- Index
+--   reduce-fixed: a reduced row is its own reduction
+--   reduce-place: to reduce by a system with one more row is to reduce by the system, and then to eliminate the row
+--   reduced-implied, reduced-contradicts
+--   normal: the reduction scaled so that it leads with one
+--   normal-reduced, normal-leads, reduced-places, chain-none, chain-before, chain-more
+--   chain-rref: a chain keeps the reduced form
+--   chain-reduce: to reduce by the system
+--   eliminate-same: only the first `k` rows count
+--   place-rows-same, chain-same, packet-implied, packet-contradicts, packet-places
+use Rattle.words.specs.Words.{_≡_, arith, ℕ, List, _<_, refl, _∙_, sym, ap, [], some, _∷_, suc, zero, none, _++_, subst, Option, _≢_, ap₂, decLt}
 use Rattle.decoder.specs.Field.{Ops, Laws}
 use Rattle.decoder.specs.Model.{Row, State, Reduced, Rref, eval, axpy, scale, lead, at, symbol, reduce, place, settle-by, settle, insert}
 use Rattle.decoder.specs.Receiver.{and-then, insert-all}
 use Rattle.decoder.specs.Chain.{Chain, place-rows, eliminate}
+use Rattle.decoder.proofs.Jump.{insert-all-append}
 use Rattle.decoder.proofs.Linear as lin
 use Rattle.decoder.proofs.Elimination as elimination
 use Rattle.decoder.proofs.Canonical as canonical
-use Rattle.decoder.proofs.Jump.{insert-all-append}
 
 module _ {O : Ops} (L : Laws O) where
   open Ops O using (K, 𝟘, 𝟙, _*_, inv, zero?, null, _⊕_, _•_, null?)

@@ -1,20 +1,23 @@
 -- The rows of a reduced system can be added to an equation all at once: no row changes the coefficient at another's pivot,
 -- so each multiplier is the coefficient that the equation has at the start, and the order is free.
-use mathlib.Core.Path.{_≡_, refl, sym, ap, _∙_}
-use mathlib.Core.Bool.{Bool, true, false, true≢false}
-use Prim.Native.Nat.{ℕ, zero, suc, _+_ as _+ₙ_, _-_, _%_, _≤_, _<_}
-use native.Mathlib.Nat.{zero-add}
-use native.Mathlib.Decide.{ℕ-discrete}
-use native.Mathlib.Omega.{arith}
+-- Index
+--   reduced-cells: an equation is reduced by the system of a table where it is zero at every pivot
+--   cells-reduced
+--   rref-cells: in a reduced system each row is zero at the later pivots
+--   add-line-swap: two lines may be added in either order
+--   sweep-lines: the sweep over the `n` positions from `q` on adds the rows 0, 1, .. at once
+--   stays-lines: so the rows that stay when the window moves on by `d` reduce the equation by the system moved on
+--   eliminate-line, normal-line
+use Rattle.words.specs.Words.{_≡_, arith, ℕ, _≤_, _+_ as _+ₙ_, _<_, refl, _∙_, sym, ap, _-_, _%_, suc, true, zero, false, Bool, ℕ-discrete, zero-add}
+use Rattle.words.specs.Words.{true≢false}
 use Rattle.decoder.specs.Field.{Ops, Laws}
 use Rattle.decoder.specs.Model.{Reduced, Rref, axpy, scale, lead, at, reduce}
 use Rattle.decoder.specs.Receiver.{advance-by}
 use Rattle.decoder.specs.Table.{Line, Table, read, slot, view, Echelon}
-use Rattle.decoder.specs.TableSteps.{add-line, scale-line, step-by, sweep, Leads}
-use Rattle.decoder.specs.TableSteps.{add-lines}
+use Rattle.decoder.specs.TableSteps.{add-line, scale-line, step-by, sweep, Leads, add-lines}
+use Rattle.decoder.proofs.Turns.{turns, turns-last, turns-same, turns-idle, turn-rows}
 use Rattle.decoder.proofs.Refine as refine
 use Rattle.decoder.proofs.Staying as staying
-use Rattle.decoder.proofs.Turns.{turns, turns-last, turns-same, turns-idle, turn-rows}
 
 module _ {O : Ops} where
   open Ops O using (𝟘)

@@ -1,10 +1,6 @@
 -- How many positions have become known: the difference of two counts.
-use mathlib.Core.Path.{_≡_, refl, sym, ap, ap₂, _∙_, subst}
-use mathlib.Core.Option.{Option, none, some, Option·some-ne-none}
-use mathlib.Core.List.{List}
-use Prim.Native.Nat.{ℕ, zero, suc, _+_, _-_}
-use native.Mathlib.Nat.{add-assoc}
-use native.Mathlib.Omega.{arith}
+use Rattle.words.specs.Words.{_≡_, arith, ℕ, _+_, List, refl, _∙_, sym, ap, _-_, some, suc, zero, none, subst, Option, ap₂, add-assoc}
+use mathlib.Core.Option.{Option·some-ne-none}
 use Rattle.decoder.specs.Field.{Ops, Laws}
 use Rattle.decoder.specs.Model.{tail, Filling, Row, State, Sat, Rref, known}
 use Rattle.decoder.specs.Receiver.{is-new, count-new, advance-by, insert-all, newly}

@@ -1,11 +1,20 @@
 -- Gaussian elimination, oldest position first: what each step of the model does to the fillings that satisfy it.
-use mathlib.Core.Path.{_≡_, refl, sym, ap, ap₂, _∙_, subst}
-use mathlib.Core.Logic.{_≢_, _↔_, Iff·rfl, Iff·trans, Iff·and}
-use mathlib.Core.Option.{Option, none, some, Option·none-ne-some, Option·some-ne-none, Option·some-injective}
-use Prim.Native.Nat.{ℕ, zero, suc}
+-- Index
+--   eval-zero: a zero coefficient does not count
+--   reduce-reduced, reduce-eval, reduced-scale, reduced-axpy, nonzero-cancel, lead-scale, place-sat
+--   place-reduced: its column is clear in the older rows, and they stay clear of the other pivots
+--   place-rref, Added, nonzero-null, insert-added, advance-rref
+--   advance-sat: the fillings of the window that has moved on are those of the window before, without their first symbol
+--   solution: a filling
+--   solution-sat
+--   known-sound: what is shown is what every filling has there
+--   known-complete: what is not shown differs between two fillings
+use Rattle.words.specs.Words.{_≡_, ℕ, refl, _∙_, sym, ap, some, suc, zero, none, subst, Option, _≢_, ap₂, _↔_, Option·some-injective, Option·none-ne-some}
+use mathlib.Core.Logic.{Iff·rfl, Iff·trans, Iff·and}
+use mathlib.Core.Option.{Option·some-ne-none}
 use Rattle.decoder.specs.Field.{Ops, Laws}
-use Rattle.decoder.specs.Model.{tail, ext, only-if, Filling, Row, State, end, free, pivot, Sat, Reduced, Rref}
-use Rattle.decoder.specs.Model.{eval, axpy, scale, lead, at, symbol, push, reduce, place-free, place, settle-by, settle, insert, known, extend, advance}
+use Rattle.decoder.specs.Model.{tail, ext, only-if, Filling, Row, State, end, free, pivot, Sat, Reduced, Rref, eval, axpy, scale, lead, at, symbol, push}
+use Rattle.decoder.specs.Model.{reduce, place-free, place, settle-by, settle, insert, known, extend, advance}
 use Rattle.decoder.proofs.Linear as lin
 
 module _ {O : Ops} (L : Laws O) where

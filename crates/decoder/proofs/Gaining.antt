@@ -1,27 +1,19 @@
 -- How many positions become known when rows are placed, counted row by row.
-use mathlib.Core.Path.{_≡_, refl, sym, ap, ap₂, _∙_}
-use mathlib.Core.Logic.{_≢_}
-use mathlib.Core.Bool.{Bool, true, false}
-use mathlib.Core.Option.{Option, none}
-use Prim.Native.Nat.{ℕ, zero, suc, _+_ as _+ₙ_, _-_, _%_, _≤_, _<_}
-use native.Mathlib.Nat.{zero-add}
-use native.Mathlib.Decide.{decLt}
-use native.Mathlib.Omega.{arith}
+use Rattle.words.specs.Words.{_≡_, arith, ℕ, _≤_, _+_ as _+ₙ_, _<_, refl, _∙_, sym, ap, _-_, _%_, suc, true, zero, none, false, Bool, Option, _≢_, ap₂, decLt}
+use Rattle.words.specs.Words.{zero-add}
 use Rattle.decoder.specs.Field.{Ops, Laws}
 use Rattle.decoder.specs.Model.{Row, State, Reduced, Rref, place, known}
-use Rattle.decoder.specs.Receiver.{is-new, count-new, advance-by, newly}
-use Rattle.decoder.specs.Table.{Line, Table, read, slot, view, Echelon}
-use Rattle.decoder.specs.TableSteps.{Leads, Places}
+use Rattle.decoder.specs.Receiver.{is-new, count-new}
+use Rattle.decoder.specs.Table.{Line, Table, read, view, Echelon}
+use Rattle.decoder.specs.TableSteps.{Leads, Places, total}
 use Rattle.decoder.specs.Chain.{Chain, place-rows}
-use Rattle.decoder.specs.TableSteps.{total}
-use Rattle.decoder.proofs.Elimination as elimination
-use Rattle.decoder.proofs.History as history
-use Rattle.decoder.proofs.Refine as refine
-use Rattle.decoder.proofs.Steps as steps
-use Rattle.decoder.proofs.Counting.{count-more, count-split, count-same, known-grows}
+use Rattle.decoder.proofs.Counting.{count-more, known-grows}
 use Rattle.decoder.proofs.Turns.{turns, turns-last, turn-rows}
 use Rattle.decoder.proofs.Chain.{chain-rref, chain-before}
 use Rattle.decoder.proofs.Combining.{reduced-cells}
+use Rattle.decoder.proofs.Elimination as elimination
+use Rattle.decoder.proofs.Refine as refine
+use Rattle.decoder.proofs.Steps as steps
 
 -- A count over the rows 0, 1, .. is the count over the window's positions, which has another order.
 total-turns : (u : ℕ → ℕ) (n b : ℕ) → turns (λ p x. x +ₙ u p) n b 0 ≡ total (λ i. u (b +ₙ i)) n

@@ -1,16 +1,21 @@
 -- The receiver against its whole history: it accepts what some filling allows, and shows what all fillings agree on.
-use mathlib.Core.Path.{_≡_, refl, sym, ap, _∙_, subst}
-use mathlib.Core.Logic.{_≢_, _↔_, ⊎-elim, Iff·rfl, Iff·and}
-use mathlib.Core.Option.{Option, none, some}
-use mathlib.Core.List.{List, [], _∷_, map, List·Memᴰ, List·Memᴰ·head, List·Memᴰ·tail, List·Memᴰ·not-nil, List·Memᴰ·cases-cons}
-use Prim.Native.Nat.{ℕ, zero, suc, _+_, _-_, _≤_}
-use native.Mathlib.Nat.{zero-add, suc-add}
-use native.Mathlib.Omega.{arith}
+-- Index
+--   shift-at
+--   Added-all: several equations at once
+--   insert-all-added, advance-by-sat, advance-by-rref
+--   Received: a packet is refused where no filling satisfies it with all accepted before
+--   receive-follows, empty-rref, empty-sat, fresh-follows, faithful
+--   satisfies-members: all packets of a list, each by itself
+--   same-known: two receivers with one base whose accepted packets have the same fillings
+--   known-advance-by, demand-3
+use Rattle.words.specs.Words.{_≡_, arith, ℕ, _≤_, _+_, List, refl, _∙_, sym, ap, _-_, [], some, _∷_, suc, zero, none, subst, Option, _≢_, _↔_, map, zero-add}
+use Rattle.words.specs.Words.{⊎-elim, suc-add}
+use mathlib.Core.Logic.{Iff·rfl, Iff·and}
+use mathlib.Core.List.{List·Memᴰ, List·Memᴰ·head, List·Memᴰ·tail, List·Memᴰ·not-nil, List·Memᴰ·cases-cons}
 use Rattle.decoder.specs.Field.{Ops, Laws}
 use Rattle.decoder.specs.Model.{tail, ext, Filling, Row, eval, symbol, State, end, free, pivot, extend, Sat, Rref, insert, known, advance}
-use Rattle.decoder.specs.Receiver.{shift, and-then, Packet, Hold, Satisfies, Satisfies-all, embed, over}
-use Rattle.decoder.specs.Receiver.{Receiver, empty, fresh, advance-by, insert-all, rise, receive, Fitting}
-use Rattle.decoder.specs.Receiver.{Accepted, Log, opened, answered, called, run}
+use Rattle.decoder.specs.Receiver.{shift, and-then, Packet, Hold, Satisfies, Satisfies-all, embed, over, Receiver, empty, fresh, advance-by, insert-all}
+use Rattle.decoder.specs.Receiver.{rise, receive, Fitting, Accepted, Log, opened, answered, called, run}
 use Rattle.decoder.specs.Promises.{Follows, Faithful, Demand-3, Locates}
 use Rattle.decoder.proofs.Linear as lin
 use Rattle.decoder.proofs.Elimination as elimination

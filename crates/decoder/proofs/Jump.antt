@@ -1,10 +1,6 @@
 -- A packet's equations one after the other, and the base position by position.
-use mathlib.Core.Path.{_≡_, refl, ap}
-use Prim.Native.Nat.{ℕ, zero, suc, _≤_}
-use native.Mathlib.Omega.{arith}
+use Rattle.words.specs.Words.{_≡_, arith, ℕ, _≤_, List, refl, ap, [], some, _∷_, suc, zero, none, _++_, Option}
 use Rattle.decoder.specs.Field.{Ops}
-use mathlib.Core.List.{List, [], _∷_, _++_}
-use mathlib.Core.Option.{Option, none, some}
 use Rattle.decoder.specs.Model.{Row, insert, State, end, free, pivot, extend, advance}
 use Rattle.decoder.specs.Receiver.{advance-by, empty, insert-all, and-then}
 

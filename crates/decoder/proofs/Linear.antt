@@ -1,8 +1,6 @@
 -- The linear algebra of the affine form: row operations, and what they do to its value.
-use mathlib.Core.Path.{_≡_, refl, sym, ap, _∙_}
-use mathlib.Core.Logic.{_≢_, _↔_, if-pos, if-neg}
-use mathlib.Core.Option.{none, some}
-use Prim.Native.Nat.{ℕ, zero, suc}
+use Rattle.words.specs.Words.{_≡_, ℕ, refl, _∙_, sym, ap, some, suc, zero, none, _≢_, _↔_}
+use mathlib.Core.Logic.{if-pos, if-neg}
 use Rattle.decoder.specs.Field.{Ops, Laws}
 use Rattle.decoder.specs.Model.{tail, only-if, Filling, Row, eval, axpy, scale, lead, at, symbol, push}
 

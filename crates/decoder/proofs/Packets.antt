@@ -1,17 +1,13 @@
 -- A source packet is satisfied when its positions hold its symbols, a repair packet when each repair symbol is its combination.
-use mathlib.Core.Path.{_≡_, refl, sym, ap, ap₂, _∙_}
-use mathlib.Core.Logic.{_↔_, Iff·rfl, Iff·and}
-use mathlib.Core.List.{List, [], _∷_}
-use Prim.Native.Nat.{ℕ, zero, suc, _+_ as _+ₙ_, _≤_, _<_}
-use native.Mathlib.Decide.{ℕ-discrete}
-use native.Mathlib.Omega.{arith}
+use Rattle.words.specs.Words.{_≡_, arith, ℕ, _≤_, _+_ as _+ₙ_, List, _<_, refl, _∙_, sym, ap, [], _∷_, suc, zero, ap₂, _↔_, ℕ-discrete}
+use mathlib.Core.Logic.{Iff·rfl, Iff·and}
 use Rattle.decoder.specs.Field.{Ops, Laws}
 use Rattle.decoder.specs.Model.{tail, Filling, eval, symbol}
 use Rattle.decoder.specs.Receiver.{shift, Hold, Satisfies, embed}
 use Rattle.decoder.specs.Packets.{combine, row, only, source-rows, source, Repair, repair, Combined}
 use Rattle.decoder.specs.Table.{Line, read}
-use Rattle.decoder.proofs.Linear as lin
 use Rattle.decoder.proofs.History.{shift-at}
+use Rattle.decoder.proofs.Linear as lin
 
 module _ {O : Ops} (L : Laws O) where
   open Ops O using (K, Sym, 𝟘, null, _⊕_, _•_)

@@ -1,11 +1,7 @@
 -- The promises of the decoder, for any field and at the field of bytes.
-use mathlib.Core.Path.{_≡_, refl, sym, ap, _∙_, subst}
-use mathlib.Core.Logic.{_≢_, _↔_}
-use mathlib.Core.Option.{Option, none, some, Option·some-ne-none}
-use mathlib.Core.List.{List}
-use Prim.Native.Nat.{ℕ, _<_}
-use native.Mathlib.Omega.{arith}
-use lib.Bits.{xor-lt, and-lt}
+use Rattle.words.specs.Words.{_≡_, arith, ℕ, List, _<_, refl, _∙_, sym, ap, some, none, subst, Option, _≢_, _↔_, xor-lt}
+use mathlib.Core.Option.{Option·some-ne-none}
+use lib.Bits.{and-lt}
 use Rattle.field.proofs.Binary.{product-binary}
 use Rattle.field.proofs.Laws.{inverse-is, product-one}
 use Rattle.decoder.specs.Field.{Ops, Laws}
@@ -13,8 +9,8 @@ use Rattle.decoder.specs.Model.{Filling, Row, eval, State, Sat, Rref, in
 use Rattle.decoder.specs.Receiver.{Accepted, Packet, opened, run}
 use Rattle.decoder.specs.Bytes.{byte, bytes, Coded}
 use Rattle.decoder.specs.Promises.{Locates, Demand-3, Decoder, Byte-decoder, Scheme-9}
-use Rattle.decoder.proofs.Symbols as symbols
 use Rattle.decoder.proofs.Bytes.{bytes-laws, laws, byte-sum-number, byte-product-number}
+use Rattle.decoder.proofs.Symbols as symbols
 use Rattle.decoder.proofs.Elimination as elimination
 use Rattle.decoder.proofs.Canonical as canonical
 use Rattle.decoder.proofs.History as history

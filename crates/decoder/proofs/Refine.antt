@@ -1,10 +1,11 @@
 -- The loops over the table do what the model says: reduce, find the leading coefficient, place, and move on.
-use mathlib.Core.Path.{_≡_, refl, sym, ap, ap₂, _∙_, subst}
-use mathlib.Core.Logic.{_≢_}
-use mathlib.Core.Bool.{Bool, true, false, true≢false}
-use Prim.Native.Nat.{ℕ, zero, suc, _+_ as _+ₙ_, _≤_, _<_}
-use native.Mathlib.Decide.{ℕ-discrete}
-use native.Mathlib.Omega.{arith}
+-- Index
+--   read-add, read-scale, add-zero
+--   sweep-before: a sweep over later positions leaves an earlier cell
+--   sweep-reduce, lead-read, lead-none, at-read
+--   add-line-zero: to add nothing changes nothing, so such rows may be passed over
+--   view-place, view-advance
+use Rattle.words.specs.Words.{_≡_, arith, ℕ, _≤_, _+_ as _+ₙ_, _<_, refl, _∙_, sym, ap, suc, true, zero, false, Bool, subst, _≢_, ap₂, ℕ-discrete, true≢false}
 use Rattle.decoder.specs.Field.{Ops, Laws}
 use Rattle.decoder.specs.Model.{Row, State, end, free, pivot, axpy, scale, lead, at, push, reduce, place, place-free, extend, advance}
 use Rattle.decoder.specs.Table.{Line, Table, read, slot, view, Echelon}

@@ -1,12 +1,6 @@
 -- What each step of the receiver does to the table, as a whole: place a row, move the base on, look a symbol up.
-use mathlib.Core.Path.{_≡_, refl, sym, ap, ap₂, _∙_}
-use mathlib.Core.Logic.{_≢_}
-use mathlib.Core.Bool.{Bool, true, false, true≢false}
-use mathlib.Core.Option.{none, some}
-use Prim.Native.Nat.{ℕ, zero, suc, _+_ as _+ₙ_, _≤_, _<_}
-use native.Mathlib.Decide.{ℕ-discrete, decLt}
-use native.Mathlib.Omega.{arith}
-use native.Mathlib.Nat.{add-zero}
+use Rattle.words.specs.Words.{_≡_, arith, ℕ, _≤_, _+_ as _+ₙ_, _<_, refl, _∙_, sym, ap, some, suc, true, zero, none, false, Bool, _≢_, ap₂, ℕ-discrete}
+use Rattle.words.specs.Words.{add-zero, decLt, true≢false}
 use Rattle.decoder.specs.Field.{Ops, Laws}
 use Rattle.decoder.specs.Model.{Row, State, lead, symbol, known}
 use Rattle.decoder.specs.Table.{Line, Table, read, slot, view, Echelon}

@@ -1,14 +1,7 @@
 -- Loops over a row's bytes, as operations on the line that they hold.
-use mathlib.Core.Path.{_≡_, refl, sym, ap, ap₂, _∙_}
-use mathlib.Core.Logic.{_≢_}
-use mathlib.Core.List.{List, _∷_}
-use Prim.Native.Nat.{ℕ, zero, suc, _+_, _*_, _%_, _/_, _≤_, _<_}
-use native.Mathlib.Nat.{mod-lt, mod-eq-of-lt, div-add-mod', mul-le-mul-right}
-use native.Mathlib.Decide.{decLt, ℕ-discrete}
-use native.Mathlib.Omega.{arith}
-use lib.Bits.{bitXor}
-use lib.ListN.{length, getD, take, drop}
-use lib.Seq.{drop-cons}
+use Rattle.words.specs.Words.{_≡_, arith, ℕ, _≤_, _+_, List, length, _<_, refl, _∙_, sym, ap, _%_, _∷_, suc, zero, _*_, getD, drop, _≢_, take, ap₂, mod-lt, _/_}
+use Rattle.words.specs.Words.{ℕ-discrete, decLt, bitXor, mod-eq-of-lt, drop-cons, mul-le-mul-right}
+use native.Mathlib.Nat.{div-add-mod'}
 use Rattle.field.specs.Gf256.{product}
 use Rattle.field.proofs.Laws.{product-lt}
 use Rattle.decoder.specs.Symbols.{nulls, adds, times}

@@ -1,6 +1,5 @@
 -- Symbols of `E` bytes obey the laws that single bytes obey.
-use mathlib.Core.Path.{_≡_, refl, ap, ap₂}
-use Prim.Native.Nat.{ℕ, zero, suc}
+use Rattle.words.specs.Words.{_≡_, ℕ, refl, ap, suc, zero, ap₂}
 use Rattle.decoder.specs.Field.{Ops, Laws}
 use Rattle.decoder.specs.Symbols.{Tuple, nulls, adds, times, symbols}
 

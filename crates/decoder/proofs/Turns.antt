@@ -1,9 +1,6 @@
 -- A step for each of several positions, one after the other. Where steps commute and go by the remainder of the position,
 -- a turn around the window may begin anywhere: at the oldest position, or at row 0.
-use mathlib.Core.Path.{_≡_, refl, sym, ap, _∙_}
-use Prim.Native.Nat.{ℕ, zero, suc, _+_, _%_, _≤_, _<_}
-use native.Mathlib.Nat.{add-zero, add-mod-right, mod-eq-of-lt}
-use native.Mathlib.Omega.{arith}
+use Rattle.words.specs.Words.{_≡_, arith, ℕ, _≤_, _+_, _<_, refl, _∙_, sym, ap, _%_, suc, zero, add-zero, mod-eq-of-lt, add-mod-right}
 
 module _ {A : Type 0} where
   -- The steps of the `n` positions from `q` on.

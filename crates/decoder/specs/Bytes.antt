@@ -1,12 +1,9 @@
 -- The field of bytes, GF(2^8), and symbols of `E` bytes over it.
 -- Scheme 10 has all coefficients of it. Scheme 9 has the coefficients 0 and 1, whose sums and products are those of GF(2).
-use mathlib.Core.Path.{_≡_, refl, ap}
+use Rattle.words.specs.Words.{_≡_, ℕ, _<_, refl, ap, _%_, suc, zero, mod-lt, bitXor, lit<}
 use mathlib.Core.HLevel.{Σ-prop-path}
-use Prim.Native.Nat.{ℕ, zero, suc, _%_, _<_}
 use native.Mathlib.Bridge.{le-prop}
-use native.Mathlib.Nat.{suc-ne-zero, mod-lt}
-use lib.Bits.{bitXor}
-use lib.Dec.{lit<}
+use native.Mathlib.Nat.{suc-ne-zero}
 use Rattle.field.specs.Gf256.{product, inverse}
 use Rattle.decoder.specs.Field.{Ops}
 use Rattle.decoder.specs.Symbols.{symbols}

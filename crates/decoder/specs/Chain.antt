@@ -1,7 +1,6 @@
 -- Contracts of inner functions: a reader need not believe these.
 -- Rows that join a system one after the other, in order of arrival, and what an equation becomes when they are eliminated from it in that order.
-use mathlib.Core.Path.{_≡_}
-use Prim.Native.Nat.{ℕ, zero, suc, _<_}
+use Rattle.words.specs.Words.{_≡_, ℕ, _<_, suc, zero}
 use Rattle.decoder.specs.Field.{Ops}
 use Rattle.decoder.specs.Model.{Row, State, Reduced, axpy, lead, at, place}
 

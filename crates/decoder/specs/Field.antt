@@ -1,6 +1,5 @@
 -- A field of characteristic two, and a space over it whose elements are symbols: operations, and the laws that the decoder rests on.
-use mathlib.Core.Path.{_≡_}
-use mathlib.Core.Logic.{_≢_}
+use Rattle.words.specs.Words.{_≡_, _≢_}
 
 -- The operations alone, on which the decoder's definitions run: `K` the coefficients, `Sym` the symbols, with sum `⊕` and multiple `•`.
 pub record Ops : Type 1 where

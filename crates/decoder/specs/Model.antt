@@ -1,9 +1,7 @@
 -- The receiver's system of equations, in reduced row echelon form with the oldest position first:
 -- a window of positions, each free or the pivot of a row over the positions after it.
-use mathlib.Core.Path.{_≡_}
-use mathlib.Core.Option.{Option, none, some}
+use Rattle.words.specs.Words.{_≡_, ℕ, some, suc, zero, none, Option}
 use mathlib.Core.Logic.{ite}
-use Prim.Native.Nat.{ℕ, zero, suc}
 use Rattle.decoder.specs.Field.{Ops}
 
 -- Of what each position has: without the first, and with one more before it.

@@ -1,8 +1,6 @@
 -- Source and repair packets as equations: a source packet has a row for each symbol, which says that its position holds it,
 -- a repair packet a row for each repair symbol, which says that it is the combination with its coefficients.
-use mathlib.Core.Path.{_≡_}
-use mathlib.Core.List.{List, [], _∷_, map}
-use Prim.Native.Nat.{ℕ, zero, suc}
+use Rattle.words.specs.Words.{_≡_, ℕ, List, [], _∷_, suc, zero, map}
 use Rattle.decoder.specs.Field.{Ops}
 use Rattle.decoder.specs.Model.{tail, Filling, Row}
 use Rattle.decoder.specs.Receiver.{Packet}

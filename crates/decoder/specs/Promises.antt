@@ -1,11 +1,7 @@
 -- What is proved of the decoder (proofs/Promises): a system of equations says, at any time, exactly what the accepted packets say of the
 -- positions that are left, though the rows of those that have departed are gone.
-use mathlib.Core.Path.{_≡_}
-use mathlib.Core.Logic.{_≢_, _↔_}
-use mathlib.Core.Option.{Option, none, some}
-use mathlib.Core.List.{List}
-use Prim.Native.Nat.{ℕ, _+_, _≤_, _<_}
-use lib.Bits.{bitXor, bitAnd}
+use Rattle.words.specs.Words.{_≡_, ℕ, _≤_, _+_, List, _<_, some, none, Option, _≢_, _↔_, bitXor}
+use lib.Bits.{bitAnd}
 use Rattle.decoder.specs.Field.{Ops}
 use Rattle.decoder.specs.Model.{Filling, Row, eval, State, Sat, Rref, insert, known}
 use Rattle.decoder.specs.Receiver.{shift, Accepted, Packet, Satisfies, Satisfies-all, Receiver, advance-by, receive, Fitting, Log, opened, run}

@@ -1,8 +1,5 @@
 -- The receiver: packets of equations over positions, all accepted or none, and the window that moves on to fit them.
-use mathlib.Core.Path.{_≡_}
-use mathlib.Core.Option.{Option, none, some}
-use mathlib.Core.List.{List, [], _∷_, map}
-use Prim.Native.Nat.{ℕ, zero, suc, _+_, _-_, _≤_}
+use Rattle.words.specs.Words.{_≡_, ℕ, _≤_, _+_, List, _-_, [], some, _∷_, suc, zero, none, Option, map}
 use Rattle.decoder.specs.Field.{Ops}
 use Rattle.decoder.specs.Model.{tail, Filling, Row, eval, symbol, State, end, free, insert, known, advance}
 

@@ -1,7 +1,5 @@
 -- A row's bytes in memory, `w` coefficients by the remainder of their position and then `E` bytes of symbol, as a line of the table.
-use mathlib.Core.List.{List, [], _∷_}
-use Prim.Native.Nat.{ℕ, zero, suc, _%_, _<_}
-use lib.ListN.{getD}
+use Rattle.words.specs.Words.{ℕ, List, _<_, [], _%_, _∷_, suc, zero, getD}
 use Rattle.decoder.specs.Symbols.{Tuple}
 use Rattle.decoder.specs.Bytes.{Byte, byte, Coded}
 use Rattle.decoder.specs.Table.{Line}

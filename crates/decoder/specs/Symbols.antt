@@ -1,6 +1,5 @@
 -- Symbols of `E` bytes, byte by byte, over a space of single bytes.
-use mathlib.Core.Path.{_≡_, refl, ap, ap₂}
-use Prim.Native.Nat.{ℕ, zero, suc}
+use Rattle.words.specs.Words.{_≡_, ℕ, refl, ap, suc, zero, ap₂}
 use Rattle.decoder.specs.Field.{Ops}
 
 -- `n` values.

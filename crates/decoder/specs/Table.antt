@@ -1,8 +1,6 @@
 -- The receiver's memory as a table by position: which rows there are, and the coefficient that each has at each position.
 -- Row and column of a position are its remainder by the width, so all that the table says is so for every position, and no row moves.
-use mathlib.Core.Path.{_≡_}
-use mathlib.Core.Bool.{Bool, true, false}
-use Prim.Native.Nat.{ℕ, zero, suc, _+_ as _+ₙ_, _≤_, _<_}
+use Rattle.words.specs.Words.{_≡_, ℕ, _≤_, _+_ as _+ₙ_, _<_, suc, true, zero, false, Bool}
 use Rattle.decoder.specs.Field.{Ops}
 use Rattle.decoder.specs.Model.{Row, State, end, free, pivot}
 

@@ -1,9 +1,6 @@
 -- Contracts of inner functions: a reader need not believe these.
 -- Steps on the table by position: row operations, the loop that reduces, a new row, a row that leaves.
-use mathlib.Core.Path.{_≡_}
-use mathlib.Core.Logic.{_≢_}
-use mathlib.Core.Bool.{Bool, true, false}
-use Prim.Native.Nat.{ℕ, zero, suc, _+_ as _+ₙ_, _≤_, _<_}
+use Rattle.words.specs.Words.{_≡_, ℕ, _≤_, _+_ as _+ₙ_, _<_, suc, true, zero, false, Bool, _≢_}
 use Rattle.decoder.specs.Field.{Ops}
 use Rattle.decoder.specs.Table.{Line, Table}
 

@@ -1,9 +1,6 @@
 -- The coefficients of scheme 9, which are 0 and 1: GF(2) is the part {0, 1} of GF(2^8), so one arithmetic serves both schemes. That 0 times a
 -- byte is 0 and 1 times a byte is the byte is `product-zero` and `product-one` of `Laws`.
-use mathlib.Core.Path.{_≡_, refl, sym, _∙_}
-use Prim.Native.Nat.{ℕ, _*_, _<_}
-use native.Mathlib.Nat.{zero-mul, one-mul}
-use native.Mathlib.Omega.{arith}
+use Rattle.words.specs.Words.{_≡_, arith, ℕ, _<_, refl, _∙_, sym, _*_, zero-mul, one-mul}
 use lib.Bits.{bitAnd}
 use Rattle.field.specs.Gf256.{product}
 use Rattle.field.proofs.Xor.{binary}

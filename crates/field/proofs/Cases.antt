@@ -1,6 +1,5 @@
 -- The bench sheet's cases C1 to C3, computed from the definitions.
-use mathlib.Core.Path.{_≡_, refl}
-use mathlib.Core.List.{[], _∷_}
+use Rattle.words.specs.Words.{_≡_, refl, [], _∷_}
 use Rattle.field.specs.Gf256.{product, inverse, inverse-below}
 
 pub cases : product 2 128 ∷ product 3 7 ∷ inverse 2 ∷ [] ≡ 29 ∷ 9 ∷ 142 ∷ []

@@ -1,7 +1,6 @@
 -- Horner's rule, one digit at a time.
-use mathlib.Core.Path.{_≡_, refl, sym, ap, _∙_}
-use Prim.Native.Nat.{ℕ, zero, suc, _/_, _%_, _≤_}
-use native.Mathlib.Nat.{le-refl, not-suc-le-zero}
+use Rattle.words.specs.Words.{_≡_, ℕ, _≤_, refl, _∙_, sym, ap, _%_, suc, zero, _/_, not-suc-le-zero}
+use native.Mathlib.Nat.{le-refl}
 use native.Mathlib.Decide.{le-ind}
 use lib.Arith.{half-le}
 use Rattle.field.specs.Digits.{fold-upto, fold-digits}

@@ -4,17 +4,11 @@
 --   the tables: doublings-at, logarithms-at
 --   inverses: inverse-unique, inverse-lt, inverse-is, inverse-power, product-inverse
 --   the operations by logarithms: product-by-logarithms, inverse-by-logarithm, inverse-zero
-use mathlib.Core.Path.{_≡_, refl, sym, ap, ap₂, _∙_}
-use mathlib.Core.Bool.{Bool, true, false}
-use mathlib.Core.List.{List}
-use Prim.Native.Nat.{ℕ, zero, suc, _+_, _*_, _-_, _/_, _%_, _≤_, _<_}
-use native.Mathlib.Nat.{div-add-mod', zero-mul, add-zero, zero-add, add-suc, suc-add, le-of-suc-le-suc, not-suc-le-zero}
-use native.Mathlib.Omega.{arith}
+use Rattle.words.specs.Words.{_≡_, arith, ℕ, _≤_, _+_, List, length, _<_, refl, _∙_, sym, ap, _-_, _%_, suc, true, zero, _*_, getD, false, Bool, ap₂, ltb, eqb}
+use Rattle.words.specs.Words.{_/_, add-zero, bitXor, not-suc-le-zero, zero-add, le-of-suc-le-suc, zero-mul, eqb-true, add-suc, eqb-false, suc-add}
+use native.Mathlib.Nat.{div-add-mod'}
 use lib.Arith.{lt-of-le-ne}
-use lib.Bits.{bitXor}
-use lib.Dec.{T, eqb, ltb, eqb→eq, ltb→lt}
-use lib.ListN.{length, getD}
-use borrow.Author.Tests.{eqb-true, eqb-false}
+use lib.Dec.{T, eqb→eq, ltb→lt}
 use Rattle.field.specs.Gf256.{product, times, remainder, power, inverse-below, inverse}
 use Rattle.field.specs.Tables.{doublings, logarithmTable}
 use Rattle.field.specs.Logarithm.{IsLogarithm}

@@ -1,10 +1,8 @@
 -- A product in GF(2^8) is the sum of the multiples of one factor that the binary digits of the other choose.
-use mathlib.Core.Path.{_≡_, refl, sym, ap, ap₂, _∙_}
-use mathlib.Core.List.{List, [], _∷_}
-use Prim.Native.Nat.{ℕ, zero, suc, _+_, _*_, _/_, _%_, _^_, _-_, _≤_, _<_}
-use native.Mathlib.Nat.{zero-mul, one-mul, pow-suc}
-use native.Mathlib.Omega.{arith}
-use lib.Bits.{bitXor, xor-zero-r, xor-comm, xor-shifted}
+use Rattle.words.specs.Words.{_≡_, arith, ℕ, _≤_, _+_, List, _<_, refl, _∙_, sym, ap, _-_, [], _%_, _∷_, suc, zero, _*_, _^_, ap₂, _/_, bitXor, zero-mul}
+use Rattle.words.specs.Words.{xor-zero-r, one-mul, xor-comm}
+use native.Mathlib.Nat.{pow-suc}
+use lib.Bits.{xor-shifted}
 use Rattle.field.specs.Gf256.{product, times, remainder, power}
 use Rattle.field.specs.Tables.{doublings}
 use Rattle.field.proofs.Xor.{split-digit}

@@ -2,12 +2,10 @@
 -- The laws by group:
 --   the product: times-xor-left, times-xor-right, times-one, times-comm, times-assoc
 --   the remainder: remainder-xor, remainder-lt, remainder-id, remainder-times
-use mathlib.Core.Path.{_≡_, refl, sym, ap, ap₂, _∙_}
-use Prim.Native.Nat.{ℕ, _*_, _/_, _%_, _^_, _<_}
-use native.Mathlib.Nat.{zero-lt-suc, zero-mul, one-mul, mul-one, mul-assoc, mul-mod-left, mul-div-cancel}
-use native.Mathlib.Omega.{arith}
+use Rattle.words.specs.Words.{_≡_, arith, ℕ, _<_, refl, _∙_, sym, ap, _%_, _*_, _^_, ap₂, _/_, bitXor, zero-mul, xor-lt, one-mul}
+use native.Mathlib.Nat.{zero-lt-suc, mul-one, mul-assoc, mul-mod-left, mul-div-cancel}
 use lib.Arith.{bin-ind}
-use lib.Bits.{bitXor, xor-shr, xor-mod, xor-self, xor-lt}
+use lib.Bits.{xor-shr, xor-mod, xor-self}
 use Rattle.field.specs.Gf256.{modulus, times, reduce, remainder}
 use Rattle.field.proofs.Digits.{fold-step}
 use Rattle.field.proofs.Xor.{digit, xor-half, xor-swap, xor-double, digit-xor, xor-digit, split-digit}

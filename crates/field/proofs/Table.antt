@@ -1,11 +1,7 @@
 -- A rule of a table, proved at all of its entries by one test that antt computes, one entry after the other.
-use mathlib.Core.Path.{_∙_, subst, sym}
-use mathlib.Core.Bool.{Bool, true, false}
-use mathlib.Core.List.{List, [], _∷_}
-use Prim.Native.Nat.{ℕ, zero, suc, _+_, _<_}
-use native.Mathlib.Nat.{add-zero, zero-add, add-suc, suc-add, le-of-suc-le-suc, not-suc-le-zero}
+use Rattle.words.specs.Words.{ℕ, _+_, List, length, _<_, _∙_, sym, [], _∷_, suc, true, zero, getD, false, Bool, subst, add-zero, not-suc-le-zero, zero-add}
+use Rattle.words.specs.Words.{le-of-suc-le-suc, add-suc, suc-add}
 use lib.Dec.{T}
-use lib.ListN.{length, getD}
 
 abbrev pub both : Bool → Bool → Bool
 both true b = b

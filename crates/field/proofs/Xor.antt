@@ -1,9 +1,9 @@
 -- Laws of `bitXor` that `lib.Bits` lacks, and induction on binary digits.
-use mathlib.Core.Path.{_≡_, refl, sym, ap, ap₂, _∙_}
-use Prim.Native.Nat.{ℕ, zero, suc, _+_, _*_, _/_, _%_, _<_}
-use native.Mathlib.Nat.{mod-lt, div-add-mod', zero-lt-suc, le-of-suc-le-suc, not-suc-le-zero, zero-mul, one-mul, add-zero}
+use Rattle.words.specs.Words.{_≡_, ℕ, _+_, _<_, refl, _∙_, sym, ap, _%_, suc, zero, _*_, ap₂, mod-lt, _/_, add-zero, bitXor, not-suc-le-zero, le-of-suc-le-suc}
+use Rattle.words.specs.Words.{zero-mul, xor-zero-r, one-mul, xor-comm}
+use native.Mathlib.Nat.{div-add-mod', zero-lt-suc}
 use lib.Arith.{bin-ind}
-use lib.Bits.{bitXor, differ, xor-shr, xor-mod, xor-comm, xor-self, xor-zero-r, xor-block, xor-shifted}
+use lib.Bits.{differ, xor-shr, xor-mod, xor-self, xor-block, xor-shifted}
 
 -- what holds of 0 and of 1 holds of a number below 2
 pub binary : (P : ℕ → Type 0) → P 0 → P 1 → (c : ℕ) → c < 2 → P c

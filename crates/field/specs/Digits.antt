@@ -1,5 +1,5 @@
 -- Horner's rule over the binary digits of a number.
-use Prim.Native.Nat.{ℕ, zero, suc, _/_, _%_}
+use Rattle.words.specs.Words.{ℕ, _%_, suc, zero, _/_}
 
 -- `f d r` takes a digit d and what the digits above it gave, r. At most n digits are taken.
 abbrev pub fold-upto : (ℕ → ℕ → ℕ) → ℕ → ℕ → ℕ

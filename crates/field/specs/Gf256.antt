@@ -1,9 +1,6 @@
 -- GF(2^8), as RFC 8681 has it: polynomials over GF(2) modulo x^8 + x^4 + x^3 + x^2 + 1.
 -- A polynomial is the number whose binary digits are its coefficients, so the sum of two is `bitXor` and `p * 2` is x times p.
-use Prim.Native.Nat.{ℕ, zero, suc, _*_, _/_, _%_, _^_}
-use mathlib.Core.Bool.{true, false}
-use lib.Bits.{bitXor}
-use lib.Dec.{eqb}
+use Rattle.words.specs.Words.{ℕ, _%_, suc, true, zero, _*_, false, _^_, eqb, _/_, bitXor}
 use Rattle.field.specs.Digits.{fold-digits}
 
 -- x^8 + x^4 + x^3 + x^2 + 1

@@ -1,6 +1,5 @@
 -- Logarithms to the base 2 in GF(2^8).
-use mathlib.Core.Path.{_≡_}
-use Prim.Native.Nat.{ℕ, _<_}
+use Rattle.words.specs.Words.{_≡_, ℕ, _<_}
 use Rattle.field.specs.Gf256.{power}
 
 -- e is the logarithm of a

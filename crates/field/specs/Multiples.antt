@@ -1,8 +1,6 @@
 -- The multiples of an element by 1, 2, 4, .. 128, from which a product by it is summed. The element itself is the first of them, and the others
 -- are its doublings, as in the table of powers.
-use mathlib.Core.Path.{_≡_}
-use Prim.Native.Nat.{ℕ}
-use mathlib.Core.List.{List, [], _∷_}
+use Rattle.words.specs.Words.{_≡_, ℕ, List, [], _∷_}
 use Rattle.field.specs.Tables.{doublings}
 use Rattle.field.specs.declared.Multiples.{Multiples}
 

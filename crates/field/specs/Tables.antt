@@ -1,8 +1,5 @@
 -- The two tables of GF(2^8), as their rules give them.
-use mathlib.Core.Bool.{true, false}
-use mathlib.Core.List.{List, [], _∷_}
-use Prim.Native.Nat.{ℕ, zero, suc}
-use lib.Dec.{eqb}
+use Rattle.words.specs.Words.{ℕ, List, [], _∷_, suc, true, zero, false, eqb}
 use Rattle.field.specs.Gf256.{product}
 
 -- The n powers from x on: each entry doubles the one before.

@@ -2,16 +2,8 @@
 -- A row divided by its coefficient in a column: normalised.
 -- What becomes of a reduced equation: settled-kept, settled-implied, settled-contradiction.
 -- The packet's rows: gathered-same, gathered-only, gathered-none. The whole call: admitted.
-use mathlib.Core.Path.{_≡_, refl, sym, ap, _∙_, subst}
-use mathlib.Core.Logic.{_≢_}
-use mathlib.Core.List.{List, [], _∷_, _++_}
-use mathlib.Core.Option.{some}
-use Prim.Native.Nat.{ℕ, _+_, _-_, _%_, _≤_, _<_}
-use native.Mathlib.Nat.{mod-lt, mod-add-mod, add-mod-right}
-use native.Mathlib.Numerals.{add-one}
-use native.Mathlib.Decide.{ℕ-discrete, decLt}
-use native.Mathlib.Omega.{arith}
-use lib.ListN.{length, getD, set}
+use Rattle.words.specs.Words.{_≡_, arith, ℕ, _≤_, _+_, List, length, _<_, refl, _∙_, sym, ap, _-_, [], some, _%_, _∷_, getD, _++_, subst, _≢_, mod-lt}
+use Rattle.words.specs.Words.{ℕ-discrete, decLt, add-one, mod-add-mod, set, add-mod-right}
 use Rattle.field.specs.Gf256.{product, inverse}
 use Rattle.field.proofs.Laws.{inverse-lt}
 use Rattle.memory.specs.Part.{part, splice}
@@ -28,8 +20,8 @@ use Rattle.decoder.specs.TableSteps.{Leads, scale-line}
 use Rattle.decoder.specs.Chain.{Chain, place-rows, eliminate}
 use Rattle.decoder.proofs.Bytes.{byte-inverse, laws, byte-zero, byte-nonzero}
 use Rattle.decoder.proofs.Stretch.{line-scale, symbol-null, symbol-nonnull}
-use Rattle.decoder.proofs.Chain.{chain-none, chain-same, place-rows-same, eliminate-same}
-use Rattle.decoder.proofs.Chain.{chain-reduce, normal, packet-implied, packet-contradicts, packet-places}
+use Rattle.decoder.proofs.Chain.{chain-none, chain-same, place-rows-same, eliminate-same, chain-reduce, normal, packet-implied, packet-contradicts}
+use Rattle.decoder.proofs.Chain.{packet-places}
 use Rattle.decoder.proofs.Combining.{normal-line}
 use Rattle.decoder.proofs.Refine.{lead-read, lead-none}
 use Rattle.decoder.proofs.Steps.{symbol-read, leads-scaled}

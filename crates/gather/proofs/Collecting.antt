@@ -1,13 +1,6 @@
 -- The multipliers of the state's rows, collected by column.
-use mathlib.Core.Path.{_≡_, refl, sym, ap, _∙_}
-use mathlib.Core.Logic.{_≢_}
-use mathlib.Core.Bool.{Bool, true, false}
-use mathlib.Core.List.{List, [], _∷_}
-use Prim.Native.Nat.{ℕ, zero, suc, _+_, _-_, _%_, _≤_, _<_}
-use native.Mathlib.Nat.{mod-lt, mod-add-mod}
-use native.Mathlib.Decide.{ℕ-discrete}
-use native.Mathlib.Omega.{arith}
-use lib.ListN.{length, getD, set, length-set}
+use Rattle.words.specs.Words.{_≡_, arith, ℕ, _≤_, _+_, List, length, _<_, refl, _∙_, sym, ap, _-_, [], _%_, _∷_, suc, true, zero, getD, false, Bool, _≢_}
+use Rattle.words.specs.Words.{mod-lt, ℕ-discrete, mod-add-mod, set, length-set}
 use lib.Seq.{getD-set-same, getD-set-other}
 use lib.Bits.{bitOr, or-add-and, and-le-l, and-le-r}
 use Rattle.decoder.proofs.Stretch.{remainders}

@@ -1,13 +1,9 @@
 -- An equation's coefficients laid in a row of working memory: they stand in their columns, around the end of the window.
 -- Columns: wrapped. Coefficients up to the end of the window, and around it: laid-short, laid-long. The symbol stays: laid-symbol.
-use mathlib.Core.Path.{_≡_, refl, sym, ap, _∙_, subst}
-use mathlib.Core.Logic.{_≢_}
-use mathlib.Core.List.{List}
-use Prim.Native.Nat.{ℕ, _+_, _-_, _%_, _≤_, _<_}
-use native.Mathlib.Nat.{zero-add, mod-lt, mod-eq-of-lt, mod-eq-sub-mod}
-use native.Mathlib.Decide.{decLt}
-use native.Mathlib.Omega.{arith}
-use lib.ListN.{length, getD, replicate, length-replicate, getD-replicate}
+use Rattle.words.specs.Words.{_≡_, arith, ℕ, _≤_, _+_, List, length, _<_, refl, _∙_, sym, ap, _-_, _%_, getD, subst, _≢_, mod-lt, decLt, mod-eq-of-lt, zero-add}
+use Rattle.words.specs.Words.{replicate, length-replicate}
+use native.Mathlib.Nat.{mod-eq-sub-mod}
+use lib.ListN.{getD-replicate}
 use Rattle.memory.specs.Part.{part, splice}
 use Rattle.memory.proofs.Parts.{length-part, length-splice, getD-part, getD-before, getD-within, getD-past}
 use Rattle.table.specs.Window.{stride, rowOffset, row}

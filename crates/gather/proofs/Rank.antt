@@ -1,8 +1,6 @@
 -- How many rows a system has: each row that is placed is one more, and there are no more than positions.
-use mathlib.Core.Path.{_≡_, refl, sym, ap, _∙_}
+use Rattle.words.specs.Words.{_≡_, arith, ℕ, _≤_, refl, _∙_, sym, ap, suc, zero}
 use mathlib.Core.Logic.{ite, if-pos}
-use Prim.Native.Nat.{ℕ, zero, suc, _≤_}
-use native.Mathlib.Omega.{arith}
 use Rattle.decoder.specs.Field.{Ops, Laws}
 use Rattle.decoder.specs.Model.{Row, State, end, free, pivot, Reduced, lead, reduce, place, place-free}
 use Rattle.decoder.specs.Chain.{Chain, place-rows}

@@ -2,19 +2,10 @@
 -- A row that has been replaced: new-cell, new-line, part-row, bytes-addScaled.
 -- By the packet's rows: flag-lt, rows-apart, eliminated, packet-none, packet-more.
 -- By the state's rows: zeros, length-lent, rows-added, state-none, state-some, state-only, no-coefficient, state-reduced.
-use mathlib.Core.Path.{_≡_, refl, sym, ap, ap₂, _∙_, subst}
-use mathlib.Core.Logic.{_≢_}
-use mathlib.Core.Bool.{true, false}
-use mathlib.Core.List.{List, [], _∷_, _++_}
-use Prim.Native.Nat.{ℕ, zero, suc, _+_, _-_, _%_, _≤_, _<_}
-use native.Mathlib.Nat.{mod-lt, mod-add-mod, add-mod-right}
-use native.Mathlib.Numerals.{add-one}
-use native.Mathlib.Decide.{decLt, decLe}
-use native.Mathlib.Omega.{arith}
-use lib.ListN.{length, getD, take, drop, replicate}
-use lib.Seq.{getD-take, length-take-le}
-use lib.Bits.{bitXor, xor-lt}
-use lib.Dec.{lit<}
+use Rattle.words.specs.Words.{_≡_, arith, ℕ, _≤_, _+_, List, length, _<_, refl, _∙_, sym, ap, _-_, [], _%_, _∷_, suc, true, zero, getD, false, _++_, subst}
+use Rattle.words.specs.Words.{drop, _≢_, take, ap₂, mod-lt, decLt, add-one, bitXor, mod-add-mod, lit<, replicate, add-mod-right, xor-lt, length-take-le}
+use Rattle.words.specs.Words.{getD-take}
+use native.Mathlib.Decide.{decLe}
 use Rattle.field.specs.Gf256.{product}
 use Rattle.field.proofs.Laws.{product-lt}
 use Rattle.memory.specs.Part.{part, splice}

@@ -1,11 +1,5 @@
 -- The search for a pivot, row by row and in a row from a column on.
-use mathlib.Core.Path.{_≡_, sym, ap, _∙_, subst}
-use mathlib.Core.Logic.{_≢_}
-use mathlib.Core.List.{List}
-use Prim.Native.Nat.{ℕ, _+_, _%_, _≤_, _<_}
-use native.Mathlib.Decide.{ℕ-discrete}
-use native.Mathlib.Omega.{arith}
-use lib.ListN.{getD}
+use Rattle.words.specs.Words.{_≡_, arith, ℕ, _≤_, _+_, List, _<_, _∙_, sym, ap, _%_, getD, subst, _≢_, ℕ-discrete}
 use Rattle.memory.proofs.Parts.{getD-part}
 use Rattle.table.specs.Window.{stride, rowOffset, row}
 use Rattle.table.proofs.Offsets.{flags-fit}

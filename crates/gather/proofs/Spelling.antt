@@ -1,12 +1,6 @@
 -- The equation that a laid row spells is the model's: coefficients at the positions from the `d`th of the window on, and a symbol.
-use mathlib.Core.Path.{_≡_, refl, sym, ap, ap₂, _∙_}
-use mathlib.Core.Logic.{_≢_}
-use mathlib.Core.List.{List, [], _∷_}
-use Prim.Native.Nat.{ℕ, zero, suc, _+_, _%_, _≤_, _<_}
-use native.Mathlib.Nat.{mod-lt, mod-add-mod}
-use native.Mathlib.Decide.{ℕ-discrete}
-use native.Mathlib.Omega.{arith}
-use lib.ListN.{length, getD}
+use Rattle.words.specs.Words.{_≡_, arith, ℕ, _≤_, _+_, List, length, _<_, refl, _∙_, sym, ap, [], _%_, _∷_, suc, zero, getD, _≢_, ap₂, mod-lt, ℕ-discrete}
+use Rattle.words.specs.Words.{mod-add-mod}
 use Rattle.decoder.specs.Bytes.{byte, byte-path, Coded}
 use Rattle.decoder.specs.Receiver.{embed}
 use Rattle.decoder.specs.Packets.{row, only}

@@ -1,11 +1,6 @@
 -- What `lay` and `admit` do to an equation of a packet: it is laid in a row of working memory, reduced there and kept, unless it is implied
 -- or contradicts.
-use mathlib.Core.Path.{_≡_}
-use mathlib.Core.Logic.{_≢_}
-use mathlib.Core.List.{List, [], _∷_, _++_}
-use mathlib.Core.Option.{none}
-use Prim.Native.Nat.{ℕ, _+_, _-_, _%_, _≤_, _<_}
-use lib.ListN.{length, take, drop, getD}
+use Rattle.words.specs.Words.{_≡_, ℕ, _≤_, _+_, List, length, _<_, _-_, [], _%_, _∷_, none, getD, _++_, drop, _≢_, take}
 use Rattle.decoder.specs.Bytes.{Coded}
 use Rattle.decoder.specs.Model.{Row, State, Rref}
 use Rattle.decoder.specs.Receiver.{advance-by, insert-all}

@@ -1,11 +1,6 @@
 -- Contracts of inner functions: a reader need not believe these.
 -- An equation is reduced by the state's rows and by the packet's, and its oldest coefficient is found and made one.
-use mathlib.Core.Path.{_≡_}
-use mathlib.Core.Logic.{_≢_}
-use mathlib.Core.Bool.{Bool, true, false}
-use mathlib.Core.List.{List}
-use Prim.Native.Nat.{ℕ, _+_, _%_, _≤_, _<_}
-use lib.ListN.{length, getD}
+use Rattle.words.specs.Words.{_≡_, ℕ, _≤_, _+_, List, length, _<_, _%_, true, getD, false, Bool, _≢_}
 use Rattle.field.specs.Gf256.{inverse}
 use Rattle.memory.specs.Part.{part, splice}
 use Rattle.memory.specs.Number.{Bytes}

@@ -1,13 +1,11 @@
 // An equation of a packet in working memory. It is laid in a row, reduced there by the state's rows that stay and by the packet's rows before
 // it, and kept as the packet's next row, unless it is implied by these or contradicts them. The state is only read.
-ghost use mathlib.Core.Path.{_≡_};
-ghost use Prim.Native.Nat.{_+_, _%_, _≤_, _<_};
-ghost use lib.ListN.{length, take};
+ghost use Rattle.words.specs.Words.{_≡_, _≤_, _+_, length, _<_, _%_, take};
 ghost use Rattle.table.specs.Window.{row, inUse, Fits};
 ghost use Rattle.table.specs.Packet.{Works};
 ghost use Rattle.gather.specs.Gather.{LaidIn, Admitted};
-ghost use Rattle.gather.specs.GatherSteps.{if-used, Collected, RowsAdded, StateReduced, Eliminated, PacketReduced};
-ghost use Rattle.gather.specs.GatherSteps.{Searched, Normalised, Concluded, Staying};
+ghost use Rattle.gather.specs.GatherSteps.{if-used, Collected, RowsAdded, StateReduced, Eliminated, PacketReduced, Searched, Normalised, Concluded};
+ghost use Rattle.gather.specs.GatherSteps.{Staying};
 use field::Gf256;
 use table::Shape;
 

@@ -1,14 +1,6 @@
 -- The symbols of an ADUI: how many there are and where the last ends, its padding, and its bytes copied symbol by symbol.
-use mathlib.Core.Path.{_≡_, refl, sym, ap, ap₂, _∙_, subst}
-use mathlib.Core.Logic.{_↔_}
-use mathlib.Core.List.{List}
-use Prim.Native.Nat.{ℕ, suc, _+_, _-_, _*_, _≤_, _<_, min}
-use native.Mathlib.Nat.{zero-mul, zero-add, suc-mul}
-use native.Mathlib.Numerals.{add-one}
-use native.Mathlib.Decide.{decLt}
-use native.Mathlib.Omega.{arith}
-use lib.ListN.{length, drop}
-use lib.Dec.{eqb}
+use Rattle.words.specs.Words.{_≡_, arith, ℕ, _≤_, _+_, List, length, _<_, refl, _∙_, sym, ap, _-_, suc, _*_, subst, drop, ap₂, eqb, _↔_, decLt, add-one}
+use Rattle.words.specs.Words.{zero-add, zero-mul, suc-mul, min}
 use Rattle.memory.specs.Part.{part, splice}
 use Rattle.memory.proofs.Parts.{length-part, length-splice, part-add, splice-next, row-fits}
 use Rattle.wire.proofs.Adui.{room, least}

@@ -2,18 +2,8 @@
 -- What the window knows: known-is, known-none, known-more, known-all, known-not, known-beyond.
 -- What has been read: Read, Whole, whole-is, spans.
 -- The answers: no-start, first-unknown, too-many, another-unknown, not-padded, no-room, hands-out.
-use mathlib.Core.Path.{_≡_, refl, sym, ap, ap₂, _∙_, subst}
-use mathlib.Core.Logic.{_≢_}
-use mathlib.Core.Bool.{Bool, true, false}
-use mathlib.Core.Option.{Option, none, some}
-use mathlib.Core.List.{List}
-use Prim.Native.Nat.{ℕ, _+_, _-_, _%_, _≤_, _<_}
-use native.Mathlib.Nat.{mod-lt, mod-add-mod, not-suc-le-zero}
-use native.Mathlib.Decide.{ℕ-discrete}
-use native.Mathlib.Omega.{arith}
-use lib.ListN.{length, drop, getD}
-use lib.Dec.{leb}
-use borrow.Author.Tests.{le-leb, lt-leb}
+use Rattle.words.specs.Words.{_≡_, arith, ℕ, _≤_, _+_, List, length, _<_, refl, _∙_, sym, ap, _-_, some, _%_, true, none, getD, false, Bool, subst, Option}
+use Rattle.words.specs.Words.{drop, _≢_, ap₂, leb, mod-lt, le-leb, ℕ-discrete, lt-leb, not-suc-le-zero, mod-add-mod}
 use Rattle.memory.specs.Part.{part, splice}
 use Rattle.memory.specs.Number.{number, Bytes}
 use Rattle.memory.proofs.Parts.{length-part, length-splice, past-splice}

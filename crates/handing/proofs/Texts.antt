@@ -1,17 +1,8 @@
 -- The bytes of the symbols from a position on, one after the other: where they lie in the memory, and that they are what the window knows.
-use mathlib.Core.Path.{_≡_, refl, sym, ap, ap₂, _∙_}
-use mathlib.Core.Bool.{Bool, true, false, _&&_, true≢false}
-use mathlib.Core.Option.{Option, none, some}
-use mathlib.Core.Logic.{_↔_}
-use mathlib.Core.List.{List, [], _∷_, _++_}
-use Prim.Native.Nat.{ℕ, zero, suc, _+_, _-_, _*_, _%_, _≤_, _<_}
-use native.Mathlib.Nat.{mod-lt, not-suc-le-zero, le-of-suc-le-suc, add-zero, suc-mul, zero-mul}
-use native.Mathlib.Decide.{ℕ-discrete}
-use native.Mathlib.Omega.{arith}
-use lib.ListN.{length, take, drop, getD, length-append, length-drop, List·getD-append}
-use lib.Seq.{drop-append-add, take-all}
-use lib.Dec.{eqb}
-use borrow.Author.Tests.{eq-eqb, ne-eqb, eqb-true}
+use Rattle.words.specs.Words.{_≡_, arith, ℕ, _≤_, _+_, List, length, _<_, refl, _∙_, sym, ap, _-_, [], some, _%_, _∷_, suc, true, zero, none, _*_, getD, false}
+use Rattle.words.specs.Words.{_++_, Bool, Option, drop, take, ap₂, eqb, mod-lt, _↔_, _&&_, ℕ-discrete, add-zero, length-append, ne-eqb, not-suc-le-zero, eq-eqb}
+use Rattle.words.specs.Words.{true≢false, le-of-suc-le-suc, zero-mul, length-drop, eqb-true, suc-mul, take-all, List·getD-append}
+use lib.Seq.{drop-append-add}
 use Rattle.memory.specs.Part.{part}
 use Rattle.memory.specs.Number.{number}
 use Rattle.memory.proofs.Parts.{length-part, part-part, getD-part, row-fits}

@@ -1,10 +1,6 @@
 -- The contract of an inner function: a reader need not believe it.
 -- It holds for every system S that the memory holds for a window from b on, where `base` is the row of b.
-use mathlib.Core.Path.{_≡_}
-use mathlib.Core.Logic.{_≢_}
-use mathlib.Core.List.{List}
-use Prim.Native.Nat.{ℕ, _%_}
-use lib.ListN.{length}
+use Rattle.words.specs.Words.{_≡_, ℕ, List, length, _%_, _≢_}
 use Rattle.wire.specs.declared.Refusal.{Refusal}
 use Rattle.wire.specs.Numbers.{numberOf}
 use Rattle.decoder.specs.Bytes.{Coded}

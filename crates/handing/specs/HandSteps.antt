@@ -1,10 +1,6 @@
 -- Contracts of inner functions: a reader need not believe these.
 -- The symbols of the window where they stand in the memory, and the ADUI that the symbols from a position on make up.
-use mathlib.Core.Path.{_≡_}
-use mathlib.Core.Bool.{Bool, true, false}
-use mathlib.Core.Option.{none, some}
-use mathlib.Core.List.{List, [], _++_}
-use Prim.Native.Nat.{ℕ, zero, suc, _+_, _%_, _≤_}
+use Rattle.words.specs.Words.{_≡_, ℕ, _≤_, _+_, List, [], some, _%_, suc, true, zero, none, false, _++_, Bool}
 use Rattle.memory.specs.Part.{part}
 use Rattle.wire.specs.Packets.{symbolCount}
 use Rattle.decoder.specs.Bytes.{Coded}

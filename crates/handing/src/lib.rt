@@ -1,7 +1,5 @@
 // Handing out an ADU: its symbols are looked up in the window, its padding is checked, and its bytes are copied from where the symbols stand.
-ghost use mathlib.Core.Path.{_≡_};
-ghost use Prim.Native.Nat.{_+_, _≤_, _<_};
-ghost use lib.ListN.{length, drop};
+ghost use Rattle.words.specs.Words.{_≡_, _≤_, _+_, length, _<_, drop};
 ghost use Rattle.memory.specs.Part.{part, splice};
 ghost use Rattle.table.specs.Window.{Fits};
 ghost use Rattle.starts.specs.Adu.{allZero};

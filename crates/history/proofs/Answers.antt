@@ -1,28 +1,35 @@
 -- The model's answers are the history's.
-use mathlib.Core.Path.{_≡_, refl, sym, ap, _∙_, subst}
-use mathlib.Core.Logic.{_↔_, Iff·rfl, Iff·and}
-use mathlib.Core.Option.{Option, none, some, Option·none-ne-some, Option·some-injective}
-use mathlib.Core.List.{List, [], _∷_, map}
-use Prim.Native.Nat.{ℕ, _+_, _-_, _≤_, _<_, max}
-use native.Mathlib.Omega.{arith}
+-- Index
+--   Fits: what a packet's form and place have passed
+--   AllFormed
+--   TracksFrom: the window says what the packets qs say of the positions from its base on
+--   baseIn: the base of a state
+--   Tracks: the model's base is the history's, and its window says what the accepted packets say
+--   base-found, known-exactly, known-value, tracks-consistent
+--   Passes: what passes the checks before 11, of a packet that finds the base b
+--   judged: the model answers a call as the history asks, and follows the history after it
+--   fresh-tracks: a fresh receiver follows the empty history
+use Rattle.words.specs.Words.{_≡_, arith, ℕ, _≤_, _+_, List, _<_, refl, _∙_, sym, ap, _-_, [], some, _∷_, none, subst, Option, _↔_, Option·some-injective}
+use Rattle.words.specs.Words.{Option·none-ne-some, map, max}
+use mathlib.Core.Logic.{Iff·rfl, Iff·and}
 use Rattle.wire.specs.declared.Setting.{Setting}
 use Rattle.decoder.specs.Field.{Laws}
 use Rattle.decoder.specs.Bytes.{Coded}
-use Rattle.decoder.specs.Model as model
 use Rattle.decoder.specs.Model.{known}
-use Rattle.decoder.specs.Receiver as decoder
-use Rattle.decoder.specs.Packets as packets
 use Rattle.decoder.specs.Promises.{Follows}
 use Rattle.decoder.proofs.Bytes.{laws}
-use Rattle.decoder.proofs.History as history
 use Rattle.history.specs.Symbol.{Symbol}
-use Rattle.history.specs.History.{Filling, Located, source, repair, first, named, All, Consistent, Known, Reading, fails, located}
+use Rattle.history.specs.History.{Filling, Located, source, repair, first, named, All, Consistent, Known, Reading, fails, located, baseFor, Log, fresh}
+use Rattle.history.specs.History.{raised, baseOf, logged, Counted, New, Judged}
 use Rattle.wire.specs.Answers.{refusal}
-use Rattle.history.specs.History.{baseFor, Log, fresh, raised, baseOf, logged, Counted, New, Judged}
 use Rattle.history.specs.Model.{packetOf, Joined, State, opened, foundBy, saidOf, stateAfter, added, responds}
 use Rattle.history.proofs.Cases.{IsRefusal, numeral, IsLocated, packet-path, number-in}
 use Rattle.history.proofs.Counting.{count-counted}
 use Rattle.history.proofs.Says.{Formed, says}
+use Rattle.decoder.specs.Model as model
+use Rattle.decoder.specs.Receiver as decoder
+use Rattle.decoder.specs.Packets as packets
+use Rattle.decoder.proofs.History as history
 
 -- What a packet's form and place have passed: it does not lie behind the base, is no longer than the window, and has symbols of E bytes.
 pub record Fits (s : Setting) (base : ℕ) (q : Located) : Type 0 where

@@ -1,6 +1,5 @@
 -- Readings and answers told apart.
-use mathlib.Core.Path.{_≡_, ap}
-use Prim.Native.Nat.{ℕ}
+use Rattle.words.specs.Words.{_≡_, ℕ, ap}
 use Rattle.wire.specs.Answers.{Said, value, refusal}
 use Rattle.history.specs.History.{Located, Reading, fails, located}
 

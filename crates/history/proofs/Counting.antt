@@ -1,9 +1,5 @@
 -- Counting from the front, as the model does, and from the end, as the history says it; a count has one value, and so has an answer.
-use mathlib.Core.Path.{_≡_, refl, sym, ap, _∙_, subst}
-use mathlib.Core.Logic.{_↔_}
-use mathlib.Core.Option.{Option, none, some}
-use Prim.Native.Nat.{ℕ, zero, suc, _+_}
-use native.Mathlib.Omega.{arith}
+use Rattle.words.specs.Words.{_≡_, arith, ℕ, _+_, refl, _∙_, sym, ap, some, suc, zero, none, subst, Option, _↔_}
 use Rattle.wire.specs.declared.Setting.{Setting}
 use Rattle.decoder.specs.Model.{tail}
 use Rattle.decoder.specs.Receiver.{Accepted, is-new, count-new}

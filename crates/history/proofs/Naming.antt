@@ -1,26 +1,19 @@
 -- Every number that a packet call is refused with is that of a refusal, and not 3; a packet that is accepted leaves the window reduced.
-use mathlib.Core.Path.{_≡_, refl}
-use mathlib.Core.Logic.{_≢_}
-use mathlib.Core.Bool.{Bool, true, false}
-use mathlib.Core.Option.{Option, none, some}
-use mathlib.Core.List.{List}
-use Prim.Native.Nat.{ℕ, _+_, _<_}
-use native.Mathlib.Omega.{arith}
-use lib.Dec.{leb}
+use Rattle.words.specs.Words.{_≡_, arith, ℕ, _+_, List, _<_, refl, some, true, none, false, Bool, Option, _≢_, leb}
 use Rattle.wire.specs.declared.Setting.{Setting}
 use Rattle.wire.specs.declared.Refusal.{Refusal}
 use Rattle.wire.specs.declared.Refusal.the-variants.{Short, Long, Form, Range, Behind, Ahead, Draws, Contradiction}
 use Rattle.wire.specs.Numbers.{numberOf}
 use Rattle.wire.specs.Packets.{sourceEsi, firstEsi}
 use Rattle.decoder.specs.Bytes.{Coded}
-use Rattle.decoder.specs.Model as model
 use Rattle.decoder.specs.Model.{Rref}
-use Rattle.decoder.specs.Receiver as decoder
 use Rattle.decoder.proofs.Bytes.{laws}
-use Rattle.decoder.proofs.History as history
-use Rattle.history.specs.History.{Side, behind, ahead, sideOf, Call, source-call, repair-call, Reading, fails, located, check, farthest}
-use Rattle.history.specs.History.{fromSide, readSource, readRepair, reading}
+use Rattle.history.specs.History.{Side, behind, ahead, sideOf, Call, source-call, repair-call, Reading, fails, located, check, farthest, fromSide}
+use Rattle.history.specs.History.{readSource, readRepair, reading}
 use Rattle.history.specs.Model.{packetOf, Joined, Outcome, refused, done, added, responds, answering}
+use Rattle.decoder.specs.Model as model
+use Rattle.decoder.specs.Receiver as decoder
+use Rattle.decoder.proofs.History as history
 
 -- The number of a refusal that is not 3.
 pub record Named (n : ℕ) : Type 0 where

@@ -1,15 +1,19 @@
 -- What the checks before 11 leave of a packet: where it lies, what it says, and that it fits the window.
-use mathlib.Core.Path.{_≡_, refl, sym, ap, _∙_, subst}
-use mathlib.Core.Bool.{Bool, true, false, _&&_}
-use mathlib.Core.Option.{Option, none, some}
-use mathlib.Core.List.{List, [], _∷_, _++_}
-use Prim.Native.Nat.{ℕ, zero, suc, _+_, _-_, _*_, _%_, _^_, _≤_, _<_}
-use native.Mathlib.Nat.{mod-lt, suc-mul}
-use native.Mathlib.Omega.{arith}
-use lib.ListN.{length, drop, length-map, length-take, length-drop}
-use lib.Seq.{getD-drop}
-use lib.Dec.{ltb, leb, lit<}
-use borrow.Author.Tests.{ltb-true, leb-true, eqb-true}
+-- Index
+--   check-passed, source-whole, repair-whole
+--   Places: a packet's place has passed
+--   SourceRead: a source packet that has passed
+--   source-read
+--   RepairRead: a repair packet that has passed
+--   repair-read, reading-passed
+--   reading-fits: whatever passes the checks lies ahead of the base
+--   joins-at: a packet that finds no base begins at its own first ESI
+--   joins-near: neither 8 nor 9 can stop it
+--   reading-passes: what a call's packet has passed after a history
+use Rattle.words.specs.Words.{_≡_, arith, ℕ, _≤_, _+_, List, length, _<_, refl, _∙_, sym, ap, _-_, [], some, _%_, _∷_, suc, true, zero, none, _*_, false, _++_}
+use Rattle.words.specs.Words.{Bool, subst, Option, drop, _^_, ltb, leb, mod-lt, _&&_, length-drop, leb-true, lit<, eqb-true, ltb-true, length-take, suc-mul}
+use Rattle.words.specs.Words.{getD-drop}
+use lib.ListN.{length-map}
 use Rattle.memory.specs.Part.{part}
 use Rattle.memory.specs.Number.{number, bytes, Bytes}
 use Rattle.memory.proofs.Parts.{length-part}
@@ -24,9 +28,9 @@ use Rattle.wire.proofs.Settings.{both, within-bounds}
 use Rattle.wire.proofs.Adui.{length-adui, symbols-count}
 use Rattle.coefficients.specs.Coefficients.{keys, listsOf}
 use Rattle.coefficients.proofs.Lists.{length-keys, list-bytes}
-use Rattle.history.specs.History.{Located, source, repair, first, ahead, sideOf, Call, source-call, repair-call, baseFor, Log, baseOf, readAfter}
-use Rattle.history.specs.History.{halfway, farthest}
-use Rattle.history.specs.History.{OfBytes, esiOf, Reading, fails, located, check, fromSide, readSource, readRepair, workingSize, readPacket, reading}
+use Rattle.history.specs.History.{Located, source, repair, first, ahead, sideOf, Call, source-call, repair-call, baseFor, Log, baseOf, readAfter, halfway}
+use Rattle.history.specs.History.{farthest, OfBytes, esiOf, Reading, fails, located, check, fromSide, readSource, readRepair, workingSize, readPacket}
+use Rattle.history.specs.History.{reading}
 use Rattle.history.proofs.Cases.{IsLocated, packet-path, number-in}
 use Rattle.history.proofs.Sides.{limits, side-taken}
 use Rattle.history.proofs.Says.{Wholes, AllBytes}

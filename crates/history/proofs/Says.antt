@@ -1,15 +1,13 @@
 -- A packet's rows say what the packet says: positions hold its symbols, or repair symbols equal their combinations.
-use mathlib.Core.Path.{_≡_, refl, sym, ap, ap₂, _∙_}
-use mathlib.Core.Logic.{_↔_, Iff·trans}
-use mathlib.Core.List.{List, [], _∷_, map}
-use Prim.Native.Nat.{ℕ, zero, suc, _+_, _<_}
-use native.Mathlib.Nat.{mod-eq-of-lt, add-zero, add-suc, suc-add, zero-add}
-use native.Mathlib.Decide.{decLt}
-use native.Mathlib.Omega.{arith}
-use lib.Bits.{bitXor, xor-lt, xor-comm}
-use lib.Dec.{lit<}
-use lib.ListN.{length, getD, List·getD-eq-default}
-use lib.Seq.{take-all}
+-- Index
+--   Whole: e bytes
+--   Wholes, bytes-symbol, symbol-tail, symbol-bytes, bytes-sized, bytes-whole, length-at, getD-at
+--   AllBytes: symbols have E bytes
+--   Formed, head, rest, holds, says
+use Rattle.words.specs.Words.{_≡_, arith, ℕ, _+_, List, length, _<_, refl, _∙_, sym, ap, [], _∷_, suc, zero, getD, ap₂, _↔_, add-zero, map, decLt, bitXor}
+use Rattle.words.specs.Words.{mod-eq-of-lt, zero-add, lit<, add-suc, take-all, suc-add, xor-lt, xor-comm}
+use mathlib.Core.Logic.{Iff·trans}
+use lib.ListN.{List·getD-eq-default}
 use Rattle.field.specs.Gf256.{product}
 use Rattle.field.proofs.Laws.{product-lt}
 use Rattle.field.proofs.Xor.{xor-assoc}
@@ -20,8 +18,6 @@ use Rattle.rows.proofs.Combinations.{length-combination, getD-combination}
 use Rattle.decoder.specs.Bytes.{byte, byte-path, bytes, Coded}
 use Rattle.decoder.specs.Symbols.{nulls, adds, times}
 use Rattle.decoder.specs.Stretch.{symbol-at}
-use Rattle.decoder.specs.Receiver as decoder
-use Rattle.decoder.specs.Packets as packets
 use Rattle.decoder.proofs.Bytes.{byte-of, laws}
 use Rattle.decoder.proofs.Stretch.{bytes-of-symbol}
 use Rattle.decoder.proofs.History.{shift-at}
@@ -29,6 +25,8 @@ use Rattle.decoder.proofs.Packets.{source-satisfies, repair-satisfies}
 use Rattle.history.specs.Symbol.{Symbol, bytesOf, symbolOf}
 use Rattle.history.specs.History.{Filling, Located, source, repair, symbolsAt, Satisfied}
 use Rattle.history.specs.Model.{equations, packetOf}
+use Rattle.decoder.specs.Receiver as decoder
+use Rattle.decoder.specs.Packets as packets
 
 -- ---- A symbol and its bytes
 

@@ -1,11 +1,6 @@
 -- Where the ESI of the position base + d lies.
-use mathlib.Core.Path.{_≡_, refl, sym, ap, subst}
-use mathlib.Core.Bool.{Bool, true, false, cond}
-use mathlib.Core.Option.{some}
-use Prim.Native.Nat.{ℕ, _+_, _%_, _^_, _≤_, _<_}
-use native.Mathlib.Omega.{arith}
-use lib.Dec.{ltb}
-use borrow.Author.Tests.{lt-ltb, le-ltb, le-leb, lt-leb, ltb-true}
+use Rattle.words.specs.Words.{_≡_, arith, ℕ, _≤_, _+_, _<_, refl, sym, ap, some, _%_, true, false, Bool, subst, _^_, cond, ltb, le-leb, lt-leb, lt-ltb, le-ltb}
+use Rattle.words.specs.Words.{ltb-true}
 use Rattle.wire.specs.declared.Setting.{Setting}
 use Rattle.wire.specs.Numbers.{distanceOf}
 use Rattle.decoder.specs.Model.{known}

@@ -1,21 +1,23 @@
 -- The model's marks are the history's starts.
-use mathlib.Core.Path.{_≡_, refl, sym, ap, _∙_, subst}
-use mathlib.Core.Logic.{_↔_, _⊎_, inl, inr}
-use mathlib.Core.Bool.{true, true≢false}
-use mathlib.Core.Option.{Option, none, some, Option·none-ne-some, Option·some-injective}
-use mathlib.Core.List.{List, [], _∷_}
-use Prim.Native.Nat.{ℕ, suc, _+_, _-_, _≤_, _<_}
-use native.Mathlib.Nat.{add-assoc, add-suc}
-use native.Mathlib.Decide.{decLt}
-use native.Mathlib.Omega.{arith}
-use lib.ListN.{length}
+-- Index
+--   Sees: what is seen from the base on is what is known there, with the bytes of every filling
+--   shown-value, shown-whole, unseen, shows-held, held-shows
+--   shows-inside: all symbols that are shown lie in the window
+--   seen-outside: nothing is known past the window
+--   start-spanned
+--   AreStarts: the marks M are the starts after the packets qs
+--   starts-after
+--   MarksTrack: the marks follow the history
+--   fresh-marks
+--   tracks-sees: a window that says what the packets say sees what is known
+--   marking-tracks: the marks after a call, whose packet begins at e, follow the history after it
+use Rattle.words.specs.Words.{_≡_, arith, ℕ, _≤_, _+_, List, length, _<_, refl, _∙_, sym, ap, _-_, [], some, _∷_, suc, true, none, subst, Option, _↔_}
+use Rattle.words.specs.Words.{Option·some-injective, Option·none-ne-some, decLt, _⊎_, inr, true≢false, inl, add-suc, add-assoc}
 use Rattle.wire.specs.declared.Setting.{Setting}
 use Rattle.memory.specs.Number.{Bytes}
 use Rattle.memory.proofs.Parts.{cons-eq}
 use Rattle.decoder.specs.Bytes.{Coded}
-use Rattle.decoder.specs.Model as model
 use Rattle.decoder.specs.Model.{known}
-use Rattle.decoder.specs.Receiver as decoder
 use Rattle.starts.specs.Adu.{View, needs}
 use Rattle.starts.specs.Starts.{Starts, nowhere, also, moved, pass, shown, seen}
 use Rattle.starts.proofs.Tests.{also-true, moved-true}
@@ -24,11 +26,13 @@ use Rattle.starts.proofs.Chaining.{pass-reaches}
 use Rattle.starts.proofs.Unseen.{known-past}
 use Rattle.starts.proofs.Handing.{Shows}
 use Rattle.history.specs.Symbol.{Symbol, bytesOf, symbolOf}
-use Rattle.history.specs.History.{Filling, symbolsAt, Located, source, repair, first, named, All, Consistent, Known, Reading, fails, located}
-use Rattle.history.specs.History.{baseFor, Log, fresh, raised, baseOf, logged, Spanned, MarkedBy, Reached, already, later, Start}
+use Rattle.history.specs.History.{Filling, symbolsAt, Located, source, repair, first, named, All, Consistent, Known, Reading, fails, located, baseFor}
+use Rattle.history.specs.History.{Log, fresh, raised, baseOf, logged, Spanned, MarkedBy, Reached, already, later, Start}
 use Rattle.history.specs.Model.{Joined, State, foundBy, Outcome, refused, done, saidOf, stateAfter, responds, naming, startsAfter, marking}
 use Rattle.history.proofs.Says.{Whole, symbol-bytes, bytes-whole, head, rest}
 use Rattle.history.proofs.Answers.{Tracks, TracksFrom, Passes, known-exactly, known-value, tracks-consistent, judged}
+use Rattle.decoder.specs.Model as model
+use Rattle.decoder.specs.Receiver as decoder
 
 -- What is seen from the base on is what is known there, with the bytes of every filling.
 pub record Sees (E : ℕ) (qs : List Located) (base : ℕ) (see : View) : Type 0 where
@@ -103,7 +107,8 @@ module _ (s : Setting) where
 
   -- A packet q that fits is accepted after the packets qs, and the base rises from b to b′.
   module _ (some-bytes : 0 < E) (q : Located) (qs : List Located) (b b′ : ℕ) (eb : b ≡ baseFor (baseOf s qs) (first q))
-      (eb′ : b′ ≡ raised s (baseOf s qs) q) (ahead : b ≤ first q) (short : named q ≤ width) (M : Starts) (starts : AreStarts qs b M) (see : View) (sees : Sees E (q ∷ qs) b′ see) where
+      (eb′ : b′ ≡ raised s (baseOf s qs) q) (ahead : b ≤ first q) (short : named q ≤ width) (M : Starts) (starts : AreStarts qs b M) (see : View)
+      (sees : Sees E (q ∷ qs) b′ see) where
     abbrev A : ℕ → Type 0
     A x = Start s qs x ⊎ MarkedBy s q x
 

@@ -1,13 +1,7 @@
 -- The receiver as a plain history (document 01, "Receiver, as a plain history", and document 02, No. 2): what a packet says where it lies, which
 -- packets a list of calls has accepted, where that has brought the base, and what the next call has to answer. No memory and no elimination stands here.
-use mathlib.Core.Path.{_≡_}
-use mathlib.Core.Logic.{_↔_, _⊎_}
-use mathlib.Core.Bool.{Bool, true, false, cond, _&&_}
-use mathlib.Core.Option.{Option, none, some}
-use mathlib.Core.List.{List, [], _∷_, map}
-use Prim.Native.Nat.{ℕ, zero, suc, _+_, _-_, _*_, _%_, _^_, _≤_, _<_, max}
-use lib.ListN.{length}
-use lib.Dec.{ltb, leb}
+use Rattle.words.specs.Words.{_≡_, ℕ, _≤_, _+_, List, length, _<_, _-_, [], some, _%_, _∷_, suc, true, zero, none, _*_, false, Bool, Option, _^_, cond, ltb}
+use Rattle.words.specs.Words.{leb, _↔_, _&&_, map, _⊎_, max}
 use Rattle.memory.specs.Number.{Bytes}
 use Rattle.wire.specs.declared.Setting.{Setting}
 use Rattle.wire.specs.Numbers.{within, distanceOf}

@@ -1,21 +1,16 @@
 -- The receiver that computes: the window's equations in reduced row echelon form (crate `decoder`) in place of the whole history.
 -- The promises give answers and states by it. That these are the history's is proved (proofs/Answers): a reader of the claims need not believe it.
-use mathlib.Core.Bool.{cond}
-use mathlib.Core.Option.{Option, none, some}
-use mathlib.Core.List.{List, [], _∷_}
-use Prim.Native.Nat.{ℕ, _+_, _-_}
-use lib.ListN.{length, getD}
-use lib.Dec.{ltb}
+use Rattle.words.specs.Words.{ℕ, _+_, List, length, _-_, [], some, _∷_, none, getD, Option, cond, ltb}
 use Rattle.wire.specs.declared.Setting.{Setting}
 use Rattle.decoder.specs.Bytes.{byte, Coded}
 use Rattle.decoder.specs.Model.{known}
-use Rattle.decoder.specs.Receiver as decoder
-use Rattle.decoder.specs.Packets as packets
 use Rattle.starts.specs.Adu.{Handing, withholds, need, handing}
 use Rattle.starts.specs.Starts.{Starts, also, moved, pass, seen}
 use Rattle.history.specs.Symbol.{Symbol, symbolOf}
 use Rattle.wire.specs.Answers.{Said, value, refusal}
 use Rattle.history.specs.History.{Located, source, repair, Side, behind, ahead, sideOf, Call, esiOf, Reading, fails, located, reading}
+use Rattle.decoder.specs.Receiver as decoder
+use Rattle.decoder.specs.Packets as packets
 
 module _ (E : ℕ) where
   -- A repair packet's equations.

@@ -1,6 +1,5 @@
 -- Symbols of E bytes.
-use Prim.Native.Nat.{ℕ}
-use mathlib.Core.List.{List}
+use Rattle.words.specs.Words.{ℕ, List}
 use Rattle.decoder.specs.Bytes.{Byte}
 use Rattle.decoder.specs.Symbols.{Tuple}
 use Rattle.decoder.specs.Stretch.{symbol-at, bytes-of}

@@ -1,18 +1,11 @@
 -- A memory that holds a given state: rows spelled byte by byte.
 -- Laws:
 --   a memory for every state: Built, built; the rest lays its rows and header
-use mathlib.Core.Path.{_≡_, refl, sym, ap, ap₂, _∙_, subst}
-use mathlib.Core.Logic.{_≢_, _↔_}
-use mathlib.Core.Bool.{Bool, true, false, true≢false}
-use mathlib.Core.Option.{some}
-use mathlib.Core.List.{List, [], _∷_, _++_, append-assoc}
-use Prim.Native.Nat.{ℕ, zero, suc, _+_, _-_, _*_, _%_, _^_, _<_}
-use native.Mathlib.Nat.{mod-lt, mod-eq-of-lt, add-zero, add-suc, suc-add, zero-add, mod-add-mod, mod-eq-sub-mod}
-use native.Mathlib.Decide.{ℕ-discrete}
-use native.Mathlib.Omega.{arith}
-use lib.Dec.{ltb, lit<}
-use lib.ListN.{length, getD, length-append, drop, List·getD-append}
-use lib.Seq.{take-at, drop-at, drop-drop, getD-append-add}
+use Rattle.words.specs.Words.{_≡_, arith, ℕ, _+_, List, length, _<_, refl, _∙_, sym, ap, _-_, [], some, _%_, _∷_, suc, true, zero, _*_, getD, false, _++_, Bool}
+use Rattle.words.specs.Words.{subst, drop, _≢_, _^_, ap₂, ltb, mod-lt, _↔_, ℕ-discrete, add-zero, length-append, mod-eq-of-lt, mod-add-mod, zero-add}
+use Rattle.words.specs.Words.{true≢false, append-assoc, lit<, add-suc, List·getD-append, suc-add, drop-drop, take-at}
+use native.Mathlib.Nat.{mod-eq-sub-mod}
+use lib.Seq.{drop-at, getD-append-add}
 use Rattle.memory.specs.Part.{part, splice}
 use Rattle.memory.specs.Number.{number, bytes}
 use Rattle.memory.proofs.Parts.{part-drop}
@@ -27,13 +20,11 @@ use Rattle.wire.proofs.Adui.{getD-chunks}
 use Rattle.wire.proofs.Reading.{length-joined}
 use Rattle.decoder.specs.Bytes.{byte, bytes as byte-ops, Coded}
 use Rattle.decoder.specs.Symbols.{nulls}
-use Rattle.decoder.specs.Model as model
 use Rattle.decoder.specs.Model.{Row, end, free, pivot, Rref}
 use Rattle.decoder.specs.Stretch.{symbol-at}
 use Rattle.decoder.specs.Table.{Line, Table, read, slot, view, Echelon}
 use Rattle.decoder.proofs.Bytes.{byte-of}
 use Rattle.table.specs.Window.{headerSize, stride}
-use Rattle.table.specs.Window as window
 use Rattle.history.specs.Symbol.{Symbol, bytesOf}
 use Rattle.history.specs.History.{memorySize}
 use Rattle.history.specs.Model.{Joined}
@@ -41,6 +32,8 @@ use Rattle.holding.specs.Header.{rowIn, headerIn}
 use Rattle.holding.specs.Layout.{headerFrom, Holds}
 use Rattle.holding.proofs.Headers.{found-joined}
 use Rattle.history.proofs.Says.{symbol-tail, bytes-sized}
+use Rattle.decoder.specs.Model as model
+use Rattle.table.specs.Window as window
 
 -- ---- A system, coefficient by coefficient
 

@@ -2,34 +2,26 @@
 -- Laws:
 --   states: SameFrom, Same, holds-same, held-same, found-same
 --   calls: Alike, answering-alike
---   marks: marking-alike, same-after
-use mathlib.Core.Path.{_≡_, refl, sym, ap, ap₂, _∙_, subst}
-use mathlib.Core.Bool.{Bool, true, false, true≢false}
-use mathlib.Core.Option.{Option, none, some, Option·some-injective}
-use mathlib.Core.List.{List, map}
-use Prim.Native.Nat.{ℕ, zero, suc, _+_, _-_, _%_, _^_, _≤_, _<_}
-use native.Mathlib.Nat.{mod-add-mod}
-use native.Mathlib.Omega.{arith}
-use lib.Dec.{leb}
-use lib.ListN.{length, getD}
+--   marks: marking-alike
+use Rattle.words.specs.Words.{_≡_, arith, ℕ, _≤_, _+_, List, length, _<_, refl, _∙_, sym, ap, _-_, some, _%_, suc, true, zero, none, getD, false, Bool, subst}
+use Rattle.words.specs.Words.{Option, _^_, ap₂, leb, Option·some-injective, map, mod-add-mod, true≢false}
 use Rattle.wire.specs.declared.Setting.{Setting}
-use Rattle.wire.specs.Packets.{sourceSymbols, sourceAdu, sourceEsi, protectedCount}
-use Rattle.wire.specs.Packets.{firstEsi, repairSymbols}
+use Rattle.wire.specs.Packets.{sourceSymbols, sourceAdu, sourceEsi, protectedCount, firstEsi, repairSymbols}
 use Rattle.decoder.specs.Bytes.{Byte, byte, Coded}
-use Rattle.decoder.specs.Model as model
 use Rattle.decoder.specs.Model.{Row, Rref, known}
-use Rattle.decoder.specs.Receiver as decoder
-use Rattle.decoder.specs.Packets as packets
 use Rattle.decoder.specs.Table.{read, slot, view, Echelon}
-use Rattle.table.specs.Window as window
 use Rattle.history.proofs.Sides.{side-same}
 use Rattle.holding.specs.declared.Header.{Header}
-use Rattle.history.specs.History.{source, repair, Side, behind, ahead, sideOf, Call, source-call, repair-call, Reading, fails, farthest}
-use Rattle.history.specs.History.{located, check, fromSide, readSource, readRepair, reading}
+use Rattle.history.specs.History.{source, repair, Side, behind, ahead, sideOf, Call, source-call, repair-call, Reading, fails, farthest, located, check}
+use Rattle.history.specs.History.{fromSide, readSource, readRepair, reading}
 use Rattle.starts.specs.Starts.{Starts, also, moved, seen}
 use Rattle.starts.proofs.Agreeing.{Agree, also-agree, moved-agree, pass-agree}
-use Rattle.history.specs.Model.{Joined, State, foundBy, Outcome, refused, done, added, responds, answering, stateAfter, startsAfter, marking}
+use Rattle.history.specs.Model.{Joined, State, foundBy, Outcome, refused, done, added, responds, answering, startsAfter, marking}
 use Rattle.holding.specs.Layout.{headerFrom, Holds}
+use Rattle.decoder.specs.Model as model
+use Rattle.decoder.specs.Receiver as decoder
+use Rattle.decoder.specs.Packets as packets
+use Rattle.table.specs.Window as window
 
 -- ---- Memory
 

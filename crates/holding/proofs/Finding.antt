@@ -1,13 +1,6 @@
 -- From what the code reads in the memory to what is found in it.
-use mathlib.Core.Path.{_≡_, refl, sym, ap, _∙_, subst}
-use mathlib.Core.Bool.{Bool, true, false}
-use mathlib.Core.Option.{Option, none, some, Option·none-ne-some, Option·some-injective}
-use mathlib.Core.List.{List}
-use Prim.Native.Nat.{ℕ, _+_, _%_, _^_, _≤_}
-use native.Mathlib.Nat.{mod-add-mod}
-use native.Mathlib.Omega.{arith}
-use lib.ListN.{length}
-use borrow.Author.Tests.{lt-ltb}
+use Rattle.words.specs.Words.{_≡_, arith, ℕ, _≤_, _+_, List, length, refl, _∙_, sym, ap, some, _%_, true, none, false, Bool, subst, Option, _^_}
+use Rattle.words.specs.Words.{Option·some-injective, Option·none-ne-some, lt-ltb, mod-add-mod}
 use Rattle.memory.specs.Part.{part}
 use Rattle.memory.specs.Number.{Bytes}
 use Rattle.wire.specs.declared.Setting.{Setting}
@@ -15,7 +8,6 @@ use Rattle.wire.specs.declared.Refusal.{Refusal}
 use Rattle.wire.specs.declared.Refusal.the-variants.{Unknown}
 use Rattle.decoder.specs.Model.{known}
 use Rattle.table.specs.declared.Shape.{Shape}
-use Rattle.table.specs.Window as window
 use Rattle.table.specs.RowSteps.{RowOf}
 use Rattle.table.proofs.Offsets.{flags-fit, row-end}
 use Rattle.placing.specs.Place.{KnownAt}
@@ -29,6 +21,7 @@ use Rattle.holding.specs.Header.{headerIn}
 use Rattle.holding.specs.Inner.{SpottedFor, Spotted}
 use Rattle.holding.proofs.Headers.{header-fits, of-joined}
 use Rattle.holding.proofs.Standing.{InWindow, Stood, Hidden, side-held}
+use Rattle.table.specs.Window as window
 
 -- ---- What is found
 

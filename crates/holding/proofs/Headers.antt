@@ -4,17 +4,10 @@
 --   reading: area, working-area, numbers, found, found-joined, none-short, none-row, none-setting, Headed, headed, header-room, setting-fits, header-fits
 --   a held state: header-held, setting-of, setting-held, of-header, of-joined
 --   refusal 3: zeros-unopened, other-unopened, short-unopened
-use mathlib.Core.Path.{_≡_, refl, sym, ap, _∙_, subst}
-use mathlib.Core.Bool.{Bool, true, false, cond, _&&_, true≢false}
-use mathlib.Core.Option.{Option, none, some, Option·none-ne-some, Option·some-injective}
-use mathlib.Core.List.{List}
-use Prim.Native.Nat.{ℕ, _+_, _-_, _*_, _%_, _^_, _≤_, _<_}
-use native.Mathlib.Nat.{mul-le-mul}
-use native.Mathlib.Omega.{arith}
-use lib.Dec.{leb, ltb}
-use lib.ListN.{length, take, length-take}
+use Rattle.words.specs.Words.{_≡_, arith, ℕ, _≤_, _+_, List, length, _<_, refl, _∙_, sym, ap, _-_, some, _%_, true, none, _*_, false, Bool, subst, Option, _^_}
+use Rattle.words.specs.Words.{take, cond, ltb, leb, le-leb, _&&_, Option·some-injective, Option·none-ne-some, lt-leb, lt-ltb, true≢false, leb-true, length-take}
+use Rattle.words.specs.Words.{mul-le-mul}
 use lib.Seq.{take-take}
-use borrow.Author.Tests.{leb-true, le-leb, lt-leb, lt-ltb}
 use Rattle.memory.specs.Part.{part}
 use Rattle.memory.specs.Number.{number}
 use Rattle.wire.specs.declared.Setting.{Setting}

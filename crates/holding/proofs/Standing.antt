@@ -4,16 +4,8 @@
 --   stand by the tests: stands-unopened, stands-fresh, stands-behind, stands-past, stands-inside
 --   in the window: InWindow, Stood, stood, Looks, looks
 --   outside it: Hidden, side-held, hidden
-use mathlib.Core.Path.{_≡_, refl, sym, ap, _∙_, subst}
-use mathlib.Core.Logic.{_≢_}
-use mathlib.Core.Bool.{Bool, true, false, cond, true≢false}
-use mathlib.Core.Option.{Option, none, some, Option·none-ne-some}
-use mathlib.Core.List.{List}
-use Prim.Native.Nat.{ℕ, _%_, _^_, _≤_, _<_}
-use native.Mathlib.Nat.{mod-eq-of-lt}
-use native.Mathlib.Omega.{arith}
-use lib.Dec.{ltb}
-use borrow.Author.Tests.{lt-ltb, le-ltb, ltb-true, ltb-false}
+use Rattle.words.specs.Words.{_≡_, arith, ℕ, _≤_, List, _<_, refl, _∙_, sym, ap, some, _%_, true, none, false, Bool, subst, Option, _≢_, _^_, cond, ltb}
+use Rattle.words.specs.Words.{Option·none-ne-some, lt-ltb, mod-eq-of-lt, true≢false, le-ltb, ltb-true, ltb-false}
 use Rattle.wire.specs.declared.Setting.{Setting}
 use Rattle.wire.specs.declared.Refusal.{Refusal}
 use Rattle.wire.specs.declared.Refusal.the-variants.{Unopened, Behind, Unknown}
@@ -26,14 +18,14 @@ use Rattle.history.specs.History.{Side, behind, ahead, halfway, sideOf}
 use Rattle.history.specs.Model.{Joined, State, hides, finding, aduAt}
 use Rattle.history.proofs.Sides.{side-same}
 use Rattle.holding.specs.declared.Header.{Header}
-use Rattle.holding.specs.declared.Side as code
-use Rattle.holding.specs.declared.Side.the-variants as sides
 use Rattle.holding.specs.declared.Stand.{Stand}
 use Rattle.holding.specs.declared.Stand.the-variants.{Inside, Outside}
 use Rattle.holding.specs.Header.{headerIn}
 use Rattle.holding.specs.Layout.{Holds}
 use Rattle.holding.specs.Inner.{shapeOf, sideFound, standOn, standOf}
 use Rattle.holding.proofs.Headers.{headed, header-fits, of-header, of-joined}
+use Rattle.holding.specs.declared.Side as code
+use Rattle.holding.specs.declared.Side.the-variants as sides
 
 -- ---- The side, in the code's words
 

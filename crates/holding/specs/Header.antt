@@ -1,10 +1,5 @@
 -- The header at the front of a receiver's memory, and the test that refusal 3 stands for.
-use mathlib.Core.Bool.{cond, _&&_}
-use mathlib.Core.Option.{Option, none, some}
-use mathlib.Core.List.{List}
-use Prim.Native.Nat.{ℕ, _-_}
-use lib.ListN.{length}
-use lib.Dec.{leb, ltb}
+use Rattle.words.specs.Words.{ℕ, List, length, _-_, some, none, Option, cond, ltb, leb, _&&_}
 use Rattle.memory.specs.Part.{part}
 use Rattle.memory.specs.Number.{number}
 use Rattle.wire.specs.declared.Setting.{Setting}

@@ -1,15 +1,7 @@
 -- Contracts of inner functions: a reader need not believe these.
-use mathlib.Core.Path.{_≡_}
-use mathlib.Core.Logic.{_≢_}
-use mathlib.Core.Bool.{cond}
-use mathlib.Core.Option.{Option, none, some}
-use mathlib.Core.List.{List}
-use Prim.Native.Nat.{ℕ, _+_, _-_, _≤_}
-use lib.ListN.{length}
-use lib.Dec.{ltb}
+use Rattle.words.specs.Words.{_≡_, ℕ, _≤_, _+_, List, length, _-_, some, none, Option, _≢_, cond, ltb}
 use Rattle.memory.specs.Part.{part, splice}
 use Rattle.wire.specs.declared.Setting.{Setting}
-use Rattle.wire.specs.declared.Refusal.the-variants as refusals
 use Rattle.wire.specs.Numbers.{numberOf}
 use Rattle.wire.specs.Packets.{zeros}
 use Rattle.wire.specs.Settings.{settingBytes}
@@ -23,12 +15,13 @@ use Rattle.holding.specs.declared.Stand.{Stand}
 use Rattle.holding.specs.declared.Stand.the-variants.{Inside, Outside}
 use Rattle.holding.specs.declared.Spot.{Spot}
 use Rattle.holding.specs.declared.Spot.the-variants.{At, Nowhere}
-use Rattle.history.specs.History as history
 use Rattle.history.specs.History.{memorySize}
 use Rattle.history.specs.Symbol.{Symbol, bytesOf}
 use Rattle.history.specs.Model.{State, shows, hides, finding}
 use Rattle.holding.specs.Header.{headerIn}
 use Rattle.holding.specs.Layout.{Holds, symbolStart}
+use Rattle.wire.specs.declared.Refusal.the-variants as refusals
+use Rattle.history.specs.History as history
 
 abbrev pub foundOf : Option Header → Found
 foundOf none = NoHeader

@@ -1,21 +1,17 @@
 -- How the receiver's memory holds a state: a header of 64 bytes, then the window's rows (crate `table`).
 -- The claims hold of every layout: a reader of them need not believe this one.
-use mathlib.Core.Path.{_≡_}
-use mathlib.Core.Bool.{true, false}
-use mathlib.Core.Option.{none, some}
-use mathlib.Core.List.{List}
-use Prim.Native.Nat.{ℕ, _+_, _%_, _^_}
+use Rattle.words.specs.Words.{_≡_, ℕ, _+_, List, some, _%_, true, none, false, _^_}
 use Rattle.wire.specs.declared.Setting.{Setting}
 use Rattle.decoder.specs.Bytes.{Coded}
 use Rattle.decoder.specs.Model.{Rref}
-use Rattle.decoder.specs.Receiver as decoder
-use Rattle.table.specs.Window as window
 use Rattle.starts.specs.Starts.{Starts, seen}
-use Rattle.marks.specs.Marks as marks
 use Rattle.starts.specs.Settled.{Settled}
 use Rattle.holding.specs.declared.Header.{Header}
 use Rattle.history.specs.Model.{Joined, State}
 use Rattle.holding.specs.Header.{headerIn}
+use Rattle.decoder.specs.Receiver as decoder
+use Rattle.table.specs.Window as window
+use Rattle.marks.specs.Marks as marks
 
 -- The header of a receiver that has a base: row and ESI of a position are its remainders by the width and by 2^32; and of any.
 abbrev pub headerFrom : (s : Setting) → Joined s → Header

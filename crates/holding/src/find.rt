@@ -1,8 +1,8 @@
 // Where the position and the symbol with an ESI stand.
+ghost use Rattle.words.specs.Words.{_≡_};
 ghost use Rattle.history.specs.History.{sideOf};
 ghost use Rattle.holding.specs.Header.{headerIn};
 ghost use Rattle.holding.specs.Inner.{sideFound, standOf, Spotted};
-ghost use mathlib.Core.Path.{_≡_};
 use super::Found;
 use super::Side;
 use super::Spot;

@@ -1,7 +1,5 @@
 // The header at the front of a receiver's memory.
-ghost use mathlib.Core.Path.{_≡_};
-ghost use Prim.Native.Nat.{_≤_};
-ghost use lib.ListN.{length};
+ghost use Rattle.words.specs.Words.{_≡_, _≤_, length};
 ghost use Rattle.wire.specs.Settings.{Valid};
 ghost use Rattle.history.specs.History.{memorySize, workingSize};
 ghost use Rattle.holding.specs.Header.{headerIn};

@@ -3,7 +3,7 @@
 pub mod find;
 pub mod front;
 
-ghost use mathlib.Core.Path.{_≡_};
+ghost use Rattle.words.specs.Words.{_≡_};
 ghost use Rattle.holding.specs.Inner.{shapeOf};
 use table::Shape;
 use wire::Esi;

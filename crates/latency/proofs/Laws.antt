@@ -1,11 +1,7 @@
 -- The definition's answer is that of the division.
-use mathlib.Core.Path.{_≡_, refl, sym, _∙_}
-use mathlib.Core.Bool.{Bool, true, false, true≢false}
-use mathlib.Core.Logic.{_↔_}
-use Prim.Native.Nat.{ℕ, _*_, _/_, _%_, _≤_, _<_}
-use native.Mathlib.Nat.{mul-le-mul, mul-le-mul-left, mul-add-div-right, mul-add-mod-self-right, add-zero}
-use native.Mathlib.Nat.{mod-lt, mod-eq-of-lt, div-add-mod', div-eq-of-lt, le-div-iff-mul-le}
-use native.Mathlib.Omega.{arith}
+use Rattle.words.specs.Words.{_≡_, arith, ℕ, _≤_, _<_, refl, _∙_, sym, _%_, true, _*_, false, Bool, mod-lt, _/_, _↔_, add-zero, mod-eq-of-lt, true≢false}
+use Rattle.words.specs.Words.{mul-le-mul}
+use native.Mathlib.Nat.{mul-le-mul-left, mul-add-div-right, mul-add-mod-self-right, div-add-mod', div-eq-of-lt, le-div-iff-mul-le}
 use Rattle.wire.specs.Numbers.{within}
 use Rattle.wire.proofs.Settings.{both, within-bounds}
 use Rattle.wire.specs.declared.Refusal.the-variants.{Values}

@@ -1,7 +1,6 @@
 -- Computed from the definition: the example of document 02; quotients from 0 to the largest, with remainders up to one less than the divisor; and each
 -- value just outside its limits.
-use mathlib.Core.Path.{_≡_, refl}
-use mathlib.Core.List.{[], _∷_}
+use Rattle.words.specs.Words.{_≡_, refl, [], _∷_}
 use Rattle.wire.specs.declared.Refusal.the-variants.{Values}
 use Rattle.latency.specs.declared.WindowAnswer.the-variants.{Divided, NotDivided}
 use Rattle.latency.specs.Window.{windowOf}

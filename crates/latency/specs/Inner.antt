@@ -1,5 +1,5 @@
 -- The contract of an inner function; it need not be believed.
-use Prim.Native.Nat.{ℕ, _≤_}
+use Rattle.words.specs.Words.{ℕ, _≤_}
 use Rattle.latency.specs.Window.{dividend}
 
 -- what the division asks: a product of at most 64 bits, and E within its limits

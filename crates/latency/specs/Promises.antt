@@ -1,8 +1,5 @@
 -- What the call promises: its answer outright, and that this is the answer of the division.
-use mathlib.Core.Path.{_≡_}
-use mathlib.Core.Bool.{true}
-use mathlib.Core.Logic.{_↔_}
-use Prim.Native.Nat.{ℕ, _+_, _*_, _≤_, _<_}
+use Rattle.words.specs.Words.{_≡_, ℕ, _≤_, _+_, _<_, true, _*_, _↔_}
 use Rattle.latency.specs.declared.WindowAnswer.{WindowAnswer}
 use Rattle.latency.specs.declared.WindowAnswer.the-variants.{Divided}
 use Rattle.latency.specs.Window.{dividend, divisor, allowed, windowOf}

@@ -1,7 +1,6 @@
 -- The largest size of the decoding window (RFC 8681, appendix C.1): dw_max_size = (max_lat * br_in) / (8 * E), with the latency budget max_lat in seconds and
 -- the input bitrate br_in in bits per second. Here the budget is in microseconds (document 02, No. 3), so dividend and divisor are in millionths of a bit.
-use mathlib.Core.Bool.{Bool, cond, _&&_}
-use Prim.Native.Nat.{ℕ, _*_, _/_, _%_}
+use Rattle.words.specs.Words.{ℕ, _%_, _*_, Bool, cond, _/_, _&&_}
 use Rattle.wire.specs.Numbers.{within}
 use Rattle.wire.specs.declared.Refusal.the-variants.{Values}
 use Rattle.latency.specs.declared.WindowAnswer.{WindowAnswer}

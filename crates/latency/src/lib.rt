@@ -1,6 +1,5 @@
 // The largest decoding window that a latency budget allows: dw_max_size of RFC 8681, appendix C.1 (document 02, No. 3).
-ghost use mathlib.Core.Path.{_≡_};
-ghost use Prim.Native.Nat.{_/_, _%_};
+ghost use Rattle.words.specs.Words.{_≡_, _%_, _/_};
 ghost use Rattle.latency.specs.Window.{dividend, divisor, allowed};
 ghost use Rattle.latency.specs.Inner.{Bounds};
 ghost use Rattle.latency.specs.Promises.{WindowAnswered};

@@ -1,9 +1,5 @@
 -- What the answers of the functions that read say of what was to be read.
-use mathlib.Core.Path.{_≡_, sym, ap, _∙_}
-use mathlib.Core.List.{List}
-use mathlib.Core.Option.{Option, none, some}
-use Prim.Native.Nat.{ℕ, _≤_}
-use lib.ListN.{length, take, drop}
+use Rattle.words.specs.Words.{_≡_, ℕ, _≤_, List, length, _∙_, sym, ap, some, none, Option, drop, take}
 use Rattle.lines.specs.declared.Number.{Number}
 use Rattle.lines.specs.declared.Number.the-variants.{Is, NoNumber}
 use Rattle.lines.specs.declared.Packet.{Packet}

@@ -1,14 +1,8 @@
 -- Laws of an input's lines: where they end, and where they go on.
-use mathlib.Core.Path.{_≡_, refl, ap, _∙_}
-use mathlib.Core.Bool.{Bool, true, false, _||_}
-use mathlib.Core.List.{List, [], _∷_, _++_, append-assoc, append-nil}
-use Prim.Native.Nat.{ℕ, suc, suc-le-suc, zero-le, _+_, _-_, _≤_}
-use native.Mathlib.Omega.{arith}
-use lib.Dec.{eqb, ltb}
-use lib.ListN.{getD, take, drop, length-take}
-use lib.Seq.{getD-take, getD-drop}
+use Rattle.words.specs.Words.{_≡_, arith, ℕ, _≤_, _+_, List, refl, _∙_, ap, _-_, [], _∷_, suc, true, getD, false, _++_, Bool, drop, take, ltb, eqb, ne-eqb}
+use Rattle.words.specs.Words.{append-assoc, append-nil, _||_, ltb-true, length-take, ltb-false, getD-drop, eqb-false, getD-take}
+use Prim.Native.Nat.{suc-le-suc, zero-le}
 use borrow.Author.Count.{below-more}
-use borrow.Author.Tests.{ne-eqb, eqb-false, ltb-true, ltb-false}
 use Rattle.lines.specs.Lines.{unended, linesFrom, linesOf}
 use Rattle.lines.specs.Inner.{NoEnd, Ends}
 use Rattle.lines.specs.Promises.{Unbroken, AllUnbroken, joined}

@@ -1,14 +1,7 @@
 -- Exactly the decimal numbers are read, up to the largest.
-use mathlib.Core.Path.{_≡_, refl, subst, _∙_}
-use mathlib.Core.Bool.{Bool, true, false}
-use mathlib.Core.List.{List, [], _∷_, _++_, append-assoc}
-use mathlib.Core.Option.{some, Option·none-ne-some, Option·some-injective}
-use mathlib.Core.Logic.{⊎-elim}
-use Prim.Native.Nat.{ℕ, zero, suc, _+_, _-_, _*_, _/_, _%_, _≤_, _<_}
+use Rattle.words.specs.Words.{_≡_, arith, ℕ, _≤_, _+_, List, _<_, refl, _∙_, _-_, [], some, _%_, _∷_, suc, true, zero, _*_, false, _++_, Bool, subst, leb, eqb}
+use Rattle.words.specs.Words.{_/_, le-leb, Option·some-injective, Option·none-ne-some, ne-eqb, append-assoc, leb-true, eqb-true, ⊎-elim, eqb-false}
 use native.Mathlib.Nat.{eq-zero-or-pos}
-use native.Mathlib.Omega.{arith}
-use lib.Dec.{eqb, leb}
-use borrow.Author.Tests.{le-leb, ne-eqb, leb-true, eqb-true, eqb-false}
 use Rattle.text.specs.Text.{decimal}
 use Rattle.text.proofs.Decimals.{decimal-small, decimal-more, decimal-step}
 use Rattle.wire.proofs.Settings.{within-true, within-bounds}

@@ -1,18 +1,23 @@
 -- Laws of hexadecimal digits: which bytes they are, the byte that two of them write, and the bytes that those from a place of a line on write.
-use mathlib.Core.Path.{_≡_, refl, ap, _∙_}
-use mathlib.Core.Bool.{Bool, cond, _&&_, true, false, and-assoc, and-true}
-use mathlib.Core.List.{List, [], _∷_, _++_, append-assoc, append-nil}
-use mathlib.Core.Logic.{⊎-elim}
-use mathlib.Core.Option.{Option, none, some}
-use Prim.Native.Nat.{ℕ, zero, suc, _+_, _-_, _*_, _/_, _%_, _≤_, _<_}
-use native.Mathlib.Nat.{add-zero, eq-or-lt-of-le, le-of-suc-le-suc}
-use native.Mathlib.Numerals.{add-one}
-use native.Mathlib.Omega.{arith}
-use lib.Bits.{bitAnd, bitXor, and-le-r}
-use lib.Dec.{eqb, ltb}
-use lib.ListN.{length, getD, take, drop, set, length-drop}
-use lib.Seq.{drop-cons, drop-length, getD-drop, take-suc-set}
-use borrow.Author.Tests.{lt-ltb, ltb-true, eqb-true}
+-- Index
+--   digits-named: 0 to 9 and A to F
+--   next-looked-at: a byte more is looked at
+--   all-looked-at: every byte was looked at
+--   Paired, paired
+--   odd-digits: an odd number of digits
+--   no-digits: a byte that is no digit
+--   Bytewise: the digits from `at` on, and what was read of them, its k bytes at the front of a packet
+--   nothing-read: nothing yet
+--   all-read: all of them
+--   next-digits: the next two
+--   more-read: a byte more
+use Rattle.words.specs.Words.{_≡_, arith, ℕ, _≤_, _+_, List, length, _<_, refl, _∙_, ap, _-_, [], some, _%_, _∷_, suc, true, zero, none, _*_, getD, false, _++_}
+use Rattle.words.specs.Words.{Bool, Option, drop, take, cond, ltb, eqb, _/_, _&&_, add-zero, add-one, bitXor, lt-ltb, le-of-suc-le-suc, append-assoc, set}
+use Rattle.words.specs.Words.{length-drop, eqb-true, append-nil, ltb-true, ⊎-elim, getD-drop, drop-cons, drop-length}
+use mathlib.Core.Bool.{and-assoc, and-true}
+use native.Mathlib.Nat.{eq-or-lt-of-le}
+use lib.Bits.{bitAnd, and-le-r}
+use lib.Seq.{take-suc-set}
 use Rattle.text.specs.Text.{digit}
 use Rattle.wire.specs.Numbers.{within}
 use Rattle.wire.proofs.Settings.{both, within-bounds}

@@ -1,12 +1,6 @@
 -- Exactly the bytes in hexadecimal are read.
-use mathlib.Core.Path.{_≡_, refl, subst}
-use mathlib.Core.Bool.{Bool, true, false, _&&_}
-use mathlib.Core.List.{List, [], _∷_, _++_}
-use mathlib.Core.Option.{Option, none, some, Option·none-ne-some, Option·some-injective}
-use Prim.Native.Nat.{ℕ, zero, suc, _+_, _-_, _*_, _/_, _%_, _≤_, _<_}
-use native.Mathlib.Omega.{arith}
-use lib.Dec.{ltb}
-use borrow.Author.Tests.{lt-ltb, le-ltb, ltb-true, ltb-false, le-leb, lt-leb}
+use Rattle.words.specs.Words.{_≡_, arith, ℕ, _≤_, _+_, List, _<_, refl, _-_, [], some, _%_, _∷_, suc, true, zero, none, _*_, false, _++_, Bool, subst, Option}
+use Rattle.words.specs.Words.{ltb, _/_, le-leb, _&&_, Option·some-injective, Option·none-ne-some, lt-leb, lt-ltb, le-ltb, ltb-true, ltb-false}
 use Rattle.memory.specs.Number.{Bytes}
 use Rattle.text.specs.Text.{digit, hexadecimal}
 use Rattle.wire.specs.Numbers.{within}

@@ -1,13 +1,7 @@
 -- Laws of a number that is read at a place of a line, a digit at a time.
-use mathlib.Core.Path.{_≡_}
-use mathlib.Core.Bool.{true, false}
-use mathlib.Core.List.{List}
-use mathlib.Core.Option.{none, some}
-use Prim.Native.Nat.{ℕ, _+_, _-_, _*_, _≤_, _<_}
-use native.Mathlib.Numerals.{add-one}
-use lib.ListN.{length, getD, drop, drop-of-length-le}
-use lib.Seq.{drop-cons, drop-length}
-use borrow.Author.Tests.{le-leb, lt-leb, ne-eqb}
+use Rattle.words.specs.Words.{_≡_, ℕ, _≤_, _+_, List, length, _<_, _-_, some, true, none, _*_, getD, false, drop, le-leb, add-one, lt-leb, ne-eqb, drop-cons}
+use Rattle.words.specs.Words.{drop-length}
+use lib.ListN.{drop-of-length-le}
 use Rattle.lines.specs.Reading.{isDigit, numberFrom, numberIn}
 
 module _ (line : List ℕ) (most i : ℕ) where

@@ -1,7 +1,5 @@
 -- Laws of what may be read or not.
-use mathlib.Core.Path.{_≡_, refl}
-use mathlib.Core.Bool.{Bool, true, false, cond}
-use mathlib.Core.Option.{Option, none, some, Option·none-ne-some}
+use Rattle.words.specs.Words.{_≡_, refl, some, true, none, false, Bool, Option, cond, Option·none-ne-some}
 use Rattle.lines.specs.Reading.{on}
 
 -- a test whose arms are the same

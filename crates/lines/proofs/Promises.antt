@@ -1,19 +1,11 @@
 -- What is promised of how lines are read (specs/Promises).
-use mathlib.Core.Path.{_≡_, refl, ap, subst, _∙_}
-use mathlib.Core.Logic.{_⊎_, inl, inr, ⊎-elim}
-use mathlib.Core.List.{List, [], _∷_, _++_, append-nil}
-use mathlib.Core.Option.{Option, none, some, Option·none-ne-some, Option·some-injective}
-use Prim.Native.Nat.{ℕ, _≤_}
-use native.Mathlib.Omega.{arith}
-use lib.Dec.{leb}
-use lib.ListN.{length}
-use borrow.Author.Tests.{le-leb, leb-true}
+use Rattle.words.specs.Words.{_≡_, arith, ℕ, _≤_, List, length, refl, _∙_, ap, [], some, _∷_, none, _++_, subst, Option, leb, le-leb, Option·some-injective}
+use Rattle.words.specs.Words.{Option·none-ne-some, _⊎_, inr, inl, leb-true, append-nil, ⊎-elim}
 use Rattle.text.specs.Text.{ascii, decimal, hexadecimal}
 use Rattle.memory.specs.Number.{Bytes}
 use Rattle.history.specs.History.{Call, source-call, repair-call, OfBytes}
 use Rattle.lines.specs.Forms.{Values, firstLine, packetLine, longest, Says}
-use Rattle.lines.specs.Reading.{or, after, Numbered, numberIn, bytesIn, whole, fieldIn, valuesIn}
-use Rattle.lines.specs.Reading.{packetIn, repairIn, mostFlow, sourceIn, callIn}
+use Rattle.lines.specs.Reading.{or, after, Numbered, numberIn, bytesIn, whole, fieldIn, valuesIn, packetIn, repairIn, mostFlow, sourceIn, callIn}
 use Rattle.lines.specs.Promises.{Small, Read-exactly}
 use Rattle.lines.proofs.Options.{cond-some, on-some}
 use Rattle.lines.proofs.Texts.{after-text, text-after}

@@ -1,16 +1,6 @@
 -- Laws of the text at a place of a line (`after`), a byte at a time.
-use mathlib.Core.Path.{_≡_, refl, ap}
-use mathlib.Core.Bool.{Bool, true, cond}
-use mathlib.Core.List.{List, [], _∷_, _++_}
-use mathlib.Core.Option.{none, some}
-use Prim.Native.Nat.{ℕ, _+_, _-_, _≤_, _<_}
-use native.Mathlib.Nat.{add-suc}
-use native.Mathlib.Numerals.{add-one}
-use native.Mathlib.Omega.{arith}
-use lib.Dec.{eqb}
-use lib.ListN.{length, getD, drop, length-drop, length-append}
-use lib.Seq.{drop-cons, drop-length}
-use borrow.Author.Tests.{eq-eqb, ne-eqb, eqb-true}
+use Rattle.words.specs.Words.{_≡_, arith, ℕ, _≤_, _+_, List, length, _<_, refl, ap, _-_, [], some, _∷_, true, none, getD, _++_, Bool, drop, cond, eqb, add-one}
+use Rattle.words.specs.Words.{length-append, ne-eqb, eq-eqb, length-drop, eqb-true, add-suc, drop-cons, drop-length}
 use Rattle.lines.specs.Reading.{after}
 use Rattle.lines.proofs.Options.{cond-same, cond-some}
 

@@ -1,8 +1,5 @@
 -- Computed from how lines are read: document 02's sample, and lines that have not the form.
-use mathlib.Core.Path.{_≡_, refl}
-use mathlib.Core.List.{[], _∷_, _++_, map}
-use mathlib.Core.Option.{none, some}
-use lib.ListN.{replicate}
+use Rattle.words.specs.Words.{_≡_, refl, [], some, _∷_, none, _++_, map, replicate}
 use Rattle.text.specs.Text.{ascii}
 use Rattle.history.specs.History.{source-call, repair-call}
 use Rattle.lines.specs.Lines.{linesFrom, linesOf}

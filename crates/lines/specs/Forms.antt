@@ -1,8 +1,5 @@
 -- The forms that lines have (document 02, No. 4): the first line of a capture, and packet lines.
-use mathlib.Core.List.{List, _++_}
-use Prim.Native.Nat.{ℕ, _≤_}
-use lib.ListN.{length}
-use mathlib.Core.Path.{_≡_}
+use Rattle.words.specs.Words.{_≡_, ℕ, _≤_, List, length, _++_}
 use Rattle.text.specs.Text.{ascii, hexadecimal, field}
 use Rattle.history.specs.History.{Call, source-call, repair-call, OfBytes}
 

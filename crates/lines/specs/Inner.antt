@@ -1,22 +1,16 @@
 -- Contracts of the functions that read lines, over how lines are read (Reading).
-use mathlib.Core.Path.{_≡_}
-use mathlib.Core.Bool.{Bool, true, _&&_}
-use mathlib.Core.List.{List, [], _∷_}
-use mathlib.Core.Option.{Option, none, some}
-use Prim.Native.Nat.{ℕ, _≤_, _<_}
-use lib.Dec.{ltb}
-use lib.ListN.{length, getD, take, drop}
+use Rattle.words.specs.Words.{_≡_, ℕ, _≤_, List, length, _<_, [], some, _∷_, true, none, getD, Bool, Option, drop, take, ltb, _&&_}
 use Rattle.history.specs.History.{Call, source-call, repair-call}
 use Rattle.lines.specs.declared.Number.{Number}
 use Rattle.lines.specs.declared.Number.the-variants.{Is, NoNumber}
 use Rattle.lines.specs.declared.Packet.{Packet}
 use Rattle.lines.specs.declared.Packet.the-variants.{Has, NoPacket}
-use Rattle.lines.specs.declared.First as declared
-use Rattle.lines.specs.declared.First.the-variants as first
 use Rattle.lines.specs.declared.Spoken.{Spoken}
 use Rattle.lines.specs.declared.Spoken.the-variants.{Source, Repair, Malformed}
 use Rattle.lines.specs.Forms.{Values}
 use Rattle.lines.specs.Reading.{Numbered, valueOf}
+use Rattle.lines.specs.declared.First as declared
+use Rattle.lines.specs.declared.First.the-variants as first
 
 -- no line of the input x ends within its first n bytes
 abbrev pub NoEnd : (x : List ℕ) (n : ℕ) → Type 0

@@ -1,8 +1,5 @@
 -- The lines of an input (document 02, No. 4): each ends at the byte 0A, or at the input's end if bytes follow the last 0A.
-use mathlib.Core.Bool.{cond}
-use mathlib.Core.List.{List, [], _∷_, _++_}
-use Prim.Native.Nat.{ℕ}
-use lib.Dec.{eqb}
+use Rattle.words.specs.Words.{ℕ, List, [], _∷_, _++_, cond, eqb}
 
 -- the line that the bytes p begin, at the input's end: none where there are no bytes
 abbrev pub unended : List ℕ → List (List ℕ)

@@ -1,10 +1,5 @@
 -- What is proved of how lines are read (proofs/Promises): exactly the lines of the forms are read, and as what they say.
-use mathlib.Core.Path.{_≡_}
-use mathlib.Core.Logic.{_↔_}
-use mathlib.Core.List.{List, [], _∷_, _++_}
-use mathlib.Core.Option.{some}
-use Prim.Native.Nat.{ℕ, _≤_, _<_}
-use lib.ListN.{length, getD}
+use Rattle.words.specs.Words.{_≡_, ℕ, _≤_, List, length, _<_, [], some, _∷_, getD, _++_, _↔_}
 use Rattle.history.specs.History.{Call}
 use Rattle.lines.specs.Lines.{unended, linesOf}
 use Rattle.lines.specs.Forms.{Values, firstLine, Says}

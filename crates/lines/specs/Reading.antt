@@ -1,10 +1,5 @@
 -- How lines are read. That exactly the lines of the forms are read, and as what they say, is proved (Promises): a reader need not believe this.
-use mathlib.Core.Bool.{Bool, cond, _&&_}
-use mathlib.Core.List.{List, [], _∷_, _++_}
-use mathlib.Core.Option.{Option, none, some}
-use Prim.Native.Nat.{ℕ, _+_, _-_, _*_}
-use lib.Dec.{eqb, leb, ltb}
-use lib.ListN.{length}
+use Rattle.words.specs.Words.{ℕ, _+_, List, length, _-_, [], some, _∷_, none, _*_, _++_, Bool, Option, cond, ltb, leb, eqb, _&&_}
 use Rattle.text.specs.Text.{ascii}
 use Rattle.wire.specs.Numbers.{within}
 use Rattle.history.specs.History.{Call, source-call, repair-call}

@@ -1,10 +1,5 @@
 // The lines of a capture (document 02, No. 4): where a line ends, and what a first line and a packet line say.
-ghost use mathlib.Core.Path.{_≡_};
-ghost use mathlib.Core.Bool.{false, cond};
-ghost use mathlib.Core.Option.{none, some};
-ghost use Prim.Native.Nat.{_+_, _*_, _≤_, _<_};
-ghost use lib.Dec.{ltb};
-ghost use lib.ListN.{length, drop};
+ghost use Rattle.words.specs.Words.{_≡_, _≤_, _+_, length, _<_, some, none, _*_, false, drop, cond, ltb};
 ghost use Rattle.lines.specs.Reading.{after, isDigit, numberFrom, numberIn, fieldIn, valueOf, bytesIn, packetIn, valuesIn, callIn};
 ghost use Rattle.lines.specs.Inner.{NoEnd, Ends, NumberRead, allDigits, BytesRead, valuesOf, CallRead};
 

@@ -1,14 +1,6 @@
 -- Any marks can be had: a memory that has them, and is as it was but for marks.
-use mathlib.Core.Path.{_≡_, refl, sym, ap, _∙_}
-use mathlib.Core.Logic.{_≢_}
-use mathlib.Core.Bool.{Bool, true, false, cond}
-use mathlib.Core.List.{List}
-use Prim.Native.Nat.{ℕ, zero, suc, _+_, _%_, _≤_, _<_}
-use native.Mathlib.Nat.{mod-lt}
-use native.Mathlib.Decide.{decLt, ℕ-discrete}
-use native.Mathlib.Omega.{arith}
-use lib.Dec.{ltb}
-use lib.ListN.{length, getD, set}
+use Rattle.words.specs.Words.{_≡_, arith, ℕ, _≤_, _+_, List, length, _<_, refl, _∙_, sym, ap, _%_, suc, true, zero, getD, false, Bool, _≢_, cond, ltb, mod-lt}
+use Rattle.words.specs.Words.{ℕ-discrete, decLt, set}
 use Rattle.table.specs.Window.{rowOffset}
 use Rattle.table.proofs.Offsets.{header-long}
 use Rattle.starts.specs.Starts.{Starts}

@@ -1,28 +1,20 @@
 -- Positions that have become known: how many of a packet's own, and that there are no others.
 -- Counting in memory: unseen-empty, one-outside, one-known, one-unknown, tallied-none, tallied-more, tallied-to.
 -- A packet that has no others: old-ones.
-use mathlib.Core.Path.{_≡_, refl, sym, ap, ap₂, _∙_, subst}
-use mathlib.Core.Logic.{_⊎_, inl, inr}
-use mathlib.Core.Bool.{Bool, true, false}
-use mathlib.Core.Option.{Option, none, some, Option·none-ne-some}
-use mathlib.Core.List.{List}
-use Prim.Native.Nat.{ℕ, zero, suc, _+_, _-_, _%_, _≤_, _<_}
-use native.Mathlib.Nat.{add-zero, add-suc, add-assoc, mod-add-mod}
-use native.Mathlib.Numerals.{add-one}
-use native.Mathlib.Decide.{decLt}
-use native.Mathlib.Omega.{arith}
+use Rattle.words.specs.Words.{_≡_, arith, ℕ, _≤_, _+_, List, _<_, refl, _∙_, sym, ap, _-_, some, _%_, suc, true, zero, none, false, Bool, subst, Option, ap₂}
+use Rattle.words.specs.Words.{Option·none-ne-some, add-zero, decLt, add-one, mod-add-mod, _⊎_, inr, inl, add-suc, add-assoc}
 use Rattle.decoder.specs.Field.{Ops, Laws}
 use Rattle.decoder.specs.Bytes.{Coded}
 use Rattle.decoder.specs.Model.{Row, State, end, free, pivot, Rref, known}
 use Rattle.decoder.specs.Receiver.{empty, advance-by, insert-all, is-new, count-new, newly}
 use Rattle.decoder.proofs.Bytes.{laws}
 use Rattle.decoder.proofs.Elimination.{solution, solution-sat, known-sound}
-use Rattle.decoder.proofs.History as history
 use Rattle.decoder.proofs.Counting.{count-more, known-grows}
 use Rattle.placing.specs.Place.{KnownAt}
 use Rattle.starts.specs.Starts.{shown, seen}
 use Rattle.starts.specs.Settled.{Old}
 use Rattle.marks.specs.MarkSteps.{oneIf, tally, OneKnown, Tallied}
+use Rattle.decoder.proofs.History as history
 
 -- ---- counting in memory
 

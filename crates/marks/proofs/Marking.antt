@@ -1,18 +1,10 @@
 -- Marks that are set, dropped and moved on.
 -- One mark: written, written-only, added. The first are dropped: dropped-none, dropped-more, dropped-to.
 -- The window moves on: moved-none, moved-far, moved-near.
-use mathlib.Core.Path.{_≡_, refl, sym, ap, _∙_, subst}
-use mathlib.Core.Logic.{_≢_}
-use mathlib.Core.Bool.{false, _&&_, _||_}
-use mathlib.Core.List.{List}
-use Prim.Native.Nat.{ℕ, _+_, _-_, _%_, _≤_, _<_}
-use native.Mathlib.Nat.{mod-lt, mod-eq-of-lt, mod-add-mod, add-mod-mod, add-mod-right, add-zero, add-assoc}
-use native.Mathlib.Decide.{decLt, ℕ-discrete}
-use native.Mathlib.Omega.{arith}
-use lib.ListN.{length, getD, set, length-set}
+use Rattle.words.specs.Words.{_≡_, arith, ℕ, _≤_, _+_, List, length, _<_, refl, _∙_, sym, ap, _-_, _%_, getD, false, subst, _≢_, ltb, leb, mod-lt, le-leb, _&&_}
+use Rattle.words.specs.Words.{ℕ-discrete, add-zero, decLt, lt-leb, ne-eqb, mod-eq-of-lt, mod-add-mod, eq-eqb, set, length-set, _||_, add-assoc, add-mod-right}
+use native.Mathlib.Nat.{add-mod-mod}
 use lib.Seq.{getD-set-same, getD-set-other}
-use lib.Dec.{leb, ltb}
-use borrow.Author.Tests.{eq-eqb, ne-eqb, le-leb, lt-leb}
 use Rattle.starts.specs.Starts.{Starts, also, moved}
 use Rattle.marks.specs.Marks.{markAt, marked, Marks, OnlyMarks}
 use Rattle.marks.specs.MarkSteps.{markByte, Written, Dropped}

@@ -1,14 +1,5 @@
 -- Where marks stand, and what is as it was when nothing but marks has changed.
-use mathlib.Core.Path.{_≡_, refl, sym, ap, _∙_}
-use mathlib.Core.Logic.{_≢_}
-use mathlib.Core.Bool.{true, false}
-use mathlib.Core.List.{List}
-use Prim.Native.Nat.{ℕ, _+_, _*_, _%_, _≤_, _<_}
-use native.Mathlib.Nat.{mod-lt}
-use native.Mathlib.Decide.{decLt}
-use native.Mathlib.Omega.{arith}
-use lib.Dec.{ltb}
-use borrow.Author.Tests.{lt-ltb, le-ltb}
+use Rattle.words.specs.Words.{_≡_, arith, ℕ, _≤_, _+_, List, _<_, refl, _∙_, sym, ap, _%_, true, _*_, false, _≢_, ltb, mod-lt, decLt, lt-ltb, le-ltb}
 use Rattle.memory.proofs.Parts.{row-fits}
 use Rattle.decoder.specs.Bytes.{Coded}
 use Rattle.decoder.specs.Model.{State}

@@ -4,20 +4,10 @@
 -- The pass: Passing, passing-none, passing-more, passed, passed-all.
 -- Walks: Walking, walking-none, walking-more, walked, followed-none, followed-more, followed-to, followed-own.
 -- After a packet: owned-some, owned-none, updated.
-use mathlib.Core.Path.{_≡_, refl, sym, ap, _∙_, subst}
-use mathlib.Core.Logic.{_≢_, _⊎_, inl, inr}
-use mathlib.Core.Bool.{Bool, true, false, cond, _||_, true≢false}
-use mathlib.Core.Option.{none, some, Option·none-ne-some, Option·some-injective}
-use mathlib.Core.List.{List}
-use Prim.Native.Nat.{ℕ, zero, suc, _+_, _-_, _%_, _≤_, _<_}
-use native.Mathlib.Nat.{mod-lt, mod-add-mod}
-use native.Mathlib.Numerals.{add-one}
-use native.Mathlib.Decide.{decLt, ℕ-discrete}
-use native.Mathlib.Omega.{arith}
-use lib.ListN.{length, set, length-set}
+use Rattle.words.specs.Words.{_≡_, arith, ℕ, _≤_, _+_, List, length, _<_, refl, _∙_, sym, ap, _-_, some, _%_, suc, true, zero, none, false, Bool, subst, _≢_}
+use Rattle.words.specs.Words.{cond, ltb, mod-lt, ℕ-discrete, Option·some-injective, Option·none-ne-some, decLt, add-one, ne-eqb, lt-ltb, mod-add-mod, _⊎_, inr}
+use Rattle.words.specs.Words.{eq-eqb, true≢false, inl, set, length-set, le-ltb, _||_, ltb-false}
 use lib.Seq.{getD-set-same, getD-set-other}
-use lib.Dec.{ltb}
-use borrow.Author.Tests.{eq-eqb, ne-eqb, lt-ltb, le-ltb, ltb-false}
 use Rattle.memory.specs.Part.{part}
 use Rattle.memory.specs.Number.{number, Bytes}
 use Rattle.memory.proofs.Parts.{part-part}
@@ -35,9 +25,9 @@ use Rattle.marks.specs.MarkSteps.{Noted, Stepped, Followed, Owned, MayWa
 use Rattle.marks.specs.Contracts.{MarkSet, MarksMoved, Passed}
 use Rattle.marks.proofs.Only.{only-refl, only-trans, starts-refl, starts-of, starts-trans, starts-window, note-no-mark, mark-not-note}
 use Rattle.starts.proofs.Agreeing.{Agree}
-use Rattle.starts.proofs.Chaining as chaining
 use Rattle.starts.proofs.Chaining.{needs-some}
 use Rattle.starts.proofs.Settling.{open-agree, skipped, noted, set-end, reaches-agree, is-pass, settled-agree, nothing-open}
+use Rattle.starts.proofs.Chaining as chaining
 
 onward-none : (E i : ℕ) (t : Bool) (M : Starts) → onward E t none i M ≡ M
 onward-none E i true M = refl

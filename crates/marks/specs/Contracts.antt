@@ -1,12 +1,10 @@
 -- Contracts of inner functions: a reader need not believe these.
 -- Each holds for every system S that the memory holds for a window from b on, where `base` is the row of b.
-use mathlib.Core.Path.{_≡_}
-use mathlib.Core.List.{List}
-use Prim.Native.Nat.{ℕ, _+_, _%_}
+use Rattle.words.specs.Words.{_≡_, ℕ, _+_, List, _%_}
 use Rattle.decoder.specs.Bytes.{Coded}
 use Rattle.decoder.specs.Model.{State}
 use Rattle.table.specs.Window.{Window}
-use Rattle.starts.specs.Starts.{Starts, nowhere, also, moved, pass, seen}
+use Rattle.starts.specs.Starts.{Starts, also, moved, pass, seen}
 use Rattle.marks.specs.Marks.{Marks, OnlyMarks, notedIn, OnlyStarts}
 use Rattle.starts.specs.Settled.{Settled}
 

@@ -1,11 +1,5 @@
 -- Contracts of inner functions that read and change marks: a reader need not believe these.
-use mathlib.Core.Path.{_≡_}
-use mathlib.Core.Logic.{_≢_, _⊎_}
-use mathlib.Core.Bool.{Bool, true, false}
-use mathlib.Core.Option.{Option, none, some}
-use mathlib.Core.List.{List}
-use Prim.Native.Nat.{ℕ, zero, suc, _+_, _%_, _≤_, _<_}
-use lib.ListN.{length, getD}
+use Rattle.words.specs.Words.{_≡_, ℕ, _≤_, _+_, List, length, _<_, some, _%_, suc, true, zero, none, getD, false, Bool, Option, _≢_, _⊎_}
 use Rattle.decoder.specs.Bytes.{Coded}
 use Rattle.decoder.specs.Model.{State, known}
 use Rattle.table.specs.Window.{Window}

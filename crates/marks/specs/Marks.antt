@@ -1,12 +1,6 @@
 -- Where the receiver's memory keeps the marks: that of a position of the window in the second flag of its row, that of the position just past the
 -- window in byte 10 of the header.
-use mathlib.Core.Path.{_≡_}
-use mathlib.Core.Logic.{_≢_}
-use mathlib.Core.Bool.{cond}
-use mathlib.Core.List.{List}
-use Prim.Native.Nat.{ℕ, _+_, _%_, _≤_, _<_}
-use lib.ListN.{length, getD}
-use lib.Dec.{ltb}
+use Rattle.words.specs.Words.{_≡_, ℕ, _≤_, _+_, List, length, _<_, _%_, getD, _≢_, cond, ltb}
 use Rattle.table.specs.Window.{rowOffset}
 use Rattle.starts.specs.Starts.{Starts}
 

@@ -1,7 +1,5 @@
 // The marks of starts: read, set, moved on with the window, and the pass that follows the lengths of known ADUs.
-ghost use mathlib.Core.Path.{_≡_};
-ghost use Prim.Native.Nat.{_+_, _%_, _≤_, _<_};
-ghost use lib.ListN.{length};
+ghost use Rattle.words.specs.Words.{_≡_, _≤_, _+_, length, _<_, _%_};
 ghost use Rattle.table.specs.Window.{headerSize, rowOffset, Fits};
 ghost use Rattle.marks.specs.Marks.{markAt, marked};
 ghost use Rattle.marks.specs.MarkSteps.{Written, Dropped, Noted, Stepped, Followed, Owned, Decided, Extended, Updated, OneKnown, Tallied};

@@ -1,12 +1,7 @@
 -- A loop that replaces the elements of a list one by one, in order. After i turns the first i are those of the result r, and the others are as
 -- they were. A turn asks for element i of the result and for no other, so a loop hands over the length of its result and the law of its elements.
-use mathlib.Core.Path.{_≡_, refl, ap, _∙_}
-use Prim.Native.Nat.{ℕ, zero, suc, _+_, _≤_, _<_}
-use native.Mathlib.Nat.{le-of-suc-le-suc, not-suc-le-zero}
-use native.Mathlib.Numerals.{add-one}
-use native.Mathlib.Omega.{arith}
-use mathlib.Core.List.{List, [], _∷_}
-use lib.ListN.{length, getD, set, length-set}
+use Rattle.words.specs.Words.{_≡_, arith, ℕ, _≤_, _+_, List, length, _<_, refl, _∙_, ap, [], _∷_, suc, zero, getD, add-one, not-suc-le-zero, le-of-suc-le-suc}
+use Rattle.words.specs.Words.{set, length-set}
 
 -- the list after i turns, d before them and r the result
 abbrev pub turned : List ℕ → List ℕ → ℕ → List ℕ

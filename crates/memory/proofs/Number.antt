@@ -1,15 +1,9 @@
 -- Numbers in bytes: written, read, and in pieces.
-use mathlib.Core.Path.{_≡_, refl, sym, ap, _∙_}
-use Prim.Native.Nat.{ℕ, zero, suc, _+_, _*_, _/_, _%_, _^_, _≤_, _<_}
-use native.Mathlib.Nat.{mod-one, mod-eq-of-lt, pow-suc, pow-succ', mul-le-mul-right, mul-add-div-right}
-use native.Mathlib.Nat.{div-eq-of-lt, add-zero, add-mul, mul-assoc, add-assoc, zero-mul, zero-add}
-use native.Mathlib.Omega.{arith}
-use mathlib.Core.List.{List, [], _∷_, _++_}
+use Rattle.words.specs.Words.{_≡_, arith, ℕ, _≤_, _+_, List, length, _<_, refl, _∙_, sym, ap, [], _%_, _∷_, suc, zero, _*_, _++_, drop, _^_, take, _/_}
+use Rattle.words.specs.Words.{add-zero, length-append, mod-eq-of-lt, zero-add, zero-mul, lit<, getD-drop, add-assoc, mul-le-mul-right}
+use native.Mathlib.Nat.{mod-one, pow-suc, pow-succ', mul-add-div-right, div-eq-of-lt, add-mul, mul-assoc}
 use lib.Arith.{mod-mul}
-use lib.Dec.{lit<}
 use lib.Pow.{pow-add}
-use lib.ListN.{length, take, drop, length-append}
-use lib.Seq.{getD-drop}
 use Rattle.memory.specs.Part.{part}
 use Rattle.memory.specs.Number.{number, bytes, Bytes}
 use Rattle.memory.proofs.Parts.{cons-eq, part-add, length-part}

@@ -7,16 +7,11 @@
 --   parts of parts, and stores on stores: whole, getD-part, part-part, part-drop, part-splice, splice-part, splice-next, splice-append, splice-within
 --   bytes one by one: part-none, part-cons, part-two, part-add, sets-splice
 --   rows of s bytes: row-fits
-use mathlib.Core.Path.{_≡_, refl, ap, _∙_}
-use mathlib.Core.Logic.{inl, inr}
-use Prim.Native.Nat.{ℕ, zero, suc, _+_, _-_, _*_, _≤_, _<_}
-use native.Mathlib.Nat.{le-of-suc-le-suc, not-suc-le-zero, suc-add, zero-add, add-zero, suc-mul, mul-le-mul-right}
-use native.Mathlib.Numerals.{add-one}
-use native.Mathlib.Omega.{arith}
-use mathlib.Core.List.{List, [], _∷_, _++_, append-assoc}
-use lib.ListN.{length, take, drop, getD, set, length-set, length-append, length-take, length-drop, take-append-drop, List·getD-append}
-use lib.Seq.{take-all, getD-take, getD-drop, take-at, take-append-le, drop-append-le, take-append-seam, drop-append-seam}
-use lib.Seq.{drop-append-add, drop-drop, take-take, take-add, drop-cons, sets, sets-eq, set-append-left}
+use Rattle.words.specs.Words.{_≡_, arith, ℕ, _≤_, _+_, List, length, _<_, refl, _∙_, ap, _-_, [], _∷_, suc, zero, _*_, getD, _++_, drop, take, add-zero}
+use Rattle.words.specs.Words.{add-one, length-append, not-suc-le-zero, zero-add, inr, le-of-suc-le-suc, inl, append-assoc, set, length-drop, length-set}
+use Rattle.words.specs.Words.{length-take, suc-mul, getD-drop, take-all, List·getD-append, suc-add, drop-cons, take-append-drop, mul-le-mul-right, drop-drop}
+use Rattle.words.specs.Words.{take-at, take-append-seam, getD-take}
+use lib.Seq.{take-append-le, drop-append-le, drop-append-seam, drop-append-add, take-take, take-add, sets, sets-eq, set-append-left}
 use Rattle.memory.specs.Part.{part, splice, Apart}
 
 pub cons-eq : {A : Type 0} {x y : A} {l k : List A} → x ≡ y → l ≡ k → x ∷ l ≡ y ∷ k

@@ -1,7 +1,5 @@
 -- Numbers in bytes, the most significant byte first.
-use Prim.Native.Nat.{ℕ, zero, suc, _+_, _*_, _/_, _%_, _^_, _<_}
-use mathlib.Core.List.{List, [], _∷_}
-use lib.ListN.{length, getD}
+use Rattle.words.specs.Words.{ℕ, _+_, List, length, _<_, [], _%_, _∷_, suc, zero, _*_, getD, _^_, _/_}
 
 -- the number that the bytes write
 abbrev pub number : List ℕ → ℕ

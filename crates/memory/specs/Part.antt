@@ -1,10 +1,6 @@
 -- A part of a memory, and a memory with a part replaced.
-use mathlib.Core.Path.{_≡_}
-use mathlib.Core.Logic.{_⊎_}
-use denote.Ref.{RefT, now, ptr}
-use Prim.Native.Nat.{ℕ, _+_, _≤_}
-use mathlib.Core.List.{List, _++_}
-use lib.ListN.{length, take, drop}
+use Rattle.words.specs.Words.{_≡_, ℕ, _≤_, _+_, List, length, _++_, drop, take, _⊎_, now, RefT}
+use denote.Ref.{ptr}
 
 -- the n bytes of m from a on
 unfoldable pub part : ℕ → ℕ → List ℕ → List ℕ

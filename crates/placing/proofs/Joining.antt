@@ -1,12 +1,5 @@
 -- A packet's rows, placed one after the other, give what the model makes of its equations; and as many positions become known as are counted.
-use mathlib.Core.Path.{_≡_, refl, sym, ap, _∙_, subst}
-use mathlib.Core.Bool.{Bool, true, false}
-use mathlib.Core.List.{List}
-use Prim.Native.Nat.{ℕ, _+_, _<_}
-use native.Mathlib.Nat.{zero-add}
-use native.Mathlib.Numerals.{add-one}
-use native.Mathlib.Omega.{arith}
-use lib.ListN.{getD}
+use Rattle.words.specs.Words.{_≡_, arith, ℕ, _+_, List, _<_, refl, _∙_, sym, ap, true, getD, false, Bool, subst, add-one, zero-add}
 use Rattle.memory.specs.Part.{part}
 use Rattle.memory.specs.Number.{Bytes}
 use Rattle.memory.proofs.Parts.{getD-part}

@@ -1,15 +1,8 @@
 -- To unmark the rows of the positions that leave moves the window on.
 -- One row unmarked: other, moved-to. Row after row: Leaving, leaving-none, leaving-more. A rise past the width: position, window-free, moved-past.
-use mathlib.Core.Path.{_≡_, refl, sym, ap, _∙_, subst}
-use mathlib.Core.Logic.{_≢_}
-use mathlib.Core.Bool.{Bool, true, false, true≢false}
-use mathlib.Core.List.{List}
-use Prim.Native.Nat.{ℕ, zero, suc, _+_, _-_, _%_, _≤_, _<_}
-use native.Mathlib.Nat.{mod-lt, mod-eq-of-lt, mod-add-mod, add-mod-mod, add-mod-right, add-zero, add-assoc}
-use native.Mathlib.Decide.{ℕ-discrete}
-use native.Mathlib.Numerals.{add-one}
-use native.Mathlib.Omega.{arith}
-use lib.ListN.{getD}
+use Rattle.words.specs.Words.{_≡_, arith, ℕ, _≤_, _+_, List, _<_, refl, _∙_, sym, ap, _-_, _%_, suc, true, zero, getD, false, Bool, subst, _≢_, mod-lt}
+use Rattle.words.specs.Words.{ℕ-discrete, add-zero, add-one, mod-eq-of-lt, mod-add-mod, true≢false, add-assoc, add-mod-right}
+use native.Mathlib.Nat.{add-mod-mod}
 use Rattle.decoder.specs.Field.{Ops}
 use Rattle.decoder.specs.Bytes.{byte, Coded}
 use Rattle.decoder.specs.Model.{Row, State, end, free, pivot, advance}
@@ -21,7 +14,7 @@ use Rattle.decoder.proofs.Stretch.{remainders}
 use Rattle.decoder.proofs.Jump.{advance-by-suc, advance-by-empty}
 use Rattle.decoder.proofs.Refine.{view-advance}
 use Rattle.decoder.proofs.Steps.{moves-echelon}
-use Rattle.table.specs.Window.{row, flag, inUse, line, table, Window, Fits, Kept}
+use Rattle.table.specs.Window.{row, flag, inUse, line, table, Window, Fits}
 use Rattle.placing.specs.Place.{RowsMoved}
 use Rattle.table.specs.RowSteps.{flagged}
 use Rattle.table.proofs.Rows.{kept-refl, kept-trans, fits-kept}

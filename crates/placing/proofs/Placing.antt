@@ -2,16 +2,8 @@
 -- The row stored: stored-copy. The search for the next row: Passed, passed-none, passed-more, passed-here, passed-all.
 -- One row cleared: cleared-zero, cleared-unused, cleared-row. Row after row: Cleared, cleared-none, cleared-more, cleared-skip.
 -- The whole call: settled. What it is in the model: places.
-use mathlib.Core.Path.{_≡_, refl, sym, ap, ap₂, _∙_, subst}
-use mathlib.Core.Logic.{_≢_}
-use mathlib.Core.Bool.{true, false, true≢false}
-use mathlib.Core.List.{List}
-use Prim.Native.Nat.{ℕ, zero, suc, _+_, _-_, _%_, _≤_, _<_}
-use native.Mathlib.Nat.{mod-lt, add-zero, zero-add}
-use native.Mathlib.Decide.{ℕ-discrete}
-use native.Mathlib.Omega.{arith}
-use lib.ListN.{length, getD, List·getD-append}
-use lib.Bits.{bitXor}
+use Rattle.words.specs.Words.{_≡_, arith, ℕ, _≤_, _+_, List, length, _<_, refl, _∙_, sym, ap, _-_, _%_, suc, true, zero, getD, false, subst, _≢_, ap₂, mod-lt}
+use Rattle.words.specs.Words.{ℕ-discrete, add-zero, bitXor, zero-add, true≢false, List·getD-append}
 use Rattle.field.specs.Gf256.{product}
 use Rattle.memory.specs.Part.{part, splice}
 use Rattle.memory.specs.Number.{Bytes}
@@ -28,8 +20,8 @@ use Rattle.table.specs.Window.{stride, rowOffset, row, flag, inUse, line, table
 use Rattle.table.specs.RowSteps.{one-if-known, known-flag, flagged}
 use Rattle.placing.specs.PlaceSteps.{known-flags, RowMarked, Changed, ClearedRow, FirstWith, Stored, RowPlaced}
 use Rattle.table.proofs.Rows.{row-store, row-other, kept-store, kept-refl, kept-trans, fits-kept}
-use Rattle.table.proofs.Flags.{flag-at, unused, used, unused-flag, not-known, flags-changed, count-changed}
-use Rattle.table.proofs.Flags.{flagged-flag, flagged-cell, flagged-line, flagged-rest, flagged-kept}
+use Rattle.table.proofs.Flags.{flag-at, unused, used, unused-flag, not-known, flags-changed, count-changed, flagged-flag, flagged-cell, flagged-line}
+use Rattle.table.proofs.Flags.{flagged-rest, flagged-kept}
 use Rattle.table.proofs.Offsets.{flags-fit}
 use Rattle.placing.proofs.Moving.{other}
 

@@ -1,16 +1,7 @@
 -- A position is known just where its row's first flag is 2; and how many are known.
-use mathlib.Core.Path.{_≡_, refl, sym, ap, _∙_}
-use mathlib.Core.Logic.{_≢_}
-use mathlib.Core.Bool.{Bool, true, false}
-use mathlib.Core.List.{List}
-use mathlib.Core.Option.{Option, none, some, Option·some-ne-none}
-use Prim.Native.Nat.{ℕ, suc, _+_, _-_, _%_, _≤_, _<_}
-use native.Mathlib.Nat.{mod-lt}
-use native.Mathlib.Decide.{ℕ-discrete, decLt}
-use native.Mathlib.Omega.{arith}
-use borrow.Author.Tests.{eqb-true, eqb-false}
-use lib.ListN.{getD}
-use lib.Dec.{eqb}
+use Rattle.words.specs.Words.{_≡_, arith, ℕ, _≤_, _+_, List, _<_, refl, _∙_, sym, ap, _-_, some, _%_, suc, true, none, getD, false, Bool, Option, _≢_, eqb}
+use Rattle.words.specs.Words.{mod-lt, ℕ-discrete, decLt, eqb-true, eqb-false}
+use mathlib.Core.Option.{Option·some-ne-none}
 use Rattle.memory.specs.Part.{part}
 use Rattle.memory.specs.Number.{Bytes}
 use Rattle.memory.proofs.Parts.{part-part}

@@ -1,13 +1,9 @@
 -- What the calls that change the receiver's memory, and the one that looks a position up, promise. Each holds for every window that the
 -- memory holds: `b` is the window's oldest position, `oldest` the row of it.
-use mathlib.Core.Path.{_≡_}
-use mathlib.Core.Bool.{Bool, true, false}
-use mathlib.Core.List.{List}
-use mathlib.Core.Option.{none, some}
-use Prim.Native.Nat.{ℕ, _+_, _*_, _%_, _≤_, _<_}
+use Rattle.words.specs.Words.{_≡_, ℕ, _≤_, _+_, List, _<_, some, _%_, true, none, _*_, false, Bool}
 use Rattle.decoder.specs.Bytes.{Coded}
 use Rattle.decoder.specs.Model.{Row, State, Rref, known}
-use Rattle.decoder.specs.Receiver.{empty, advance-by, insert-all, newly}
+use Rattle.decoder.specs.Receiver.{advance-by, insert-all, newly}
 use Rattle.table.specs.Window.{row, line, Window, Kept}
 use Rattle.table.specs.Packet.{Gathered}
 

@@ -1,11 +1,6 @@
 -- Contracts of inner functions: a reader need not believe these.
 -- A column is cleared in the rows in use, by a working row `l`, and the working row becomes the row of that column.
-use mathlib.Core.Path.{_≡_}
-use mathlib.Core.Logic.{_≢_}
-use mathlib.Core.Bool.{true, false}
-use mathlib.Core.List.{List}
-use Prim.Native.Nat.{ℕ, _+_, _*_, _≤_, _<_}
-use lib.ListN.{length, getD}
+use Rattle.words.specs.Words.{_≡_, ℕ, _≤_, _+_, List, length, _<_, true, _*_, getD, false, _≢_}
 use Rattle.decoder.specs.Bytes.{byte, Coded}
 use Rattle.decoder.specs.Model.{State}
 use Rattle.decoder.specs.TableSteps.{add-line, total}

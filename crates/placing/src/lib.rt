@@ -1,9 +1,6 @@
 // What changes the window's equations: the window moves on, and a packet's rows join those of the window.
 // And whether a position is known, which its row's first flag says.
-ghost use mathlib.Core.Path.{_≡_};
-ghost use mathlib.Core.Logic.{_≢_};
-ghost use Prim.Native.Nat.{_+_, _≤_, _<_};
-ghost use lib.ListN.{length, getD};
+ghost use Rattle.words.specs.Words.{_≡_, _≤_, _+_, length, _<_, getD, _≢_};
 ghost use Rattle.table.specs.Window.{rowOffset, Fits};
 ghost use Rattle.placing.specs.Place.{RowsMoved, KnownAt, Committed};
 ghost use Rattle.table.specs.Packet.{Works};

@@ -1,15 +1,11 @@
 -- Laws of texts that are put into a buffer one after the other.
-use mathlib.Core.Path.{_≡_, refl}
-use mathlib.Core.List.{List, [], _∷_, _++_, append-assoc}
-use Prim.Native.Nat.{ℕ, _+_, _^_, _≤_, _<_}
-use native.Mathlib.Numerals.{add-one}
-use native.Mathlib.Omega.{arith}
-use lib.ListN.{length, take, set, length-append, length-take, length-set}
-use lib.Seq.{take-at, take-suc-set}
+use Rattle.words.specs.Words.{_≡_, arith, ℕ, _≤_, _+_, List, length, _<_, refl, [], _∷_, _++_, _^_, take, add-one, length-append, append-assoc, set, length-set}
+use Rattle.words.specs.Words.{length-take, take-at}
+use lib.Seq.{take-suc-set}
 use Rattle.memory.specs.Part.{splice}
 use Rattle.memory.proofs.Parts.{length-splice}
-use Rattle.text.specs.Text.{ascii, decimal}
-use Rattle.printing.specs.Printed.{recordLine, lastLine}
+use Rattle.text.specs.Text.{decimal}
+use Rattle.printing.specs.Printed.{recordLine}
 use Rattle.printing.specs.Inner.{Put}
 use Rattle.text.proofs.Decimals.{decimal-length}
 

@@ -1,6 +1,5 @@
 -- Computed from the definitions: document 02's sample.
-use mathlib.Core.Path.{_≡_, refl}
-use mathlib.Core.List.{_++_}
+use Rattle.words.specs.Words.{_≡_, refl, _++_}
 use Rattle.text.specs.Text.{ascii, digit, decimalWithin, decimal}
 use Rattle.printing.specs.Printed.{recordLine, lastLine}
 

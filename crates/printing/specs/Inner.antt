@@ -1,8 +1,5 @@
 -- What the printing functions promise: of a buffer, the bytes before a place are kept and a text follows them; what comes after it is free.
-use mathlib.Core.Path.{_≡_}
-use mathlib.Core.List.{List, _++_}
-use Prim.Native.Nat.{ℕ, _+_, _≤_}
-use lib.ListN.{length, take}
+use Rattle.words.specs.Words.{_≡_, ℕ, _≤_, _+_, List, length, _++_, take}
 
 -- `text` was put into `out` from `at` on, up to `next`; `out′` is the buffer afterwards
 pub record Put (out out′ : List ℕ) (at next : ℕ) (text : List ℕ) : Type 0 where

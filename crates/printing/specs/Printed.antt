@@ -1,6 +1,5 @@
 -- The lines that are printed of a capture (document 02, No. 4).
-use mathlib.Core.List.{List, _++_}
-use Prim.Native.Nat.{ℕ}
+use Rattle.words.specs.Words.{ℕ, List, _++_}
 use Rattle.text.specs.Text.{ascii, field}
 
 -- the line of the n-th packet line: its answer, and how many positions became known

@@ -1,7 +1,5 @@
 // Text in a buffer: texts, decimal numbers, and the lines that are printed of a capture (document 02, No. 4).
-ghost use Prim.Native.Nat.{_+_, _≤_};
-ghost use lib.ListN.{length};
-ghost use mathlib.Core.List.{_++_};
+ghost use Rattle.words.specs.Words.{_≤_, _+_, length, _++_};
 ghost use Rattle.text.specs.Text.{decimal};
 ghost use Rattle.printing.specs.Printed.{recordLine, lastLine};
 ghost use Rattle.printing.specs.Inner.{Put};

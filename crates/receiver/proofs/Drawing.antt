@@ -1,13 +1,8 @@
 -- The answers of the packet calls with their draws.
-use mathlib.Core.Path.{_≡_, sym, ap, _∙_}
-use mathlib.Core.Option.{some, Option·some-injective}
-use mathlib.Core.List.{List}
-use Prim.Native.Nat.{ℕ, _≤_}
-use native.Mathlib.Omega.{arith}
+use Rattle.words.specs.Words.{_≡_, arith, ℕ, _≤_, List, _∙_, sym, ap, some, Option·some-injective}
 use Rattle.table.specs.Packet.{Works}
 use Rattle.wire.specs.declared.Refusal.{Refusal}
 use Rattle.wire.specs.declared.Answer.the-variants.{Done, Refused}
-use Rattle.receiver.specs.declared.PacketAnswer.the-variants as answers
 use Rattle.holding.specs.declared.Header.{Header}
 use Rattle.admission.specs.declared.packet.Location.{Location}
 use Rattle.admission.specs.declared.packet.Gathered.{Gathered}
@@ -17,6 +12,7 @@ use Rattle.holding.specs.Header.{headerIn}
 use Rattle.receiver.specs.Promises.{drawsFor, Received, PacketAnswered}
 use Rattle.receiver.specs.Layout.{receiverLayout}
 use Rattle.admission.specs.Steps.{WorksOn, Accepted}
+use Rattle.receiver.specs.declared.PacketAnswer.the-variants as answers
 
 module _ {c : Call} {m m′ v v′ : List ℕ} where
   -- A refusal has none.

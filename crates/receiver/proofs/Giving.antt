@@ -1,11 +1,5 @@
 -- From what the code reads in the memory to what the ADU call promises.
-use mathlib.Core.Path.{_≡_, refl, sym, ap, _∙_, subst}
-use mathlib.Core.Logic.{_≢_}
-use mathlib.Core.Option.{none, some, Option·none-ne-some}
-use mathlib.Core.List.{List}
-use Prim.Native.Nat.{ℕ, _%_, _^_}
-use lib.ListN.{length}
-use borrow.Author.Tests.{lt-ltb}
+use Rattle.words.specs.Words.{_≡_, ℕ, List, length, refl, _∙_, sym, ap, some, _%_, none, subst, _≢_, _^_, Option·none-ne-some, lt-ltb}
 use Rattle.wire.specs.declared.Setting.{Setting}
 use Rattle.wire.specs.declared.Refusal.{Refusal}
 use Rattle.wire.specs.Numbers.{numberOf}
@@ -14,7 +8,6 @@ use Rattle.starts.specs.declared.Handed.the-variants.{Adu, Withheld}
 use Rattle.starts.specs.Adu.{need, handing, HandedAs}
 use Rattle.starts.specs.Starts.{Starts, seen}
 use Rattle.table.specs.declared.Shape.{Shape}
-use Rattle.marks.specs.Marks as marks
 use Rattle.handing.specs.Contracts.{HandedOut}
 use Rattle.holding.specs.declared.Header.{Header}
 use Rattle.wire.specs.Answers.{refusal}
@@ -27,6 +20,7 @@ use Rattle.history.proofs.Cases.{IsRefusal, numeral}
 use Rattle.holding.proofs.Headers.{of-joined}
 use Rattle.holding.proofs.Standing.{InWindow, Stood, Hidden, side-held}
 use Rattle.holding.proofs.Finding.{by-header}
+use Rattle.marks.specs.Marks as marks
 
 -- An ADU, or a refusal with another number, does not say 3.
 not-three : (r : Handed) → ((x : Refusal) → r ≡ Withheld x → numberOf x ≢ 3) → handedSaid r ≢ refusal 3

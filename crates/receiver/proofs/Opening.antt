@@ -1,16 +1,7 @@
 -- Opening: what it answers, and that the memory it leaves holds a fresh receiver.
-use mathlib.Core.Path.{_≡_, refl, sym, ap, _∙_, subst}
-use mathlib.Core.Bool.{false}
-use mathlib.Core.Option.{none, some, Option·some-injective}
-use mathlib.Core.List.{List}
-use Prim.Native.Nat.{ℕ, _+_, _-_, _%_, _≤_, _<_}
-use native.Mathlib.Nat.{mod-lt}
-use native.Mathlib.Decide.{decLt}
-use native.Mathlib.Omega.{arith}
-use lib.ListN.{length, drop, getD, length-replicate, getD-replicate}
-use lib.Seq.{ext-getD}
-use lib.Dec.{ltb}
-use borrow.Author.Tests.{lt-ltb, le-ltb}
+use Rattle.words.specs.Words.{_≡_, arith, ℕ, _≤_, _+_, List, length, _<_, refl, _∙_, sym, ap, _-_, some, _%_, none, getD, false, subst, drop, ltb, mod-lt}
+use Rattle.words.specs.Words.{Option·some-injective, decLt, lt-ltb, le-ltb, ext-getD, length-replicate}
+use lib.ListN.{getD-replicate}
 use Rattle.memory.specs.Part.{part, splice}
 use Rattle.memory.specs.Number.{number}
 use Rattle.memory.proofs.Parts.{length-part, length-splice, take-splice, past-splice, getD-within, getD-part, row-fits}

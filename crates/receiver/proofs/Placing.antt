@@ -1,8 +1,5 @@
 -- From where a symbol was found to what the call for its place promises.
-use mathlib.Core.Path.{_≡_, refl, sym, ap, subst}
-use mathlib.Core.List.{List}
-use Prim.Native.Nat.{ℕ, _+_, _≤_}
-use lib.ListN.{length}
+use Rattle.words.specs.Words.{_≡_, ℕ, _≤_, _+_, List, length, refl, sym, ap, subst}
 use Rattle.memory.specs.Part.{part}
 use Rattle.wire.specs.declared.Refusal.{Refusal}
 use Rattle.wire.specs.declared.Answer.the-variants.{Done, Refused}

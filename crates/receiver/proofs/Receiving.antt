@@ -4,25 +4,13 @@
 --   a place: Ready, location-is, location-width, location-size, ready, accept-asks
 --   a check fails: received-refused, received-short, received-stopped, received-out
 --   all checks passed: reading-at, received-contradiction, received-done
-use mathlib.Core.Path.{_≡_, refl, sym, ap, _∙_, subst}
-use mathlib.Core.Logic.{_≢_}
-use mathlib.Core.Option.{Option, none, some, Option·none-ne-some, Option·some-injective}
-use mathlib.Core.List.{List}
-use Prim.Native.Nat.{ℕ, _+_, _-_, _%_, _^_, _≤_, _<_}
-use native.Mathlib.Nat.{mod-lt, mod-add-mod}
-use native.Mathlib.Omega.{arith}
-use lib.ListN.{length}
-use borrow.Author.Tests.{lt-leb}
+use Rattle.words.specs.Words.{_≡_, arith, ℕ, _≤_, _+_, List, length, _<_, refl, _∙_, sym, ap, _-_, some, _%_, none, subst, Option, _≢_, _^_, mod-lt}
+use Rattle.words.specs.Words.{Option·some-injective, Option·none-ne-some, lt-leb, mod-add-mod}
 use Rattle.wire.specs.declared.Setting.{Setting}
 use Rattle.wire.specs.declared.Refusal.{Refusal}
-use Rattle.wire.specs.declared.Refusal.the-variants as refusals
 use Rattle.wire.specs.Numbers.{numberOf}
 use Rattle.decoder.specs.Bytes.{Coded}
-use Rattle.decoder.specs.Model as model
-use Rattle.decoder.specs.Receiver as decoder
-use Rattle.decoder.specs.Packets as packets
 use Rattle.table.specs.Window.{headerSize, stride, rowOffset, Fits}
-use Rattle.table.specs.Packet as packet
 use Rattle.starts.specs.Starts.{Starts, owning, moved, pass, seen}
 use Rattle.starts.proofs.Settling.{unseen-settled}
 use Rattle.marks.proofs.Gaining.{unseen-empty}
@@ -33,10 +21,9 @@ use Rattle.admission.specs.declared.packet.Location.{Location}
 use Rattle.admission.specs.declared.packet.LocationFound.the-variants.{LocationIs, Out}
 use Rattle.admission.specs.declared.packet.Gathered.{Gathered}
 use Rattle.admission.specs.declared.packet.Gathered.the-variants.{All, Contradiction}
-use Rattle.history.specs.History.{Located, source, repair, first, named, sideOf, fromSide, Call, esiOf, Reading}
-use Rattle.history.specs.History.{fails, located, check, memorySize, workingSize, reading}
+use Rattle.history.specs.History.{Located, source, repair, first, named, sideOf, fromSide, Call, esiOf, Reading, fails, located, check, memorySize, workingSize}
+use Rattle.history.specs.History.{reading, farthest}
 use Rattle.wire.specs.Answers.{value}
-use Rattle.history.specs.History.{farthest}
 use Rattle.history.specs.Model.{Joined, State, foundBy, Outcome, packetOf, added, responds, answering, stateAfter, naming, startsAfter, marking}
 use Rattle.holding.specs.Header.{headerIn}
 use Rattle.receiver.specs.Promises.{Follows, Received}
@@ -50,6 +37,11 @@ use Rattle.holding.proofs.Headers.{header-fits, setting-held}
 use Rattle.admission.proofs.Joining.{based-fits, found-header, found-stands}
 use Rattle.admission.proofs.Locating.{distance, found-at, at-side, out-side, out-other}
 use Rattle.admission.proofs.Gathering.{contained-none}
+use Rattle.wire.specs.declared.Refusal.the-variants as refusals
+use Rattle.decoder.specs.Model as model
+use Rattle.decoder.specs.Receiver as decoder
+use Rattle.decoder.specs.Packets as packets
+use Rattle.table.specs.Packet as packet
 
 pub received-unopened : (c : Call) (m v : List ℕ) → headerIn m ≡ none → Received receiverLayout c m m v v (Refused refusals.Unopened)
 received-unopened c m v e = record {

@@ -2,18 +2,10 @@
 -- Laws:
 --   reading: sized
 --   the call: call-form, draws-are, call-range, call-out, gather-asks, call-draws, call-contradicts, call-done
-use mathlib.Core.Path.{_≡_, refl, sym, ap, ap₂, _∙_}
-use mathlib.Core.Bool.{Bool, true, false}
-use mathlib.Core.Option.{some}
-use mathlib.Core.List.{List, _++_}
-use Prim.Native.Nat.{ℕ, _+_, _*_, _%_, _^_, _≤_, _<_}
-use native.Mathlib.Omega.{arith}
-use lib.ListN.{length, drop}
-use lib.Dec.{leb}
-use borrow.Author.Tests.{le-leb, eqb-true}
+use Rattle.words.specs.Words.{_≡_, arith, ℕ, _≤_, _+_, List, length, _<_, refl, _∙_, sym, ap, some, _%_, true, _*_, false, _++_, Bool, drop, _^_, ap₂, leb}
+use Rattle.words.specs.Words.{le-leb, eqb-true}
 use Rattle.wire.specs.declared.Setting.{Setting}
 use Rattle.wire.specs.declared.Refusal.{Refusal}
-use Rattle.wire.specs.declared.Refusal.the-variants as refusals
 use Rattle.wire.specs.declared.RepairFields.{RepairFields}
 use Rattle.wire.specs.declared.RepairHeader.the-variants.{Repair, NoRepair}
 use Rattle.wire.specs.Numbers.{within}
@@ -24,7 +16,6 @@ use Rattle.wire.proofs.Settings.{both, within-bounds}
 use Rattle.coefficients.specs.Coefficients.{keys, listsOf, allOk, drawsOf, packetDraws}
 use Rattle.coefficients.proofs.Fills.{lists-cut}
 use Rattle.decoder.specs.Bytes.{Coded}
-use Rattle.decoder.specs.Receiver as decoder
 use Rattle.table.specs.Window.{Fits}
 use Rattle.table.specs.Packet.{Works}
 use Rattle.wire.specs.declared.Answer.the-variants.{Done, Refused}
@@ -44,8 +35,10 @@ use Rattle.admission.specs.RepairSteps.{equationAt}
 use Rattle.admission.proofs.Joining.{based}
 use Rattle.admission.proofs.Locating.{distance}
 use Rattle.admission.proofs.Repairing.{repair-equations}
-use Rattle.receiver.proofs.Receiving.{location-is, location-width, location-size, ready, received-refused, received-stopped}
-use Rattle.receiver.proofs.Receiving.{received-out, reading-at, received-contradiction, received-done}
+use Rattle.receiver.proofs.Receiving.{location-is, location-width, location-size, ready, received-refused, received-stopped, received-out, reading-at}
+use Rattle.receiver.proofs.Receiving.{received-contradiction, received-done}
+use Rattle.wire.specs.declared.Refusal.the-variants as refusals
+use Rattle.decoder.specs.Receiver as decoder
 
 -- ---- What reading the packet found
 

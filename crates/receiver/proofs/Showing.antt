@@ -1,10 +1,5 @@
 -- From what is found in the memory to what the symbol calls promise.
-use mathlib.Core.Path.{_≡_, refl, sym, ap, _∙_, subst}
-use mathlib.Core.Logic.{inl, inr}
-use mathlib.Core.Option.{none}
-use mathlib.Core.List.{List, []}
-use denote.Ref.{RefT, now}
-use Prim.Native.Nat.{ℕ}
+use Rattle.words.specs.Words.{_≡_, ℕ, List, refl, _∙_, sym, ap, [], none, subst, inr, inl, now, RefT}
 use Rattle.memory.specs.Part.{LiesAt}
 use Rattle.wire.specs.declared.Refusal.{Refusal}
 use Rattle.wire.specs.Numbers.{numberOf}

@@ -2,29 +2,17 @@
 -- Laws:
 --   reading: Fields, adu-length, source-fields, source-none
 --   the call: call-form, call-long, call-many, call-out, call-contradicts, call-done
-use mathlib.Core.Path.{_≡_, refl, sym, ap, ap₂, _∙_, subst}
-use mathlib.Core.Bool.{Bool, true, false, cond}
-use mathlib.Core.Option.{some}
-use mathlib.Core.List.{List}
-use Prim.Native.Nat.{ℕ, zero, suc, _+_, _-_, _*_, _≤_, _<_}
-use native.Mathlib.Nat.{zero-mul}
-use native.Mathlib.Omega.{arith}
-use lib.ListN.{length}
-use lib.Dec.{leb}
-use lib.Seq.{length-take-le}
-use borrow.Author.Tests.{le-leb, lt-leb, lt-ltb}
+use Rattle.words.specs.Words.{_≡_, arith, ℕ, _≤_, _+_, List, length, _<_, refl, _∙_, sym, ap, _-_, some, suc, true, zero, _*_, false, Bool, subst, ap₂, cond}
+use Rattle.words.specs.Words.{leb, le-leb, lt-leb, lt-ltb, zero-mul, length-take-le}
 use Rattle.memory.specs.Part.{part}
 use Rattle.wire.specs.declared.Setting.{Setting}
 use Rattle.wire.specs.declared.Refusal.{Refusal}
-use Rattle.wire.specs.declared.Refusal.the-variants as refusals
 use Rattle.wire.specs.declared.SourceFields.{SourceFields}
 use Rattle.wire.specs.declared.SourceHeader.{SourceHeader}
 use Rattle.wire.specs.declared.SourceHeader.the-variants.{Source, NoSource}
 use Rattle.wire.specs.Packets.{symbolCount, sourceSymbols, sourceForm, sourceAdu, sourceEsi}
 use Rattle.wire.specs.Headers.{sourceFields, sourceHeaderOf}
-use Rattle.wire.proofs.Adui as adui
 use Rattle.decoder.specs.Bytes.{Coded}
-use Rattle.decoder.specs.Receiver as decoder
 use Rattle.starts.specs.Starts.{Starts, also, owning}
 use Rattle.wire.specs.declared.Answer.the-variants.{Done, Refused}
 use Rattle.holding.specs.declared.Header.{Header}
@@ -44,6 +32,9 @@ use Rattle.holding.proofs.Headers.{headed}
 use Rattle.admission.proofs.Locating.{distance}
 use Rattle.admission.proofs.Sourcing.{source-equations}
 use Rattle.receiver.proofs.Receiving.{location-is, location-size, received-refused, received-out, reading-at, received-contradiction, received-done}
+use Rattle.wire.specs.declared.Refusal.the-variants as refusals
+use Rattle.wire.proofs.Adui as adui
+use Rattle.decoder.specs.Receiver as decoder
 
 symbols-some : (E L : ℕ) → 0 < E → 0 < symbolCount E L
 symbols-some E L pos = go (symbolCount E L) (adui.room E L pos)

@@ -1,14 +1,6 @@
 -- What the receiver's public calls promise, in whatever way `Layout` a memory holds a state.
 -- m and v are the receiver's memory and the working memory, m′ and v′ these afterwards; a is the answer.
-use mathlib.Core.Path.{_≡_}
-use mathlib.Core.Logic.{_↔_, _⊎_}
-use mathlib.Core.Bool.{cond}
-use mathlib.Core.Option.{Option, none, some}
-use mathlib.Core.List.{List, []}
-use denote.Ref.{RefT, now}
-use Prim.Native.Nat.{ℕ, _+_, _*_, _≤_}
-use lib.ListN.{length}
-use lib.Dec.{ltb}
+use Rattle.words.specs.Words.{_≡_, ℕ, _≤_, _+_, List, length, [], some, none, _*_, Option, cond, ltb, _↔_, _⊎_, now, RefT}
 use Rattle.memory.specs.Part.{part, LiesAt}
 use Rattle.wire.specs.declared.Setting.{Setting}
 use Rattle.wire.specs.Numbers.{numberOf}

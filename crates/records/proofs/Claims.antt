@@ -1,13 +1,6 @@
 -- What is printed of a capture is what is claimed of it.
-use mathlib.Core.Path.{_≡_, refl, sym, ap, _∙_, subst}
-use mathlib.Core.Bool.{_&&_}
-use mathlib.Core.List.{List, _∷_}
-use mathlib.Core.Option.{Option, none, some, Option·some-injective}
-use Prim.Native.Nat.{ℕ, _≤_, _<_}
-use native.Mathlib.Omega.{arith}
-use lib.Dec.{leb}
-use lib.ListN.{length, take, length-append}
-use borrow.Author.Tests.{le-leb, leb-true}
+use Rattle.words.specs.Words.{_≡_, arith, ℕ, _≤_, List, length, _<_, refl, _∙_, sym, ap, some, _∷_, none, subst, Option, take, leb, le-leb, _&&_}
+use Rattle.words.specs.Words.{Option·some-injective, length-append, leb-true}
 use Rattle.wire.specs.declared.Setting.{Setting}
 use Rattle.wire.specs.declared.Scheme.{Scheme}
 use Rattle.wire.specs.declared.Scheme.the-variants.{Gf2, Gf256}

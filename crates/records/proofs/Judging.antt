@@ -1,18 +1,10 @@
 -- Each record is what the history asks of its line, and nothing else can be one.
-use mathlib.Core.Path.{_≡_, refl, sym, ap, ap₂, _∙_, subst}
-use mathlib.Core.Logic.{_≢_}
-use mathlib.Core.Bool.{Bool, true, false, cond}
-use mathlib.Core.List.{List, [], _∷_}
-use mathlib.Core.Option.{Option, none, some, Option·none-ne-some, Option·some-injective}
-use Prim.Native.Nat.{ℕ, zero, suc, _<_}
-use native.Mathlib.Omega.{arith}
-use lib.Dec.{eqb}
-use borrow.Author.Tests.{ne-eqb}
+use Rattle.words.specs.Words.{_≡_, arith, ℕ, List, _<_, refl, _∙_, sym, ap, [], some, _∷_, suc, true, zero, none, false, Bool, subst, Option, _≢_, ap₂, cond}
+use Rattle.words.specs.Words.{eqb, Option·some-injective, Option·none-ne-some, ne-eqb}
 use Rattle.wire.specs.declared.Setting.{Setting}
-use Rattle.history.specs.History.{Call, source-call, repair-call, OfBytes, esiOf, Side, behind, ahead, Reading, fails, located, check, fromSide}
+use Rattle.history.specs.History.{Call, source-call, repair-call, OfBytes, esiOf, Side, behind, ahead, Reading, fails, located, check, fromSide, readSource}
+use Rattle.history.specs.History.{readRepair, reading, Located, Log, readAfter, logged, Judged}
 use Rattle.wire.specs.Answers.{Said, value, refusal}
-use Rattle.history.specs.History.{readSource, readRepair, reading, Located, Log, readAfter, logged, Judged}
-use Rattle.decoder.specs.Receiver as decoder
 use Rattle.history.specs.Model.{packetOf, Joined, State, foundBy, saidOf, stateAfter, added, responds, answering, receiving}
 use Rattle.history.proofs.Answers.{Tracks, Passes, base-found, judged}
 use Rattle.history.proofs.Counting.{judged-once}
@@ -24,6 +16,7 @@ use Rattle.records.specs.declared.Record.{Record}
 use Rattle.records.specs.Records.{room}
 use Rattle.records.specs.Replay.{recordOf, recordAt, stateAt, recordsFrom}
 use Rattle.records.specs.Claims.{saidBy, loggedBy, Recorded, Records}
+use Rattle.decoder.specs.Receiver as decoder
 
 -- ---- No refusal has the number 0
 

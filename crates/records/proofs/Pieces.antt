@@ -1,15 +1,11 @@
 -- What is written of a capture in pieces is what is printed of it, and no more is wanted where no more counts.
-use mathlib.Core.Path.{_≡_, refl, sym, ap, _∙_, subst}
-use mathlib.Core.Logic.{_⊎_, ⊎-elim}
-use mathlib.Core.Bool.{Bool, true, false}
-use mathlib.Core.Option.{Option, none, some}
-use mathlib.Core.List.{List, [], _∷_, _++_, append-assoc}
-use Prim.Native.Nat.{ℕ, _+_, _≤_, min}
-use native.Mathlib.Omega.{arith}
-use lib.ListN.{length, take, length-append}
-use lib.Dec.{ltb}
-use lib.Seq.{take-append-seam}
-use borrow.Author.Tests.{leb-true, le-leb, ltb-true, ltb-false}
+-- Index
+--   Still: a standing that no line changes
+--   worked-through
+--   Goes: packet lines
+--   stops
+use Rattle.words.specs.Words.{_≡_, arith, ℕ, _≤_, _+_, List, length, refl, _∙_, sym, ap, [], some, _∷_, true, none, false, _++_, Bool, subst, Option, take, ltb}
+use Rattle.words.specs.Words.{le-leb, length-append, _⊎_, append-assoc, leb-true, ltb-true, ⊎-elim, min, ltb-false, take-append-seam}
 use Rattle.wire.specs.declared.Setting.{Setting}
 use Rattle.history.specs.Model.{State, opened}
 use Rattle.lines.specs.Lines.{linesFrom, linesOf}
@@ -87,7 +83,8 @@ worked-through p line m xs b t last n f rest d =
     let w = after opening (g .lines) in
     let ls = linesFrom (g .unended) rest in
     let end : printedBy w ls ++ lastOf (after w ls) ≡ take n last =
-    ⊎-elim (λ e. ap (λ (z : List ℕ). printedBy w (linesFrom (g .unended) z) ++ lastOf (after w (linesFrom (g .unended) z))) e ∙ sym (f .prints w (g .unended) (g .held)))
+    ⊎-elim (λ e. ap (λ (z : List ℕ). printedBy w (linesFrom (g .unended) z) ++ lastOf (after w (linesFrom (g .unended) z))) e ∙ sym
+    (f .prints w (g .unended) (g .held)))
     (λ e. same-end w ls (linesFrom (g .unended) []) (over-still (reached p xs) (memoryLeft m xs) w (g .held .stands) e)
     ∙ sym (f .prints w (g .unended) (g .held))) d in
     sym

@@ -1,13 +1,6 @@
 -- Sums of records, and what a line makes of a capture's standing.
-use mathlib.Core.Path.{_≡_, refl, sym, ap, _∙_}
-use mathlib.Core.Bool.{Bool, true, false, cond}
-use mathlib.Core.List.{List, [], _∷_, _++_, append-assoc, append-nil}
-use mathlib.Core.Option.{Option, none, some}
-use Prim.Native.Nat.{ℕ, zero, suc, _+_, _-_, _≤_, _<_}
-use native.Mathlib.Omega.{arith}
-use lib.Dec.{eqb, ltb}
-use lib.ListN.{length, take, length-append}
-use borrow.Author.Tests.{lt-ltb, le-ltb, ltb-true, ltb-false}
+use Rattle.words.specs.Words.{_≡_, arith, ℕ, _≤_, _+_, List, length, _<_, refl, _∙_, sym, ap, _-_, [], some, _∷_, suc, true, zero, none, false, _++_, Bool}
+use Rattle.words.specs.Words.{Option, take, cond, ltb, eqb, length-append, lt-ltb, append-assoc, append-nil, le-ltb, ltb-true, ltb-false}
 use Rattle.wire.specs.declared.Setting.{Setting}
 use Rattle.history.specs.Model.{State}
 use Rattle.printing.specs.Printed.{recordLine}

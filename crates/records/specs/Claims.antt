@@ -1,12 +1,5 @@
 -- What is claimed of what is printed (proofs/Claims), in the words of document 02, No. 4, and of the receiver's history.
-use mathlib.Core.Path.{_≡_}
-use mathlib.Core.Logic.{_↔_, _≢_}
-use mathlib.Core.Bool.{cond}
-use mathlib.Core.List.{List, [], _∷_, _++_}
-use mathlib.Core.Option.{Option, none, some}
-use Prim.Native.Nat.{ℕ, _+_, _≤_}
-use lib.Dec.{eqb}
-use lib.ListN.{length, take}
+use Rattle.words.specs.Words.{_≡_, ℕ, _≤_, _+_, List, length, [], some, _∷_, none, _++_, Option, _≢_, take, cond, eqb, _↔_}
 use Rattle.wire.specs.declared.Setting.{Setting}
 use Rattle.wire.specs.Settings.{schemeNumber, Valid}
 use Rattle.wire.specs.Answers.{Said, value, refusal}

@@ -1,21 +1,15 @@
 -- Computed from the definitions: document 02's sample, answers of each kind, inputs that end without 0A, and bad first lines.
-use mathlib.Core.Path.{_≡_, refl}
-use mathlib.Core.List.{List, [], _∷_, map}
-use Prim.Native.Nat.{ℕ}
+use Rattle.words.specs.Words.{_≡_, ℕ, List, refl, [], some, _∷_, none, map}
 use Prim.Native.String.{String}
 use Rattle.tinymt.specs.Generator.{computing}
 use Rattle.field.specs.Gf256.{product, inverse, inverse-below}
 use Rattle.memory.specs.Part.{part}
 use Rattle.rows.specs.Combination.{combination}
-use mathlib.Core.Option.{none, some}
 use Rattle.wire.specs.declared.Scheme.the-variants.{Gf2, Gf256}
 use Rattle.wire.specs.Settings.{inRange, settingOf}
-use Rattle.wire.specs.Packets.{symbolCount, adui, sourceSymbols, sourceForm, sourceAdu, sourceEsi}
-use Rattle.wire.specs.Packets.{repairCount, repairForm, repairKey, densityThreshold, protectedCount, firstEsi, repairSymbols}
+use Rattle.wire.specs.Packets.{symbolCount, adui, sourceSymbols, sourceForm, sourceAdu, sourceEsi, repairCount, repairForm, repairKey, densityThreshold}
+use Rattle.wire.specs.Packets.{protectedCount, firstEsi, repairSymbols}
 use Rattle.coefficients.specs.Coefficients.{nonzeroFrom, bitOf, byteOf, extend, coefficientsOf}
-use Rattle.decoder.specs.Model as model
-use Rattle.decoder.specs.Receiver as decoder
-use Rattle.decoder.specs.Packets as packets
 use Rattle.history.specs.History.{halfway, sideOf, check, farthest, fromSide, readSource, readRepair, reading}
 use Rattle.history.specs.Model.{answering}
 use Rattle.text.specs.Text.{ascii, digit, decimalWithin, decimal}
@@ -24,6 +18,9 @@ use Rattle.lines.specs.Lines.{linesFrom}
 use Rattle.lines.specs.Reading.{after, numberFrom, numberIn, valueOf, bytesIn, valuesIn, repairIn, sourceIn, callIn}
 use Rattle.records.specs.Records.{total, recordLines, summary}
 use Rattle.records.specs.Replay.{recordsFrom, settingNamed, printedWith, printedLines, printed}
+use Rattle.decoder.specs.Model as model
+use Rattle.decoder.specs.Receiver as decoder
+use Rattle.decoder.specs.Packets as packets
 
 -- what is printed of a text
 abbrev of : String → List ℕ

@@ -1,10 +1,5 @@
 -- A capture that is handed over in pieces: any number of calls of `feed`, one after the other, and then `finish`.
-use mathlib.Core.Path.{_≡_}
-use mathlib.Core.Logic.{_⊎_}
-use mathlib.Core.Bool.{true}
-use mathlib.Core.List.{List, [], _∷_, _++_}
-use Prim.Native.Nat.{ℕ, _≤_}
-use lib.ListN.{length, take}
+use Rattle.words.specs.Words.{_≡_, ℕ, _≤_, List, length, [], _∷_, true, _++_, take, _⊎_}
 use Rattle.wire.specs.declared.Setting.{Setting}
 use Rattle.lines.specs.Promises.{AllUnbroken, Unbroken, joined}
 use Rattle.records.specs.declared.Progress.{Progress}

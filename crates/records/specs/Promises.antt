@@ -1,11 +1,6 @@
 -- What the calls that work through a capture promise. p is the progress, line the bytes kept of a line that has not ended, m the receiver's memory;
 -- p′, line′, m′ these afterwards.
-use mathlib.Core.Path.{_≡_}
-use mathlib.Core.Bool.{Bool, true, false}
-use mathlib.Core.List.{List, [], _++_}
-use Prim.Native.Nat.{ℕ, _≤_, _<_}
-use lib.Dec.{leb}
-use lib.ListN.{length, take}
+use Rattle.words.specs.Words.{_≡_, ℕ, _≤_, List, length, _<_, [], true, false, _++_, Bool, take, leb}
 use Rattle.lines.specs.Lines.{linesFrom}
 use Rattle.records.specs.declared.Stage.{Stage}
 use Rattle.records.specs.declared.Stage.the-variants.{Opening, Working, Closed}

@@ -1,9 +1,5 @@
 -- The records of packet lines, their lines and their sums (document 02, No. 4), and the limits.
-use mathlib.Core.Bool.{cond}
-use mathlib.Core.List.{List, [], _∷_, _++_}
-use Prim.Native.Nat.{ℕ, _+_}
-use lib.Dec.{eqb}
-use lib.ListN.{length}
+use Rattle.words.specs.Words.{ℕ, _+_, List, length, [], _∷_, _++_, cond, eqb}
 use Rattle.printing.specs.Printed.{recordLine, lastLine}
 use Rattle.records.specs.declared.Record.{Record}
 

@@ -1,11 +1,6 @@
 -- What is printed of a capture, as a definition that computes. That it is what document 02 asks for is claimed in the history's words (Claims): a
 -- reader need not believe this.
-use mathlib.Core.Bool.{cond, _&&_}
-use mathlib.Core.List.{List, [], _∷_, _++_}
-use mathlib.Core.Option.{Option, none, some}
-use Prim.Native.Nat.{ℕ}
-use lib.Dec.{leb}
-use lib.ListN.{length, take}
+use Rattle.words.specs.Words.{ℕ, List, length, [], some, _∷_, none, _++_, Option, take, cond, leb, _&&_}
 use Rattle.wire.specs.declared.Setting.{Setting}
 use Rattle.wire.specs.Settings.{settingOf}
 use Rattle.wire.specs.Answers.{Said, value, refusal}

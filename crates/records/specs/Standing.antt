@@ -1,11 +1,5 @@
 -- Where a capture stands after lines of it, and what is printed on the way. The claims need only that it is kept: a reader need not believe it.
-use mathlib.Core.Path.{_≡_}
-use mathlib.Core.Bool.{cond}
-use mathlib.Core.List.{List, [], _∷_, _++_}
-use mathlib.Core.Option.{Option, none, some}
-use Prim.Native.Nat.{ℕ, _+_, _*_, _≤_, min}
-use lib.Dec.{ltb}
-use lib.ListN.{length, take}
+use Rattle.words.specs.Words.{_≡_, ℕ, _≤_, _+_, List, length, [], some, _∷_, none, _*_, _++_, Option, take, cond, ltb, min}
 use Rattle.wire.specs.declared.Setting.{Setting}
 use Rattle.history.specs.Model.{State, opened}
 use Rattle.holding.specs.Layout.{Holds}

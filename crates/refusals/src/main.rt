@@ -10,9 +10,7 @@
 // a  adds an ADU with flow 1               k  makes repair with key 1: DT, count
 // p  receives a source packet with flow 1  q  receives a repair packet
 // y  shows the symbol with an ESI          h  hands out the ADU that begins at an ESI
-ghost use mathlib.Core.Path.{_≡_};
-ghost use Prim.Native.Nat.{_≤_};
-ghost use lib.ListN.{length};
+ghost use Rattle.words.specs.Words.{_≡_, _≤_, length};
 use libc::STDIN_FILENO;
 use report::print;
 use wire::RepairKey;

@@ -1,12 +1,15 @@
 -- What a line's end makes of a capture's standing in memory.
-use mathlib.Core.Path.{_≡_, refl, sym, ap, _∙_, subst}
-use mathlib.Core.Bool.{Bool, true, false, cond}
-use mathlib.Core.List.{List, [], _∷_, _++_, append-nil}
-use mathlib.Core.Option.{Option, none, some}
-use Prim.Native.Nat.{ℕ, _+_, _-_, _%_, _^_, _≤_, _<_}
-use native.Mathlib.Omega.{arith}
-use lib.Dec.{eqb}
-use lib.ListN.{length, take, length-append}
+-- Index
+--   moved-counts: a progress that moves keeps its sums
+--   one-or-none
+--   counted: a record more
+--   first-opened: it opened a receiver, or did not
+--   first-closed
+--   packet-past: the most have been read
+--   packet-read: a record is printed
+--   line-opening, line-working, line-closed
+use Rattle.words.specs.Words.{_≡_, arith, ℕ, _≤_, _+_, List, length, _<_, refl, _∙_, sym, ap, _-_, [], some, _%_, _∷_, true, none, false, _++_, Bool, subst}
+use Rattle.words.specs.Words.{Option, _^_, take, cond, eqb, length-append, append-nil}
 use Rattle.wire.specs.declared.Setting.{Setting}
 use Rattle.printing.specs.Printed.{recordLine}
 use Rattle.printing.specs.Inner.{Put}

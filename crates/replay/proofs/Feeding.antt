@@ -1,14 +1,17 @@
 -- A piece of the input: up to the end of its first line, and line by line.
-use mathlib.Core.Path.{_≡_, refl, sym, ap, _∙_, subst}
-use mathlib.Core.Bool.{Bool, true, false, _&&_, not}
-use mathlib.Core.List.{List, [], _∷_, _++_, append-assoc, append-nil}
-use Prim.Native.Nat.{ℕ, zero, suc, _+_, _-_, _≤_, _<_}
-use native.Mathlib.Numerals.{add-one}
-use native.Mathlib.Omega.{arith}
-use lib.Dec.{ltb, leb}
-use lib.ListN.{length, take, drop, length-drop}
-use lib.Seq.{take-all, take-suc, take-add}
-use borrow.Author.Tests.{lt-ltb, ltb-true, leb-true}
+-- Index
+--   fed-part: the line does not end in the piece
+--   fed-line: the line ends in it
+--   Running: a capture that began a piece with p₀, line₀ and m₀ has come to here
+--   starts
+--   left: what is left of the piece
+--   taken-more: some of it was taken, and no more than there is
+--   runs
+--   wanted: a line is to be taken
+--   fed: the piece was worked through
+use Rattle.words.specs.Words.{_≡_, arith, ℕ, _≤_, _+_, List, length, _<_, refl, _∙_, sym, ap, _-_, [], _∷_, suc, true, zero, false, _++_, Bool, subst, drop}
+use Rattle.words.specs.Words.{take, ltb, leb, _&&_, add-one, lt-ltb, append-assoc, length-drop, leb-true, append-nil, ltb-true, not, take-all}
+use lib.Seq.{take-suc, take-add}
 use Rattle.memory.specs.Part.{part}
 use Rattle.wire.proofs.Settings.{both}
 use Rattle.lines.specs.Lines.{linesFrom}

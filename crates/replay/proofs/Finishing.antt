@@ -1,8 +1,5 @@
 -- The input's end.
-use mathlib.Core.Path.{_≡_, refl, sym, ap, _∙_, subst}
-use mathlib.Core.List.{List, [], _∷_, _++_, append-nil}
-use Prim.Native.Nat.{ℕ}
-use native.Mathlib.Omega.{arith}
+use Rattle.words.specs.Words.{_≡_, arith, ℕ, List, refl, _∙_, sym, ap, [], _∷_, _++_, subst, append-nil}
 use Rattle.printing.specs.Printed.{lastLine}
 use Rattle.printing.specs.Inner.{Put}
 use Rattle.lines.specs.Lines.{linesFrom}

@@ -1,8 +1,5 @@
 -- Contracts of inner functions.
-use mathlib.Core.Path.{_≡_}
-use mathlib.Core.List.{List, [], _∷_, _++_}
-use Prim.Native.Nat.{ℕ, _+_, _≤_, _<_}
-use lib.ListN.{length, take}
+use Rattle.words.specs.Words.{_≡_, ℕ, _≤_, _+_, List, length, _<_, [], _∷_, _++_, take}
 use Rattle.printing.specs.Printed.{lastLine}
 use Rattle.lines.specs.Lines.{linesFrom}
 use Rattle.records.specs.declared.Record.{Record}

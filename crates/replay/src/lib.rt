@@ -1,13 +1,8 @@
 // Working through a capture (document 02, No. 4): the receiver's calls that its lines name, and what is printed of them. The input comes in pieces of any
 // size, and no more is kept of it than a line.
-ghost use mathlib.Core.Path.{_≡_};
-ghost use mathlib.Core.Bool.{cond, _&&_, not};
-ghost use Prim.Native.Nat.{_+_, _≤_};
-ghost use lib.Dec.{eqb, ltb, leb};
-ghost use lib.ListN.{length};
+ghost use Rattle.words.specs.Words.{_≡_, _≤_, _+_, length, cond, ltb, leb, eqb, _&&_, not};
 ghost use Rattle.records.specs.Promises.{isOver, Begun, Fed, Finished};
-ghost use Rattle.replay.specs.Inner.{Lent, Counted, movedTo};
-ghost use Rattle.replay.specs.Inner.{FirstEnded, PacketEnded, LineEnded, LineFed, InputEnded};
+ghost use Rattle.replay.specs.Inner.{Lent, Counted, movedTo, FirstEnded, PacketEnded, LineEnded, LineFed, InputEnded};
 use records::Pass;
 use records::Progress;
 use records::Record;

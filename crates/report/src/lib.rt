@@ -1,5 +1,5 @@
 // What the printing programs share: numbers, bytes in hexadecimal and refusals on standard output, and calls whose answers are printed.
-ghost use Prim.Native.Nat.{_<_};
+ghost use Rattle.words.specs.Words.{_<_};
 use libc::STDOUT_FILENO;
 use receiver::PacketAnswer;
 use sender::RepairAnswer;

@@ -1,13 +1,7 @@
 -- Laws of `combined` and `combination`.
-use mathlib.Core.Path.{_≡_, refl, sym, ap, _∙_}
-use Prim.Native.Nat.{ℕ, zero, suc, _+_, _*_, _≤_, _<_}
-use native.Mathlib.Nat.{le-of-suc-le-suc, not-suc-le-zero}
-use native.Mathlib.Numerals.{add-one}
-use native.Mathlib.Omega.{arith}
-use mathlib.Core.List.{List, []}
-use lib.Bits.{bitXor, xor-zero-r}
-use lib.ListN.{length, getD, replicate, length-replicate, getD-replicate}
-use lib.Seq.{ext-getD}
+use Rattle.words.specs.Words.{_≡_, arith, ℕ, _≤_, _+_, List, length, _<_, refl, _∙_, sym, ap, [], suc, zero, _*_, getD, add-one, bitXor, not-suc-le-zero}
+use Rattle.words.specs.Words.{le-of-suc-le-suc, replicate, xor-zero-r, ext-getD, length-replicate}
+use lib.ListN.{getD-replicate}
 use Rattle.field.specs.Gf256.{product}
 use Rattle.field.proofs.Xor.{xor-assoc}
 use Rattle.memory.proofs.Parts.{row-fits, length-part}

@@ -1,14 +1,8 @@
 -- A combination of rows, digit by digit of the coefficients: the rows whose coefficients are odd, added to twice the combination that has
 -- the halves of the coefficients.
-use mathlib.Core.Path.{_≡_, refl, sym, ap, ap₂, _∙_}
-use Prim.Native.Nat.{ℕ, zero, suc, _+_, _/_, _%_, _^_, _≤_, _<_}
+use Rattle.words.specs.Words.{_≡_, arith, ℕ, _≤_, _+_, List, length, _<_, refl, _∙_, sym, ap, _%_, suc, zero, getD, _^_, ap₂, _/_, add-one, bitXor, ext-getD}
+use Rattle.words.specs.Words.{xor-comm}
 use native.Mathlib.Nat.{pow-suc, div-div-eq-div-mul, div-eq-of-lt, div-one}
-use native.Mathlib.Numerals.{add-one}
-use native.Mathlib.Omega.{arith}
-use mathlib.Core.List.{List}
-use lib.Bits.{bitXor, xor-comm}
-use lib.ListN.{length, getD}
-use lib.Seq.{ext-getD}
 use Rattle.field.specs.Gf256.{product, power, inverse}
 use Rattle.field.proofs.Xor.{xor-assoc}
 use Rattle.field.proofs.Laws.{product-sum-right, product-inverse}

@@ -1,10 +1,7 @@
 -- Laws of `addScaled` and `scaled`.
-use mathlib.Core.Path.{_≡_, refl, sym, ap, _∙_}
-use Prim.Native.Nat.{ℕ, zero, suc, _<_}
-use native.Mathlib.Nat.{le-of-suc-le-suc, not-suc-le-zero}
-use mathlib.Core.List.{List, [], _∷_}
-use lib.Bits.{bitXor, xor-zero-r}
-use lib.ListN.{length, getD, replicate, length-map}
+use Rattle.words.specs.Words.{_≡_, ℕ, List, length, _<_, refl, _∙_, sym, ap, [], _∷_, suc, zero, getD, bitXor, not-suc-le-zero, le-of-suc-le-suc, replicate}
+use Rattle.words.specs.Words.{xor-zero-r}
+use lib.ListN.{length-map}
 use Rattle.field.specs.Gf256.{product}
 use Rattle.field.proofs.Laws.{product-zero, product-zero-right, product-one, product-assoc}
 use Rattle.memory.specs.Number.{Bytes}

@@ -3,22 +3,16 @@
 -- one after the other: joined-more; carried-none, carried-more, carried-all (record Carried); getD-map-in, length-symbols, getD-symbols
 -- the packet: symbols-of, packed-refused, packed-done; sized-map, sized, counted, length-packet, draws-packet
 -- the call: repairs, repair-made, refused-made
-use mathlib.Core.Path.{_≡_, refl, sym, ap, _∙_}
-use mathlib.Core.Bool.{Bool, true, false, _||_, not}
-use mathlib.Core.Option.{some, Option·some-injective}
-use Prim.Native.Nat.{ℕ, zero, suc, _+_, _*_, _%_, _^_, _≤_, _<_}
-use native.Mathlib.Nat.{zero-mul, add-mul, one-mul, mul-le-mul, le-of-suc-le-suc, not-suc-le-zero}
-use native.Mathlib.Numerals.{add-one}
-use native.Mathlib.Omega.{arith}
-use mathlib.Core.List.{List, [], _∷_, _++_, map, append-nil, append-assoc}
-use lib.ListN.{length, take, getD, replicate, length-append, length-map, take-append-drop}
-use lib.Seq.{take-suc, take-all}
+use Rattle.words.specs.Words.{_≡_, arith, ℕ, _≤_, _+_, List, length, _<_, refl, _∙_, sym, ap, [], some, _%_, _∷_, suc, true, zero, _*_, getD, false, _++_, Bool}
+use Rattle.words.specs.Words.{_^_, take, ltb, Option·some-injective, map, add-one, length-append, not-suc-le-zero, le-of-suc-le-suc, zero-mul, append-assoc}
+use Rattle.words.specs.Words.{replicate, append-nil, _||_, not, take-all, mul-le-mul, take-append-drop, one-mul}
+use native.Mathlib.Nat.{add-mul}
+use lib.ListN.{length-map}
+use lib.Seq.{take-suc}
 use Rattle.memory.specs.Part.{part, splice}
 use Rattle.memory.proofs.Parts.{splice-next, take-new, cons-eq}
-use lib.Dec.{ltb}
 use Rattle.wire.specs.declared.Scheme.{Scheme}
 use Rattle.wire.specs.declared.Refusal.{Refusal}
-use Rattle.wire.specs.declared.Refusal.the-variants as refusals
 use Rattle.wire.specs.Numbers.{within, esiBefore}
 use Rattle.wire.specs.Packets.{Sized, joined, chunks, repairHeader, repairPacket}
 use Rattle.wire.proofs.Adui.{front-next, length-chunks, getD-chunks}
@@ -41,6 +35,7 @@ use Rattle.sender.specs.Inner.{firstSlot, windowIn, Laid, symbolsFrom, p
 use Rattle.sender.proofs.Heads.{Opened, opened}
 use Rattle.sender.proofs.Promising.{promise-refused, promise-done}
 use Rattle.sender.proofs.Repairing.{length-stored, getD-stored, packet-of, written-small, repairing-draws, repairing-done}
+use Rattle.wire.specs.declared.Refusal.the-variants as refusals
 
 -- ---- one repair symbol
 

@@ -3,17 +3,10 @@
 -- reading: found, none-short, none-held, none-next, none-setting; opened (record Opened)
 -- refusal 3: holds-header, zeros-unopened, other-unopened, short-unopened
 -- writing: part-head, header-kept; counts-chain, counts-held, counts-next, counts-esi, counts-written
-use mathlib.Core.Path.{_≡_, refl, sym, ap, _∙_}
-use mathlib.Core.Bool.{Bool, true, false, _&&_}
-use mathlib.Core.Option.{Option, none, some, Option·none-ne-some, Option·some-injective}
-use Prim.Native.Nat.{ℕ, _+_, _*_, _^_, _≤_, _<_}
-use native.Mathlib.Nat.{zero-add, mul-le-mul}
-use native.Mathlib.Omega.{arith}
-use mathlib.Core.List.{List, _++_}
-use lib.ListN.{length, take, length-take}
+use Rattle.words.specs.Words.{_≡_, arith, ℕ, _≤_, _+_, List, length, _<_, refl, _∙_, sym, ap, some, true, none, _*_, false, _++_, Bool, Option, _^_, take, ltb}
+use Rattle.words.specs.Words.{leb, le-leb, _&&_, Option·some-injective, Option·none-ne-some, lt-leb, lt-ltb, zero-add, leb-true, le-ltb, ltb-true, length-take}
+use Rattle.words.specs.Words.{mul-le-mul}
 use lib.Seq.{take-take}
-use lib.Dec.{leb, ltb}
-use borrow.Author.Tests.{le-leb, lt-leb, lt-ltb, le-ltb, leb-true, ltb-true}
 use Rattle.memory.specs.Part.{part, splice}
 use Rattle.memory.specs.Number.{number, bytes}
 use Rattle.memory.proofs.Number.{number-bytes}

@@ -1,13 +1,6 @@
 -- Coefficients laid by slot, one after the other around the window.
-use mathlib.Core.Path.{_≡_, refl, sym, ap, ap₂, _∙_}
-use Prim.Native.Nat.{ℕ, zero, suc, _+_, _-_, _%_, _≤_, _<_}
-use native.Mathlib.Nat.{add-zero, mod-lt, mod-eq-of-lt, mod-add-mod}
-use native.Mathlib.Numerals.{add-one}
-use native.Mathlib.Decide.{ℕ-discrete}
-use native.Mathlib.Omega.{arith}
-use mathlib.Core.List.{List, [], _∷_}
-use lib.Bits.{bitXor, xor-zero-r, xor-comm}
-use lib.ListN.{length, take, getD, set, length-set}
+use Rattle.words.specs.Words.{_≡_, arith, ℕ, _≤_, _+_, List, length, _<_, refl, _∙_, sym, ap, [], _%_, _∷_, suc, zero, getD, take, ap₂, mod-lt, ℕ-discrete}
+use Rattle.words.specs.Words.{add-zero, add-one, bitXor, mod-eq-of-lt, mod-add-mod, set, length-set, xor-zero-r, xor-comm}
 use lib.Seq.{getD-set-same, getD-set-other}
 use Rattle.field.specs.Gf256.{product}
 use Rattle.field.proofs.Xor.{xor-assoc}

@@ -1,11 +1,6 @@
 -- From the case that a call came to, to what it promises.
-use mathlib.Core.Path.{_≡_, refl, sym, ap, subst, _∙_}
-use mathlib.Core.Option.{none, some, Option·none-ne-some, Option·some-injective}
-use Prim.Native.Nat.{ℕ, _+_, _≤_, _<_}
-use native.Mathlib.Omega.{arith}
-use mathlib.Core.List.{List, []}
-use lib.ListN.{length, drop}
-use borrow.Author.Tests.{lt-ltb, le-ltb}
+use Rattle.words.specs.Words.{_≡_, arith, ℕ, _≤_, _+_, List, length, _<_, refl, _∙_, sym, ap, [], some, none, subst, drop, Option·some-injective}
+use Rattle.words.specs.Words.{Option·none-ne-some, lt-ltb, le-ltb}
 use Rattle.memory.specs.Part.{splice}
 use Rattle.memory.proofs.Parts.{length-splice, past-splice}
 use Rattle.wire.specs.declared.Refusal.{Refusal}

@@ -1,15 +1,9 @@
 -- Making repair: the window as the memory has it is the sender's, the lists of coefficients give the packet's symbols, and what each case of the call
 -- comes to.
-use mathlib.Core.Path.{_≡_, refl, sym, ap, _∙_}
-use mathlib.Core.Bool.{Bool, true, false, cond, _||_, not}
-use Prim.Native.Nat.{ℕ, zero, suc, _+_, _-_, _*_, _%_, _^_, _≤_, _<_, min}
-use native.Mathlib.Nat.{mod-eq-of-lt, add-mod-left, add-mod-right, mod-add-mod, not-suc-le-zero, le-of-suc-le-suc, add-zero}
-use native.Mathlib.Omega.{arith}
-use mathlib.Core.List.{List, []}
-use lib.ListN.{length, getD}
-use lib.Dec.{eqb, ltb, lit<}
-use lib.Seq.{ext-getD, getD-drop}
-use borrow.Author.Tests.{lt-ltb, le-ltb, eq-eqb, ne-eqb}
+use Rattle.words.specs.Words.{_≡_, arith, ℕ, _≤_, _+_, List, length, _<_, refl, _∙_, sym, ap, _-_, [], _%_, suc, true, zero, _*_, getD, false, Bool, _^_, cond}
+use Rattle.words.specs.Words.{ltb, eqb, add-zero, ne-eqb, lt-ltb, mod-eq-of-lt, not-suc-le-zero, mod-add-mod, eq-eqb, le-of-suc-le-suc, lit<, le-ltb, _||_, not}
+use Rattle.words.specs.Words.{min, getD-drop, add-mod-right, ext-getD}
+use native.Mathlib.Nat.{add-mod-left}
 use Rattle.memory.specs.Part.{part}
 use Rattle.wire.specs.declared.Scheme.{Scheme}
 use Rattle.wire.specs.declared.Scheme.the-variants.{Gf2, Gf256}

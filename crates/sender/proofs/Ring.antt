@@ -1,11 +1,7 @@
 -- The window's symbols stand in the slots of their positions modulo the width: what one symbol more does.
-use mathlib.Core.Path.{_≡_, refl, sym, _∙_}
-use Prim.Native.Nat.{ℕ, _+_, _-_, _*_, _/_, _%_, _≤_, _<_}
-use native.Mathlib.Nat.{mul-le-mul-left, mul-le-mul-right, mul-suc, suc-mul, div-add-mod, mod-lt, mod-add-mod}
-use native.Mathlib.Decide.{ℕ-discrete, decLt}
-use native.Mathlib.Omega.{arith}
-use mathlib.Core.List.{List, [], _∷_, _++_, append-assoc, append-nil}
-use lib.ListN.{length, getD, length-append, List·getD-append}
+use Rattle.words.specs.Words.{_≡_, arith, ℕ, _≤_, _+_, List, length, _<_, refl, _∙_, sym, [], _%_, _∷_, _*_, getD, _++_, mod-lt, _/_, ℕ-discrete, decLt}
+use Rattle.words.specs.Words.{length-append, mod-add-mod, append-assoc, append-nil, suc-mul, List·getD-append, mul-le-mul-right}
+use native.Mathlib.Nat.{mul-le-mul-left, mul-suc, div-add-mod}
 use lib.Seq.{getD-append-seam}
 use Rattle.memory.specs.Part.{part, splice}
 use Rattle.memory.proofs.Parts.{length-splice, take-splice, part-splice, part-before, part-past, past-splice}

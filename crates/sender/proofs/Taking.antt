@@ -1,13 +1,8 @@
 -- Taking an ADU into the window: the header and the slots afterwards are those of the sender that took it.
-use mathlib.Core.Path.{_≡_, refl, sym, ap, _∙_}
-use mathlib.Core.Option.{some, Option·some-injective}
-use Prim.Native.Nat.{ℕ, _+_, _-_, _*_, _%_, _^_, _≤_, _<_, min}
-use native.Mathlib.Nat.{mod-lt, mod-add-mod, not-suc-le-zero, zero-mod}
-use native.Mathlib.Omega.{arith}
-use mathlib.Core.List.{List, []}
-use lib.ListN.{length, drop, length-append, length-drop}
+use Rattle.words.specs.Words.{_≡_, arith, ℕ, _≤_, _+_, List, length, _<_, refl, _∙_, sym, ap, _-_, [], some, _%_, _*_, drop, _^_, mod-lt, Option·some-injective}
+use Rattle.words.specs.Words.{length-append, not-suc-le-zero, mod-add-mod, length-drop, lit<, min}
+use native.Mathlib.Nat.{zero-mod}
 use lib.Seq.{drop-nil}
-use lib.Dec.{lit<}
 use Rattle.memory.specs.Part.{part, splice}
 use Rattle.memory.proofs.Parts.{part-drop, length-splice, past-splice}
 use Rattle.wire.specs.declared.Setting.{Setting}

@@ -1,11 +1,6 @@
 -- What each call of a sender comes to (document 01, "Packets"): the refusals in their order ("Why a call says no"), else the packet that is written
 -- and the sender after it. Refusal 3 comes before all of these.
-use mathlib.Core.Bool.{Bool, cond, _||_, not}
-use mathlib.Core.Option.{Option, none, some}
-use Prim.Native.Nat.{ℕ, _+_, _*_, _%_, _^_}
-use mathlib.Core.List.{List, [], map}
-use lib.ListN.{length}
-use lib.Dec.{eqb, ltb}
+use Rattle.words.specs.Words.{ℕ, _+_, List, length, [], some, _%_, none, _*_, Bool, Option, _^_, cond, ltb, eqb, map, _||_, not}
 use Rattle.wire.specs.declared.Setting.{Setting}
 use Rattle.wire.specs.Numbers.{within}
 use Rattle.wire.specs.Settings.{settingOf}

@@ -1,11 +1,7 @@
 -- Contracts of inner functions: a reader need not believe these.
 -- They speak of a memory and of the header that was read from it, whether or not the memory holds a sender.
-use mathlib.Core.Path.{_≡_}
-use mathlib.Core.Bool.{Bool, true, false}
-use mathlib.Core.Option.{Option, none, some}
-use Prim.Native.Nat.{ℕ, zero, suc, _+_, _-_, _*_, _%_, _≤_, _<_}
-use mathlib.Core.List.{List, [], _∷_, _++_, map}
-use lib.ListN.{length, take, drop, getD}
+use Rattle.words.specs.Words.{_≡_, ℕ, _≤_, _+_, List, length, _<_, _-_, [], some, _%_, _∷_, suc, true, zero, none, _*_, getD, false, _++_, Bool, Option, drop}
+use Rattle.words.specs.Words.{take, map}
 use Rattle.memory.specs.Part.{part, splice}
 use Rattle.memory.specs.Number.{bytes}
 use Rattle.wire.specs.declared.Refusal.the-variants.{Draws}

@@ -1,10 +1,6 @@
 -- What the public calls of a sender promise: of the answer, of every byte of output and memory, and of the sender that the memory holds afterwards.
 -- m, out and r are memory, output and answer; m′ and out′ memory and output afterwards.
-use mathlib.Core.Path.{_≡_}
-use mathlib.Core.Option.{none, some}
-use Prim.Native.Nat.{ℕ, _≤_}
-use mathlib.Core.List.{List, []}
-use lib.ListN.{length, take, drop}
+use Rattle.words.specs.Words.{_≡_, ℕ, _≤_, List, length, [], some, none, drop, take}
 use Rattle.memory.specs.Part.{splice}
 use Rattle.memory.specs.Contained.{Contained}
 use Rattle.wire.specs.Answers.{Said, value, refusal, said}

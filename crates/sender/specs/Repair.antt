@@ -1,10 +1,6 @@
 -- Repair symbols (document 01, "Packets"; RFC 8681, sections 3.3 and 4.1.3): each byte of one is the XOR, over the window, of coefficient times
 -- source byte, and its key gives the coefficients.
-use mathlib.Core.Bool.{cond}
-use Prim.Native.Nat.{ℕ}
-use mathlib.Core.List.{List}
-use lib.ListN.{length}
-use lib.Dec.{eqb}
+use Rattle.words.specs.Words.{ℕ, List, length, cond, eqb}
 use Rattle.rows.specs.Combination.{combination}
 use Rattle.wire.specs.declared.Scheme.{Scheme}
 use Rattle.wire.specs.declared.Scheme.the-variants.{Gf2, Gf256}

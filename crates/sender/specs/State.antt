@@ -1,12 +1,6 @@
 -- What a sender is (document 01, "Packets"; RFC 8681, section 3.3), and how its memory holds it: a header, then a slot of E bytes for each
 -- symbol of the window.
-use mathlib.Core.Path.{_≡_}
-use mathlib.Core.Bool.{cond, _&&_}
-use mathlib.Core.Option.{Option, none, some}
-use Prim.Native.Nat.{ℕ, _+_, _-_, _*_, _%_, _^_, _≤_, _<_}
-use mathlib.Core.List.{List, [], _++_}
-use lib.ListN.{length, drop, getD}
-use lib.Dec.{leb, ltb}
+use Rattle.words.specs.Words.{_≡_, ℕ, _≤_, _+_, List, length, _<_, _-_, [], some, _%_, none, _*_, getD, _++_, Option, drop, _^_, cond, ltb, leb, _&&_}
 use Rattle.memory.specs.Part.{part}
 use Rattle.memory.specs.Number.{number}
 use Rattle.wire.specs.declared.Setting.{Setting}

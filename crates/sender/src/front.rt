@@ -1,7 +1,5 @@
 // The header at the front of a sender's memory.
-ghost use mathlib.Core.Path.{_≡_};
-ghost use Prim.Native.Nat.{_<_, _≤_};
-ghost use lib.ListN.{length};
+ghost use Rattle.words.specs.Words.{_≡_, _≤_, length, _<_};
 ghost use Rattle.memory.specs.Part.{splice};
 ghost use Rattle.wire.specs.Settings.{Valid};
 ghost use Rattle.sender.specs.State.{memorySize, headerIn};

@@ -1,8 +1,5 @@
 // The window's slots: the symbol of position p stands in slot p mod width.
-ghost use mathlib.Core.Path.{_≡_};
-ghost use Prim.Native.Nat.{_+_, _*_, _<_, _≤_};
-ghost use lib.ListN.{length};
-ghost use mathlib.Core.Option.{some};
+ghost use Rattle.words.specs.Words.{_≡_, _≤_, _+_, length, _<_, some, _*_};
 ghost use Rattle.memory.specs.Part.{part, splice};
 ghost use Rattle.wire.specs.Packets.{longestAdu, symbolCount, adui};
 ghost use Rattle.sender.specs.State.{headerIn};

@@ -1,9 +1,6 @@
 -- The bench sheet of document 01 (C1 to C12, C10 as document 02 has it), the small examples of its refusals, cases at the limits of place and density,
 -- of joining, of starts and of the ADU call, computed from the definitions that the promises use, from the packets' bytes on: one table, one result.
-use mathlib.Core.Path.{_≡_, refl}
-use mathlib.Core.Option.{Option, none, some}
-use mathlib.Core.List.{List, [], _∷_, _++_, map}
-use Prim.Native.Nat.{ℕ, _*_}
+use Rattle.words.specs.Words.{_≡_, ℕ, List, refl, [], some, _∷_, none, _*_, _++_, Option, map}
 use Rattle.tinymt.specs.Generator.{computing}
 use Rattle.field.specs.Gf256.{product, inverse, inverse-below}
 use Rattle.memory.specs.Part.{part}
@@ -11,13 +8,9 @@ use Rattle.rows.specs.Combination.{combination}
 use Rattle.wire.specs.declared.Scheme.the-variants.{Gf2, Gf256}
 use Rattle.wire.specs.declared.Setting.{Setting}
 use Rattle.wire.specs.Settings.{inRange, settingOf, field, settingIn}
-use Rattle.wire.specs.Packets.{zeros, symbolCount, adui, sourceSymbols, sourcePacket, sourceForm, sourceAdu, sourceEsi}
-use Rattle.wire.specs.Packets.{repairHeader, repairPacket, repairCount, repairForm, repairKey, densityThreshold, protectedCount, firstEsi}
-use Rattle.wire.specs.Packets.{repairSymbols}
+use Rattle.wire.specs.Packets.{zeros, symbolCount, adui, sourceSymbols, sourcePacket, sourceForm, sourceAdu, sourceEsi, repairHeader, repairPacket, repairCount}
+use Rattle.wire.specs.Packets.{repairForm, repairKey, densityThreshold, protectedCount, firstEsi, repairSymbols}
 use Rattle.coefficients.specs.Coefficients.{nonzeroFrom, bitOf, byteOf, extend, coefficientsOf, packetDraws}
-use Rattle.decoder.specs.Model as model
-use Rattle.decoder.specs.Receiver as decoder
-use Rattle.decoder.specs.Packets as packets
 use Rattle.sender.specs.declared.Header.{Header}
 use Rattle.sender.specs.State.{Sender, fresh, headerSize, headerIn}
 use Rattle.sender.specs.Repair.{repairSymbol}
@@ -25,12 +18,15 @@ use Rattle.sender.specs.Calls.{Outcome, refused, done, opening, adding, repairi
 use Rattle.starts.specs.Adu.{joint, Handing, hands, withholds, need, handing}
 use Rattle.starts.specs.Starts.{Starts, nowhere, pass}
 use Rattle.history.specs.Symbol.{bytesOf}
-use Rattle.history.specs.History.{Call, source-call, repair-call, esiOf, sideOf, check, fromSide, readSource, readRepair, reading, workingSize}
+use Rattle.history.specs.History.{Call, source-call, repair-call, esiOf, sideOf, check, fromSide, readSource, readRepair, reading, workingSize, halfway}
+use Rattle.history.specs.History.{farthest}
 use Rattle.wire.specs.Answers.{Said, value, refusal as refuses}
-use Rattle.history.specs.History.{halfway, farthest}
-use Rattle.history.specs.Model as receiver
 use Rattle.receiver.specs.Promises.{drawsFor}
 use Rattle.history.specs.Model.{State, foundBy, saidOf, stateAfter, answering, receiving, Finding, shows, hides, finding, startsAfter, marking, aduAt}
+use Rattle.decoder.specs.Model as model
+use Rattle.decoder.specs.Receiver as decoder
+use Rattle.decoder.specs.Packets as packets
+use Rattle.history.specs.Model as receiver
 
 -- what the symbol call and the part show for an ESI: an answer, and bytes
 pub record Sight : Type 0 where

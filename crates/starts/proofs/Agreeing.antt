@@ -1,12 +1,5 @@
 -- Marks that agree up to the width agree after a packet.
-use mathlib.Core.Path.{_≡_, refl, ap, ap₂, _∙_, sym}
-use mathlib.Core.Bool.{Bool, true, false, _&&_, _||_}
-use mathlib.Core.Option.{Option, none, some}
-use mathlib.Core.List.{List}
-use Prim.Native.Nat.{ℕ, zero, suc, _+_, _≤_}
-use native.Mathlib.Omega.{arith}
-use lib.Dec.{eqb, leb}
-use borrow.Author.Tests.{leb-true}
+use Rattle.words.specs.Words.{_≡_, arith, ℕ, _≤_, _+_, List, refl, _∙_, ap, some, suc, true, zero, none, false, Bool, Option, leb, eqb, _&&_, leb-true, _||_}
 use Rattle.starts.specs.Adu.{needs, View}
 use Rattle.starts.specs.Starts.{Starts, also, moved, onward, pass}
 

@@ -1,12 +1,7 @@
 -- The pass marks what the marks reach: from a marked known position of the window to the position that its L names, and so on.
-use mathlib.Core.Path.{_≡_, refl, sym, ap, subst}
-use mathlib.Core.Logic.{_↔_, _⊎_, inl, inr}
-use mathlib.Core.Bool.{Bool, true, false, false≢true}
-use mathlib.Core.Option.{Option, none, some, Option·none-ne-some, Option·some-injective}
-use mathlib.Core.List.{List}
-use Prim.Native.Nat.{ℕ, zero, suc, _+_, _-_, _*_, _≤_, _<_}
-use native.Mathlib.Nat.{zero-mul, zero-add, add-zero, add-suc}
-use native.Mathlib.Omega.{arith}
+use Rattle.words.specs.Words.{_≡_, arith, ℕ, _≤_, _+_, List, _<_, refl, sym, ap, _-_, some, suc, true, zero, none, _*_, false, Bool, subst, Option, _↔_}
+use Rattle.words.specs.Words.{Option·some-injective, Option·none-ne-some, add-zero, zero-add, _⊎_, inr, inl, zero-mul, add-suc}
+use mathlib.Core.Bool.{false≢true}
 use Rattle.wire.specs.Packets.{symbolCount}
 use Rattle.wire.proofs.Adui.{room}
 use Rattle.starts.specs.Adu.{View, lengthIn, needs}

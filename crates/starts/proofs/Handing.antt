@@ -1,14 +1,11 @@
 -- The ADU call hands out an ADU exactly when the position is marked and the view shows the ADU's symbols from there on.
-use mathlib.Core.Path.{_≡_, refl, sym, ap, ap₂, _∙_, subst}
-use mathlib.Core.Logic.{_↔_}
-use mathlib.Core.Bool.{Bool, true, false}
-use mathlib.Core.Option.{Option, none, some, Option·none-ne-some, Option·some-injective}
-use mathlib.Core.List.{List, [], _∷_, _++_}
-use Prim.Native.Nat.{ℕ, zero, suc, _+_, _*_, _≤_, _<_}
-use native.Mathlib.Omega.{arith}
-use lib.ListN.{length, drop}
-use lib.Dec.{leb}
-use borrow.Author.Tests.{leb-true, le-leb}
+-- Index
+--   flow-of, adu-of, withheld
+--   Shows: the view shows these symbols from the i-th position on
+--   Unpacked: what is handed out at the d-th position
+--   handing-exactly
+use Rattle.words.specs.Words.{_≡_, arith, ℕ, _≤_, _+_, List, length, _<_, refl, _∙_, sym, ap, [], some, _∷_, suc, true, zero, none, _*_, false, _++_, Bool}
+use Rattle.words.specs.Words.{subst, Option, drop, ap₂, leb, _↔_, le-leb, Option·some-injective, Option·none-ne-some, leb-true}
 use Rattle.memory.specs.Part.{part}
 use Rattle.memory.specs.Number.{number, Bytes}
 use Rattle.memory.proofs.Parts.{length-part}
@@ -19,8 +16,7 @@ use Rattle.wire.proofs.Reading.{length-joined, cut-joined}
 use Rattle.starts.specs.Adu.{flowIn, lengthIn, needs, allZero, View, before, joint, Handing, hands, withholds, need, unpack, begin, handing}
 use Rattle.starts.specs.Starts.{Starts}
 use Rattle.starts.proofs.Chaining.{needs-some, symbols-some}
-use Rattle.starts.proofs.Packing.{part-front, joined-chunks, length-small, packed}
-use Rattle.starts.proofs.Packing.{adui-length, adui-flow, adui-adu, adui-padding}
+use Rattle.starts.proofs.Packing.{part-front, joined-chunks, length-small, packed, adui-length, adui-flow, adui-adu, adui-padding}
 
 -- ---- What is handed out
 

@@ -1,14 +1,7 @@
 -- Whole symbols hold an ADUI: its F, its L, the ADU and zero padding are the ADUI that the wire's definition gives, and it reads so.
-use mathlib.Core.Path.{_≡_, refl, sym, ap, ap₂, _∙_, subst}
-use mathlib.Core.Bool.{true}
-use mathlib.Core.List.{List, [], _∷_, _++_}
-use Prim.Native.Nat.{ℕ, zero, suc, _+_, _-_, _*_, _≤_, _<_}
-use native.Mathlib.Nat.{suc-mul, zero-mul}
-use native.Mathlib.Omega.{arith}
-use lib.ListN.{length, take, drop, length-drop, take-append-drop}
-use lib.Seq.{take-append-le, drop-append-le, take-append-seam, drop-append-seam, length-take-le}
-use lib.Dec.{eqb}
-use borrow.Author.Tests.{eqb-true}
+use Rattle.words.specs.Words.{_≡_, arith, ℕ, _≤_, _+_, List, length, _<_, refl, _∙_, sym, ap, _-_, [], _∷_, suc, true, zero, _*_, _++_, subst, drop, take, ap₂}
+use Rattle.words.specs.Words.{eqb, zero-mul, length-drop, eqb-true, suc-mul, take-append-drop, length-take-le, take-append-seam}
+use lib.Seq.{take-append-le, drop-append-le, drop-append-seam}
 use Rattle.memory.specs.Part.{part}
 use Rattle.memory.specs.Number.{bytes, Bytes}
 use Rattle.memory.proofs.Parts.{cons-eq}

@@ -1,15 +1,15 @@
 -- What a turn of the pass leaves open, and marks that are settled.
-use mathlib.Core.Path.{_≡_, refl, sym, ap, _∙_, subst}
-use mathlib.Core.Logic.{_≢_, _⊎_, inl, inr}
-use mathlib.Core.Bool.{Bool, true, false, _&&_, _||_, cond, true≢false}
-use mathlib.Core.Option.{none, some, Option·none-ne-some, Option·some-injective}
-use mathlib.Core.List.{List}
-use Prim.Native.Nat.{ℕ, _+_, _≤_, _<_}
-use native.Mathlib.Nat.{add-assoc}
-use native.Mathlib.Decide.{decLt, ℕ-discrete}
-use native.Mathlib.Omega.{arith}
-use lib.Dec.{eqb, ltb}
-use borrow.Author.Tests.{ne-eqb, le-leb, ltb-true}
+-- Index
+--   open-agree: what is open is so by the marks up to the width alone
+--   skipped: what a turn at i leaves open
+--   noted: where it notes an end past the window
+--   set-end: where it marks the end
+--   reaches-agree, is-pass, settled-agree
+--   pass-settled: the pass settles all but what is past the window, and with that noted, all
+--   unseen-settled: where nothing is seen, all is
+--   nothing-open
+use Rattle.words.specs.Words.{_≡_, arith, ℕ, _≤_, _+_, List, _<_, refl, _∙_, sym, ap, some, true, none, false, Bool, subst, _≢_, cond, ltb, eqb, le-leb, _&&_}
+use Rattle.words.specs.Words.{ℕ-discrete, Option·some-injective, Option·none-ne-some, decLt, ne-eqb, _⊎_, inr, true≢false, inl, _||_, ltb-true, add-assoc}
 use Rattle.starts.specs.Adu.{needs, View}
 use Rattle.starts.specs.Starts.{Starts, also, owning, moved, pass}
 use Rattle.starts.specs.Settled.{Open, Settled, Old, Reaches, seed, next}

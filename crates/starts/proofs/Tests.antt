@@ -1,10 +1,6 @@
 -- Tests that are joined.
-use mathlib.Core.Path.{_≡_, refl}
-use mathlib.Core.Logic.{_↔_, _⊎_, inl, inr}
-use mathlib.Core.Bool.{Bool, true, false, _&&_, _||_, false≢true}
-use Prim.Native.Nat.{ℕ, _+_, _≤_}
-use lib.Dec.{eqb, leb}
-use borrow.Author.Tests.{eqb-true, eq-eqb, leb-true, le-leb}
+use Rattle.words.specs.Words.{_≡_, ℕ, _≤_, _+_, refl, true, false, Bool, leb, eqb, _↔_, le-leb, _&&_, _⊎_, inr, eq-eqb, inl, leb-true, eqb-true, _||_}
+use mathlib.Core.Bool.{false≢true}
 use Rattle.starts.specs.Starts.{Starts, also, moved}
 
 pub or-true : (a b : Bool) → (a || b ≡ true) ↔ ((a ≡ true) ⊎ (b ≡ true))

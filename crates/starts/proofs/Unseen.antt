@@ -1,8 +1,5 @@
 -- No position past the window is known.
-use mathlib.Core.Path.{_≡_, refl}
-use mathlib.Core.Option.{none}
-use Prim.Native.Nat.{ℕ, zero, suc, _≤_}
-use native.Mathlib.Nat.{not-suc-le-zero, le-of-suc-le-suc}
+use Rattle.words.specs.Words.{_≡_, ℕ, _≤_, refl, suc, zero, none, not-suc-le-zero, le-of-suc-le-suc}
 use Rattle.decoder.specs.Field.{Ops}
 use Rattle.decoder.specs.Model.{State, end, free, pivot, known}
 

@@ -1,11 +1,5 @@
 -- Handing out an ADU: F and L of an ADUI, and the ADU call at a position of the window, with its refusals in document 01's order.
-use mathlib.Core.Path.{_≡_}
-use mathlib.Core.Bool.{Bool, true, false, _&&_}
-use mathlib.Core.Option.{Option, none, some}
-use mathlib.Core.List.{List, [], _∷_, _++_}
-use Prim.Native.Nat.{ℕ, zero, suc, _+_, _≤_}
-use lib.ListN.{length, drop, getD}
-use lib.Dec.{eqb, leb}
+use Rattle.words.specs.Words.{_≡_, ℕ, _≤_, _+_, List, length, [], some, _∷_, suc, true, zero, none, getD, false, _++_, Bool, Option, drop, leb, eqb, _&&_}
 use Rattle.memory.specs.Part.{part}
 use Rattle.memory.specs.Number.{number}
 use Rattle.wire.specs.Numbers.{numberOf}

@@ -1,10 +1,5 @@
 -- Marks in which the pass has nothing left to do, and what is to be known of a packet for that. A reader need not believe this.
-use mathlib.Core.Path.{_≡_}
-use mathlib.Core.Logic.{_⊎_}
-use mathlib.Core.Bool.{true, false}
-use mathlib.Core.Option.{some}
-use mathlib.Core.List.{List}
-use Prim.Native.Nat.{ℕ, _+_, _≤_, _<_}
+use Rattle.words.specs.Words.{_≡_, ℕ, _≤_, _+_, List, _<_, some, true, false, _⊎_}
 use Rattle.starts.specs.Adu.{needs, View}
 use Rattle.starts.specs.Starts.{Starts}
 

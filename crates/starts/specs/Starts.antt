@@ -1,10 +1,6 @@
 -- The marks of starts as the receiver computes them: by a position's distance from the base, up to the width.
 -- That these are the history's is proved (crate `claims`): a reader of the claims need not believe it.
-use mathlib.Core.Bool.{Bool, true, false, _&&_, _||_, cond}
-use mathlib.Core.Option.{Option, none, some}
-use mathlib.Core.List.{List}
-use Prim.Native.Nat.{ℕ, zero, suc, _+_}
-use lib.Dec.{eqb, leb, ltb}
+use Rattle.words.specs.Words.{ℕ, _+_, List, some, suc, true, zero, none, false, Bool, Option, cond, ltb, leb, eqb, _&&_, _||_}
 use Rattle.decoder.specs.Symbols.{Tuple}
 use Rattle.decoder.specs.Bytes.{Byte, Coded}
 use Rattle.decoder.specs.Stretch.{bytes-of}

@@ -1,13 +1,6 @@
 -- Laws of the rows of zero bytes: how the draws of a coefficient count them, that a shorter row than sixteen is not refused, and the largest value.
-use mathlib.Core.Path.{_≡_, refl}
-use mathlib.Core.Bool.{Bool, true, false, cond}
-use mathlib.Core.List.{List}
-use Prim.Native.Nat.{ℕ, zero, suc, _+_, _≤_, _<_, max}
-use native.Mathlib.Nat.{not-suc-le-zero}
+use Rattle.words.specs.Words.{_≡_, arith, ℕ, _≤_, _+_, List, _<_, refl, suc, true, zero, false, Bool, cond, leb, eqb, add-one, not-suc-le-zero, max}
 use native.Mathlib.Decide.{le-ind}
-use native.Mathlib.Numerals.{add-one}
-use native.Mathlib.Omega.{arith}
-use lib.Dec.{eqb, leb}
 use Rattle.tinymt.specs.Generator.{startOf, drawOf, low4, low8}
 use Rattle.coefficients.specs.declared.Coefficient.{Coefficient}
 use Rattle.coefficients.specs.Coefficients.{found, lastZero, nonzeroFrom, byteOf}

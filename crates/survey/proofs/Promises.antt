@@ -1,8 +1,5 @@
 -- What a survey shows: a list whose coefficients all have rows of fewer than sixteen zeros is not refused.
-use mathlib.Core.Path.{_≡_, refl}
-use mathlib.Core.Bool.{true}
-use Prim.Native.Nat.{ℕ, zero, suc, _≤_, _<_}
-use native.Mathlib.Omega.{arith}
+use Rattle.words.specs.Words.{_≡_, arith, ℕ, _≤_, _<_, refl, suc, true, zero}
 use Rattle.wire.specs.Numbers.{keyAfter}
 use Rattle.wire.specs.declared.Scheme.{Scheme}
 use Rattle.wire.specs.declared.Scheme.the-variants.{Gf2, Gf256}

@@ -1,7 +1,5 @@
 -- What a survey shows (proofs/Promises): where the longest row has fewer than sixteen zeros, refusal 10 never occurs.
-use mathlib.Core.Path.{_≡_}
-use mathlib.Core.Bool.{true}
-use Prim.Native.Nat.{ℕ, _≤_, _<_}
+use Rattle.words.specs.Words.{_≡_, ℕ, _≤_, _<_, true}
 use Rattle.wire.specs.declared.Scheme.{Scheme}
 use Rattle.coefficients.specs.Coefficients.{lastZero, coefficientsOf, keys, allOk}
 use Rattle.survey.specs.Survey.{longestWithin, longestZeros}

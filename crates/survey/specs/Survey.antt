@@ -1,8 +1,5 @@
 -- The rows of zero bytes drawn for one coefficient of GF(2^8), which end with a byte that is not zero, or with refusal 10 at the sixteenth zero.
-use Prim.Native.Nat.{ℕ, zero, suc, max}
-use mathlib.Core.Bool.{cond}
-use mathlib.Core.List.{List}
-use lib.Dec.{eqb, leb}
+use Rattle.words.specs.Words.{ℕ, List, suc, zero, cond, leb, eqb, max}
 use Rattle.tinymt.specs.Generator.{startOf, drawOf, low4, low8}
 use Rattle.coefficients.specs.Coefficients.{lastZero, byteOf}
 use Rattle.survey.specs.declared.Counted.{Counted}

@@ -1,7 +1,6 @@
 // Prints the longest row of zero bytes drawn for one coefficient of GF(2^8): over every key and density threshold, 255 coefficients each. Sixteen would be
 // refusal 10.
-ghost use mathlib.Core.Path.{_≡_};
-ghost use Prim.Native.Nat.{max};
+ghost use Rattle.words.specs.Words.{_≡_, max};
 ghost use Rattle.survey.specs.Survey.{counted, longestOfKey, longestAt, longestZeros};
 use coefficients::next_coefficient;
 use libc::STDOUT_FILENO;

@@ -1,14 +1,6 @@
 -- A row's first flag: what a store of it changes, and what it says.
-use mathlib.Core.Path.{_≡_, refl, sym, ap, ap₂, _∙_, subst}
-use mathlib.Core.Logic.{_≢_}
-use mathlib.Core.Bool.{true, false, true≢false}
-use mathlib.Core.List.{List, [], _∷_}
-use Prim.Native.Nat.{ℕ, zero, suc, _+_, _≤_, _<_}
-use native.Mathlib.Decide.{ℕ-discrete}
-use native.Mathlib.Omega.{arith}
-use borrow.Author.Tests.{lt-ltb}
-use lib.ListN.{length, getD}
-use lib.Dec.{ltb}
+use Rattle.words.specs.Words.{_≡_, arith, ℕ, _≤_, _+_, List, length, _<_, refl, _∙_, sym, ap, [], _∷_, suc, true, zero, getD, false, subst, _≢_, ap₂, ltb}
+use Rattle.words.specs.Words.{ℕ-discrete, lt-ltb, true≢false}
 use Rattle.memory.specs.Part.{splice}
 use Rattle.memory.proofs.Parts.{length-part, getD-part, row-fits}
 use Rattle.decoder.specs.TableSteps.{total}

@@ -1,11 +1,5 @@
 -- Whether a row has no coefficient but its own: the others or-ed are zero. Its flag says so.
-use mathlib.Core.Path.{_≡_, refl, sym, ap, ap₂, _∙_, subst}
-use mathlib.Core.Logic.{_≢_, _↔_}
-use mathlib.Core.List.{List}
-use Prim.Native.Nat.{ℕ, _+_, _-_, _≤_, _<_}
-use native.Mathlib.Decide.{ℕ-discrete, decLt}
-use native.Mathlib.Omega.{arith}
-use lib.ListN.{getD}
+use Rattle.words.specs.Words.{_≡_, arith, ℕ, _≤_, _+_, List, _<_, refl, _∙_, sym, ap, _-_, getD, subst, _≢_, ap₂, _↔_, ℕ-discrete, decLt}
 use lib.Bits.{bitOr, or-add-and, and-le-l, and-le-r}
 use Rattle.memory.proofs.Parts.{getD-part}
 use Rattle.table.specs.Window.{stride, rowOffset, row, Alone}

@@ -1,7 +1,5 @@
 -- What the sizes of the header and of a row come to. Nothing else sees the numbers.
-use Prim.Native.Nat.{ℕ, _+_, _*_, _≤_, _<_}
-use native.Mathlib.Nat.{mul-le-mul-right}
-use native.Mathlib.Omega.{arith}
+use Rattle.words.specs.Words.{arith, ℕ, _≤_, _+_, _<_, mul-le-mul-right}
 use Rattle.memory.proofs.Parts.{row-fits}
 use Rattle.table.specs.Window.{headerSize, stride, rowOffset}
 

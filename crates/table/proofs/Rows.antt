@@ -1,15 +1,9 @@
 -- Rows in memory: a store in one row, and what the others and the rest of the memory are after it.
-use mathlib.Core.Path.{_≡_, refl, sym, ap, _∙_}
-use mathlib.Core.Logic.{_≢_}
-use mathlib.Core.List.{List, [], _∷_}
-use Prim.Native.Nat.{ℕ, zero, suc, _+_, _*_, _≤_, _<_}
-use native.Mathlib.Nat.{mul-le-mul-right, not-suc-le-zero, le-of-suc-le-suc}
-use native.Mathlib.Decide.{decLt, ℕ-discrete}
-use native.Mathlib.Omega.{arith}
-use lib.ListN.{length, getD, set}
+use Rattle.words.specs.Words.{_≡_, arith, ℕ, _≤_, _+_, List, length, _<_, refl, _∙_, sym, ap, [], _∷_, suc, zero, getD, _≢_, ℕ-discrete, decLt, not-suc-le-zero}
+use Rattle.words.specs.Words.{le-of-suc-le-suc, set}
 use Rattle.memory.specs.Part.{part, splice}
-use Rattle.memory.proofs.Parts.{length-part, length-splice, take-splice, past-splice, part-before}
-use Rattle.memory.proofs.Parts.{part-past, part-splice, splice-within, getD-part, getD-past, row-fits}
+use Rattle.memory.proofs.Parts.{length-part, length-splice, take-splice, past-splice, part-before, part-past, part-splice, splice-within, getD-part, getD-past}
+use Rattle.memory.proofs.Parts.{row-fits}
 use Rattle.table.specs.Window.{headerSize, stride, rowOffset, row, Fits, Kept}
 use Rattle.table.proofs.Offsets.{flags-fit}
 

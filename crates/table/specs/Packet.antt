@@ -1,10 +1,6 @@
 -- A packet's equations in working memory: a header's bytes, then `w + 1` rows laid out as the state's, in order of arrival. Row `k` holds the `k`th
 -- equation that was kept, and its first flag the column of its pivot. The state stays as it is until all are known to agree with it.
-use mathlib.Core.Path.{_≡_}
-use mathlib.Core.List.{List}
-use mathlib.Core.Option.{some}
-use Prim.Native.Nat.{ℕ, _+_, _%_, _≤_, _<_}
-use lib.ListN.{length, getD}
+use Rattle.words.specs.Words.{_≡_, ℕ, _≤_, _+_, List, length, _<_, some, _%_, getD}
 use Rattle.decoder.specs.Bytes.{Coded}
 use Rattle.decoder.specs.Model.{Row, State}
 use Rattle.decoder.specs.Receiver.{insert-all}

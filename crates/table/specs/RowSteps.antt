@@ -1,10 +1,6 @@
 -- Contracts of inner functions: a reader need not believe these.
 -- Where rows and symbols begin, and what a row's first flag says.
-use mathlib.Core.Path.{_≡_}
-use mathlib.Core.Logic.{_↔_}
-use mathlib.Core.List.{List, [], _∷_}
-use Prim.Native.Nat.{ℕ, zero, suc, _+_, _%_, _≤_, _<_}
-use lib.ListN.{getD}
+use Rattle.words.specs.Words.{_≡_, ℕ, _≤_, _+_, List, _<_, [], _%_, _∷_, suc, zero, getD, _↔_}
 use Rattle.memory.specs.Part.{splice}
 use Rattle.table.specs.Window.{stride, rowOffset, row, flag, Alone}
 

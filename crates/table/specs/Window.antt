@@ -1,12 +1,6 @@
 -- The window's equations in lent memory: a header, then `w` rows, each of `w` coefficients, `E` bytes of symbol and some flags.
 -- Row and column of a position are its remainder by `w`. A row's first flag: 0 no row, 1 a row, 2 a row with no coefficient but its pivot's.
-use mathlib.Core.Path.{_≡_}
-use mathlib.Core.Logic.{_≢_, _↔_}
-use mathlib.Core.Bool.{Bool, true}
-use mathlib.Core.List.{List}
-use Prim.Native.Nat.{ℕ, _+_, _*_, _%_, _≤_, _<_}
-use lib.ListN.{length, take, drop, getD}
-use lib.Dec.{ltb}
+use Rattle.words.specs.Words.{_≡_, ℕ, _≤_, _+_, List, length, _<_, _%_, true, _*_, getD, Bool, drop, _≢_, take, ltb, _↔_}
 use Rattle.memory.specs.Part.{part}
 use Rattle.decoder.specs.Bytes.{Coded}
 use Rattle.decoder.specs.Model.{Row, State}

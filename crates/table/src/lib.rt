@@ -1,9 +1,6 @@
 // The window's equations in lent memory, in reduced row echelon form with the oldest position first.
 // Row and column of a position are its remainder by the width, so nothing moves when the base rises.
-ghost use mathlib.Core.Path.{_≡_};
-ghost use mathlib.Core.Logic.{_↔_};
-ghost use Prim.Native.Nat.{_≤_, _<_};
-ghost use lib.ListN.{length};
+ghost use Rattle.words.specs.Words.{_≡_, _≤_, length, _<_, _↔_};
 ghost use Rattle.table.specs.Window.{headerSize, stride};
 ghost use Rattle.table.specs.RowSteps.{RowOf, RowAt, SymbolAt, Zero-from};
 

@@ -1,13 +1,8 @@
 -- Laws of decimal numbers: their digits, and how many there are.
-use mathlib.Core.Path.{_≡_, refl, ap}
-use mathlib.Core.List.{[], _∷_, _++_}
-use mathlib.Core.Logic.{⊎-elim}
-use Prim.Native.Nat.{ℕ, zero, suc, _+_, _*_, _/_, _%_, _^_, _≤_, _<_}
+use Rattle.words.specs.Words.{_≡_, arith, ℕ, _≤_, _+_, length, _<_, refl, ap, [], _%_, _∷_, suc, zero, _*_, _++_, _^_, _/_, length-append, lt-ltb, le-ltb}
+use Rattle.words.specs.Words.{⊎-elim}
 use native.Mathlib.Nat.{pow-suc, lt-of-lt-of-le, eq-zero-or-pos}
-use native.Mathlib.Omega.{arith}
-use borrow.Author.Tests.{lt-ltb, le-ltb}
 use lib.Dec.{lit≤}
-use lib.ListN.{length, length-append}
 use Rattle.text.specs.Text.{digit, decimalWithin, decimal}
 
 -- the last digit

@@ -1,11 +1,7 @@
 -- What is promised of the texts of numbers and bytes (specs/Promises).
-use mathlib.Core.Path.{_≡_, refl}
-use mathlib.Core.Logic.{_≢_, ⊎-elim}
-use mathlib.Core.List.{List, [], _∷_, _++_}
-use Prim.Native.Nat.{ℕ, zero, suc, _+_, _*_, _/_, _%_, _-_, _≤_, _<_}
+use Rattle.words.specs.Words.{_≡_, arith, ℕ, _≤_, _+_, List, length, _<_, refl, _-_, [], _%_, _∷_, suc, zero, _*_, getD, _++_, _≢_, _/_, ⊎-elim}
+use Rattle.words.specs.Words.{List·getD-append}
 use native.Mathlib.Nat.{eq-zero-or-pos}
-use native.Mathlib.Omega.{arith}
-use lib.ListN.{length, getD, List·getD-append}
 use Rattle.text.specs.Text.{decimal, hexadecimal}
 use Rattle.text.specs.Promises.{writes, Texts}
 use Rattle.text.proofs.Decimals.{decimal-small, decimal-more, decimal-positive}

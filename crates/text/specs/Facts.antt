@@ -1,6 +1,5 @@
 -- Computed from the definitions: numbers of one digit and of more, and every hexadecimal digit.
-use mathlib.Core.Path.{_≡_, refl}
-use mathlib.Core.List.{[], _∷_}
+use Rattle.words.specs.Words.{_≡_, refl, [], _∷_}
 use Rattle.text.specs.Text.{ascii, digit, decimalWithin, decimal, hexadecimal}
 
 pub numbers : decimal 0 ∷ decimal 9 ∷ decimal 10 ∷ decimal 255 ∷ decimal 1000000 ∷ decimal 18446744073709551615 ∷ []

@@ -1,10 +1,6 @@
 -- What is proved of the texts of numbers and bytes (proofs/Promises): a number's text is digits that write it, at least one, with no leading 0. So how
 -- many digits its definition allows need not be believed.
-use mathlib.Core.Path.{_≡_}
-use mathlib.Core.Logic.{_≢_}
-use mathlib.Core.List.{List, [], _∷_}
-use Prim.Native.Nat.{ℕ, _+_, _*_, _-_, _≤_, _<_}
-use lib.ListN.{length, getD}
+use Rattle.words.specs.Words.{_≡_, ℕ, _≤_, _+_, List, length, _<_, _-_, [], _∷_, _*_, getD, _≢_}
 use Rattle.text.specs.Text.{decimal, hexadecimal}
 
 -- the number that decimal digits write, after digits that write v

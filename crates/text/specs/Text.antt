@@ -1,10 +1,7 @@
 -- Text as bytes: characters, decimal numbers and hexadecimal bytes (document 02, No. 4).
-use mathlib.Core.Bool.{cond}
-use mathlib.Core.List.{List, [], _∷_, _++_}
+use Rattle.words.specs.Words.{ℕ, _+_, List, [], _%_, _∷_, suc, zero, _++_, cond, ltb, _/_}
 use Prim.Native.Char.{code}
-use Prim.Native.Nat.{ℕ, zero, suc, _+_, _/_, _%_}
 use Prim.Native.String.{String, [] as empty, _∷_ as _then_}
-use lib.Dec.{ltb}
 
 -- the characters of a text, one byte each
 abbrev pub ascii : String → List ℕ

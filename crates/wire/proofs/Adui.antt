@@ -4,16 +4,12 @@
 -- stores: first-stored, all-stored, stored-length; a symbol written: first-written, later-written
 -- stretches: length-chunks, getD-chunks, chunks-sized; the symbols of an ADU: symbols-count, symbol-at, symbol-length, symbols-sized
 -- a packet at the front of the output: front-next
-use mathlib.Core.Path.{_≡_, refl, sym, ap, _∙_}
-use mathlib.Core.Bool.{Bool, true, false}
-use Prim.Native.Nat.{ℕ, zero, suc, _+_, _-_, _*_, _≤_, _<_, min}
-use native.Mathlib.Nat.{lt-div-mul-add, div-mul-le-self, not-suc-le-zero, le-of-suc-le-suc, le-of-eq, suc-mul, zero-mul, zero-add}
-use native.Mathlib.Omega.{arith}
-use mathlib.Core.List.{List, [], _∷_, _++_, append-nil}
-use lib.ListN.{length, take, drop, getD, set, length-append, length-take, length-drop, length-set, length-replicate}
-use lib.Dec.{leb}
-use lib.Seq.{drop-drop, take-nil, take-all, take-length, drop-append-le, drop-length}
-use borrow.Author.Tests.{leb-true, leb-false}
+use Rattle.words.specs.Words.{_≡_, arith, ℕ, _≤_, _+_, List, length, _<_, refl, _∙_, sym, ap, _-_, [], _∷_, suc, true, zero, _*_, getD, false, _++_, Bool, drop}
+use Rattle.words.specs.Words.{take, leb, length-append, not-suc-le-zero, zero-add, le-of-suc-le-suc, zero-mul, set, length-drop, leb-true, length-set}
+use Rattle.words.specs.Words.{append-nil, length-take, suc-mul, min, take-all, length-replicate, drop-drop, drop-length}
+use native.Mathlib.Nat.{lt-div-mul-add, div-mul-le-self, le-of-eq}
+use lib.Seq.{take-nil, take-length, drop-append-le}
+use borrow.Author.Tests.{leb-false}
 use Rattle.memory.specs.Part.{part, splice}
 use Rattle.memory.specs.Number.{bytes}
 use Rattle.memory.proofs.Parts.{length-part, length-splice, splice-next, row-fits}

@@ -1,10 +1,5 @@
 -- What the header parsers answer, case by case.
-use mathlib.Core.Path.{_≡_}
-use mathlib.Core.Bool.{true, false}
-use Prim.Native.Nat.{ℕ, _+_, _*_, _≤_, _<_}
-use mathlib.Core.List.{List}
-use lib.ListN.{length}
-use borrow.Author.Tests.{le-leb, lt-leb, eq-eqb, ne-eqb}
+use Rattle.words.specs.Words.{_≡_, ℕ, _≤_, _+_, List, length, _<_, true, _*_, false, le-leb, lt-leb, ne-eqb, eq-eqb}
 use Rattle.wire.specs.Numbers.{within}
 use Rattle.wire.specs.Packets.{sourceForm, mostRepairs, repairForm, repairCount}
 use Rattle.wire.specs.Headers.{sourceFields, sourceHeaderOf, repairFields, repairHeaderOf}

@@ -1,19 +1,14 @@
 -- Reading what was written gives the fields back: `source-packet-read` and `source-adu`, `repair-packet-read` and `repair-symbols`.
-use mathlib.Core.Path.{_≡_, refl, sym, ap, _∙_}
-use mathlib.Core.Bool.{true}
-use Prim.Native.Nat.{ℕ, _+_, _-_, _*_, _^_, _≤_, _<_}
-use native.Mathlib.Nat.{mul-div-cancel, suc-mul, zero-mul}
-use native.Mathlib.Omega.{arith}
+use Rattle.words.specs.Words.{_≡_, arith, ℕ, _≤_, _+_, List, length, _<_, refl, _∙_, sym, ap, _-_, [], _∷_, true, _*_, _^_, le-leb, length-append, eq-eqb}
+use Rattle.words.specs.Words.{zero-mul, suc-mul, take-at}
+use native.Mathlib.Nat.{mul-div-cancel}
 use lib.Arith.{digits-div, digits-mod}
-use mathlib.Core.List.{List, [], _∷_}
-use lib.ListN.{length, length-append}
-use lib.Seq.{take-at, drop-at}
-use borrow.Author.Tests.{le-leb, eq-eqb}
+use lib.Seq.{drop-at}
 use Rattle.memory.specs.Part.{part}
 use Rattle.memory.specs.Number.{number, bytes}
 use Rattle.memory.proofs.Number.{number-bytes}
-use Rattle.wire.specs.Packets.{joined, chunks, Sized, sourcePacket, sourceForm, sourceAdu, sourceEsi, repairHeader, repairPacket}
-use Rattle.wire.specs.Packets.{mostRepairs, repairCount, repairForm, repairKey, densityThreshold, protectedCount, firstEsi, repairSymbols}
+use Rattle.wire.specs.Packets.{joined, chunks, Sized, sourcePacket, sourceForm, sourceAdu, sourceEsi, repairHeader, repairPacket, mostRepairs}
+use Rattle.wire.specs.Packets.{repairCount, repairForm, repairKey, densityThreshold, protectedCount, firstEsi, repairSymbols}
 use Rattle.wire.specs.Headers.{sourceHeaderOf, repairHeaderOf}
 use Rattle.wire.specs.declared.SourceHeader.the-variants.{Source}
 use Rattle.wire.specs.declared.RepairHeader.the-variants.{Repair}

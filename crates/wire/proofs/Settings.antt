@@ -1,16 +1,10 @@
 -- What refusals 1 and 3 stand for: which numbers name a setting, and in which memory a header keeps one.
 -- three numbers: within-true, within-bounds, both; setting-named, setting-names (record Named)
 -- the header: short-none, other-none, header-read; zeros-none, one-kind; setting-found (record Headed); setting-written, setting-kept
-use mathlib.Core.Path.{_≡_, refl, sym, ap, subst, _∙_}
-use mathlib.Core.Bool.{Bool, true, false, _&&_}
-use mathlib.Core.Option.{Option, none, some, Option·none-ne-some, Option·some-injective}
-use Prim.Native.Nat.{ℕ, zero, suc, _*_, _^_, _≤_, _<_}
-use native.Mathlib.Nat.{zero-add}
-use native.Mathlib.Omega.{arith}
-use mathlib.Core.List.{List}
-use lib.ListN.{length, take, length-take}
-use lib.Dec.{leb, eqb, lit<}
-use borrow.Author.Tests.{le-leb, lt-leb, leb-true, leb-false, eq-eqb, ne-eqb, eqb-true, eqb-false}
+use Rattle.words.specs.Words.{_≡_, arith, ℕ, _≤_, List, length, _<_, refl, _∙_, sym, ap, some, suc, true, zero, none, _*_, false, Bool, subst, _^_, take, leb}
+use Rattle.words.specs.Words.{eqb, le-leb, _&&_, Option·some-injective, Option·none-ne-some, lt-leb, ne-eqb, zero-add, eq-eqb, leb-true, lit<, eqb-true}
+use Rattle.words.specs.Words.{length-take, eqb-false}
+use borrow.Author.Tests.{leb-false}
 use Rattle.memory.specs.Part.{part, splice}
 use Rattle.memory.specs.Number.{number}
 use Rattle.memory.proofs.Parts.{part-part}

@@ -1,5 +1,5 @@
 -- What a call answers, as document 01 numbers it.
-use Prim.Native.Nat.{ℕ}
+use Rattle.words.specs.Words.{ℕ}
 use Rattle.wire.specs.declared.Answer.{Answer}
 use Rattle.wire.specs.declared.Answer.the-variants.{Done, Refused}
 use Rattle.wire.specs.Numbers.{numberOf}

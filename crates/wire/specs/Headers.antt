@@ -1,8 +1,5 @@
 -- What a header parser answers: the fields of a packet that has the form, else refusal 5.
-use mathlib.Core.Bool.{cond}
-use Prim.Native.Nat.{ℕ, _-_}
-use mathlib.Core.List.{List}
-use lib.ListN.{length}
+use Rattle.words.specs.Words.{ℕ, List, length, _-_, cond}
 use Rattle.wire.specs.Packets.{sourceForm, sourceEsi, repairForm, repairCount, repairKey, densityThreshold, protectedCount, firstEsi}
 use Rattle.wire.specs.declared.Refusal.the-variants.{Form}
 use Rattle.wire.specs.declared.SourceFields.{SourceFields}

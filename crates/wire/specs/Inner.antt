@@ -1,7 +1,5 @@
 -- Contracts of inner functions: a reader need not believe these.
-use Prim.Native.Nat.{ℕ, _-_}
-use mathlib.Core.List.{List, _++_}
-use lib.ListN.{length, take}
+use Rattle.words.specs.Words.{ℕ, List, length, _-_, _++_, take}
 use Rattle.wire.specs.Packets.{zeros}
 
 -- the first n bytes of l, and zero bytes where it has fewer

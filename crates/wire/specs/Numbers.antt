@@ -1,10 +1,8 @@
 -- The two kinds of number (document 01, "Words and sizes"), and the number that document 01 gives each refusal.
-use mathlib.Core.Bool.{Bool, _&&_}
-use Prim.Native.Nat.{ℕ, _+_, _-_, _^_, _%_}
-use lib.Dec.{leb}
+use Rattle.words.specs.Words.{ℕ, _+_, _-_, _%_, Bool, _^_, leb, _&&_}
 use Rattle.wire.specs.declared.Refusal.{Refusal}
-use Rattle.wire.specs.declared.Refusal.the-variants.{Values, Short, Unopened, Long, Form, Range, Empty}
-use Rattle.wire.specs.declared.Refusal.the-variants.{Behind, Ahead, Draws, Contradiction, Unknown, NoStart, Padding}
+use Rattle.wire.specs.declared.Refusal.the-variants.{Values, Short, Unopened, Long, Form, Range, Empty, Behind, Ahead, Draws, Contradiction, Unknown}
+use Rattle.wire.specs.declared.Refusal.the-variants.{NoStart, Padding}
 
 -- x lies from low to high
 abbrev pub within : ℕ → ℕ → ℕ → Bool

@@ -1,11 +1,6 @@
 -- The bytes of source and repair packets (document 01, "Packets"; RFC 8681, sections 3.2, 4.1.2, 4.1.3): how they are written, and how they are read.
 -- Numbers stand with the most significant byte first.
-use mathlib.Core.Path.{_≡_}
-use Prim.Native.Nat.{ℕ, zero, suc, _+_, _-_, _*_, _/_, _%_}
-use mathlib.Core.Bool.{Bool, _&&_}
-use mathlib.Core.List.{List, [], _∷_, _++_}
-use lib.ListN.{length, take, drop, replicate}
-use lib.Dec.{eqb, leb}
+use Rattle.words.specs.Words.{_≡_, ℕ, _+_, List, length, _-_, [], _%_, _∷_, suc, zero, _*_, _++_, Bool, drop, take, leb, eqb, _/_, _&&_, replicate}
 use Rattle.memory.specs.Part.{part}
 use Rattle.memory.specs.Number.{number, bytes}
 use Rattle.wire.specs.Numbers.{within}

@@ -1,11 +1,6 @@
 -- What an end is opened with (document 01, "Words and sizes"), and the header that keeps it at the front of the end's memory: four numbers of
 -- two bytes, the kind of end (1 a sender, 2 a receiver), scheme, E and width. Both ends find refusals 1 and 3 by these definitions.
-use mathlib.Core.Bool.{Bool, cond, _&&_}
-use mathlib.Core.Option.{Option, none, some}
-use Prim.Native.Nat.{ℕ, _+_, _*_, _≤_}
-use mathlib.Core.List.{List, _++_}
-use lib.ListN.{length}
-use lib.Dec.{eqb, leb}
+use Rattle.words.specs.Words.{ℕ, _≤_, _+_, List, length, some, none, _*_, _++_, Bool, Option, cond, leb, eqb, _&&_}
 use Rattle.memory.specs.Part.{part}
 use Rattle.memory.specs.Number.{number, bytes}
 use Rattle.wire.specs.Numbers.{within}

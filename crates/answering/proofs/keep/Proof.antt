@@ -1,7 +1,6 @@
 -- `answering::keep` meets its contract.
-use native.Mathlib.Omega.{arith}
+use Rattle.words.specs.Words.{arith, needs}
 use Rattle.answering.proofs.Keeping.{kept-over, kept-more}
-use borrow.Author.Needs.{needs}
 use Rattle.answering.proofs.keep.Statement.{statement}
 use Rattle.answering.proofs.keep.Tie as tie
 

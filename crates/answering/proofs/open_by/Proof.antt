@@ -1,13 +1,5 @@
 -- `answering::open_by` meets its contract.
-use mathlib.Core.Path.{_≡_, ap, _∙_}
-use mathlib.Core.Bool.{cond}
-use mathlib.Core.List.{List}
-use mathlib.Core.Option.{none, some}
-use Prim.Native.Nat.{ℕ, _≤_}
-use native.Mathlib.Omega.{arith}
-use lib.Dec.{leb}
-use lib.ListN.{length}
-use borrow.Author.Tests.{le-leb}
+use Rattle.words.specs.Words.{_≡_, arith, ℕ, _≤_, List, length, needs, _∙_, ap, some, none, cond, leb, le-leb}
 use Rattle.wire.specs.declared.Setting.{Setting}
 use Rattle.wire.specs.Settings.{settingOf}
 use Rattle.wire.proofs.Settings.{setting-names}
@@ -20,14 +12,14 @@ use Rattle.records.specs.Records.{room}
 use Rattle.records.specs.Replay.{fitting, settingNamed}
 use Rattle.records.specs.Standing.{Kept}
 use Rattle.answering.proofs.Keeping.{kept-line, kept-long, kept-short}
-use Rattle.answering.proofs.Openings.{opens-none, long-opens-none, no-values, with-values, no-setting, good-setting, large-working, large-memory, both-fit}
-use Rattle.answering.proofs.Openings.{not-fitting, open-refused, open-done, opens}
-use borrow.Author.Needs.{needs}
+use Rattle.answering.proofs.Openings.{opens-none, long-opens-none, no-values, with-values, no-setting, good-setting, large-working, large-memory}
+use Rattle.answering.proofs.Openings.{both-fit, not-fitting, open-refused, open-done, opens}
 use Rattle.answering.proofs.open_by.Statement.{statement}
 use Rattle.answering.proofs.open_by.Tie as tie
 
 -- the values that were read of the line
-read : (p : tie.After-read-first) (l : List ℕ) → Kept (p .before .before .before .before .before .args .have) (p .before .before .before .before .before .args .line .now) l
+read : (p : tie.After-read-first) (l : List ℕ) → Kept (p .before .before .before .before .before .args .have)
+    (p .before .before .before .before .before .args .line .now) l
     → valuesIn (p .before .part .result .now) ≡ valuesIn l
 read p l k = ap valuesIn (p .before .part .ensures .bytes ∙ kept-line _ _ l k (p .before .before .if1 .left))
 
@@ -41,7 +33,8 @@ size p = p .scheme .given .0 .1 .0
 abbrev width : tie.After-scheme → ℕ
 width p = p .scheme .given .0 .1 .1 .0
 
-values : (p : tie.After-scheme) (l : List ℕ) → Kept (p .before .before .before .before .before .before .before .args .have) (p .before .before .before .before .before .before .before .args .line .now) l
+values : (p : tie.After-scheme) (l : List ℕ) → Kept (p .before .before .before .before .before .before .before .args .have)
+    (p .before .before .before .before .before .before .before .args .line .now) l
     → settingNamed l ≡ cond (leb (length l) longest) (on (settingOf (scheme p) (size p) (width p)) fitting) none
 values p l k = with-values _ l _ _ _ (p .scheme .given .1) (p .before .before .read-first .ensures ∙ read (p .before .before) l k)
 
@@ -49,7 +42,8 @@ values p l k = with-values _ l _ _ _ (p .scheme .given .1) (p .before .before .r
 abbrev setting : tie.After-setting → Setting
 setting p = p .setting .given .0 .0
 
-named : (p : tie.After-setting) → settingOf (scheme (p .before .before .before .before)) (size (p .before .before .before .before)) (width (p .before .before .before .before)) ≡ some (setting p)
+named : (p : tie.After-setting) → settingOf (scheme (p .before .before .before .before)) (size (p .before .before .before .before))
+    (width (p .before .before .before .before)) ≡ some (setting p)
 named p = good-setting _ _ _ _ (setting p) (p .setting .given .1) (p .before .before .setting-of .ensures)
 
 returns : tie.Need-returns
@@ -72,13 +66,16 @@ returns-4 : tie.Need-returns-4
 returns-4 c =
     let p = c .before .before .before in
     opens-none _
-    (λ l k. not-fitting l _ _ _ (setting p) (values (p .before .before .before .before) l k) (named p) (large-working (setting p) (omega (arith, c .before .working-size .ensures))))
+    (λ l k. not-fitting l _ _ _ (setting p) (values (p .before .before .before .before) l k) (named p)
+    (large-working (setting p) (omega (arith, c .before .working-size .ensures))))
 
 -- what opening said
 opening-said : (p : tie.After-open) → said (p .«open» .result) ≡ opening (some (setting (p .before .before .before .before .before))) room
 opening-said p =
-    p .«open» .ensures .answer ∙ ap (λ o. opening o (length (p .before .before .before .before .before .before .before .before .before .before .before .before .before .before .before .before .args .mem .now))) (named (p .before .before .before .before .before))
-    ∙ ap (opening (some (setting (p .before .before .before .before .before)))) (p .before .before .before .before .before .before .before .before .before .before .before .before .before .before .before .before .pre .1)
+    p .«open» .ensures .answer ∙ ap (λ o. opening o (length (p .before .before .before .before .before .before .before .before .before .before .before
+    .before .before .before .before .before .args .mem .now))) (named (p .before .before .before .before .before))
+    ∙ ap (opening (some (setting (p .before .before .before .before .before)))) (p .before .before .before .before .before .before .before .before .before
+    .before .before .before .before .before .before .before .pre .1)
 
 returns-5 : tie.Need-returns-5
 returns-5 c =
@@ -90,9 +87,19 @@ returns-6 : tie.Need-returns-6
 returns-6 c =
     let p = c .before .before .before .before .before .before .before .before .before in
     let (h, zero-said) = open-done _ _ (setting p) room (c .enum-told3 .given .1) (opening-said (c .before .before .before .before)) in
-    let w : workingSize (setting p) ≤ room = omega (arith, c .before .before .before .before .before .before .before .working-size .ensures, c .before .before .before .before .before .before .if2 .left) in
+    let w : workingSize (setting p) ≤ room = omega (
+      arith,
+      c .before .before .before .before .before .before .before .working-size .ensures,
+      c .before .before .before .before .before .before .if2 .left,
+    ) in
     opens _ (setting p)
-    (λ l k. values (p .before .before .before .before) l k ∙ rw (le-leb (length l) longest (kept-short _ _ l k (c .before .before .before .before .before .before .before .before .before .before .before .before .before .before .before .before .before .if1 .left)), named p, both-fit (setting p) h w))
+    (λ l k. values (p .before .before .before .before) l k ∙ rw (
+      le-leb (length l) longest
+          (kept-short _ _ l k (c .before .before .before .before .before .before .before .before .before .before .before .before .before .before .before
+          .before .before .if1 .left)),
+      named p,
+      both-fit (setting p) h w,
+    ))
     (c .before .before .before .before .«open» .ensures .holds (setting p) (named p) zero-said)
 
 pub open-by-spec : {M : Type 1} → statement M

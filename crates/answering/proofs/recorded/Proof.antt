@@ -1,5 +1,5 @@
 -- `answering::recorded` meets its contract.
-use borrow.Author.Needs.{needs}
+use Rattle.words.specs.Words.{needs}
 use Rattle.answering.proofs.recorded.Statement.{statement}
 use Rattle.answering.proofs.recorded.Tie as tie
 

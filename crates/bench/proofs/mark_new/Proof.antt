@@ -1,8 +1,5 @@
 -- `bench::mark_new` meets its contract.
-use Prim.Native.Nat.{_+_}
-use native.Mathlib.Nat.{mod-lt}
-use native.Mathlib.Omega.{arith}
-use borrow.Author.Needs.{needs}
+use Rattle.words.specs.Words.{arith, _+_, needs, mod-lt}
 use Rattle.bench.proofs.mark_new.Statement.{statement}
 use Rattle.bench.proofs.mark_new.Tie as tie
 

@@ -1,6 +1,5 @@
 -- `bench_sheet::print_numbers` is safe and ends.
-use Prim.Native.Nat.{_≤_, _-_}
-use borrow.Author.Needs.{needs}
+use Rattle.words.specs.Words.{_≤_, needs, _-_}
 use Rattle.bench_sheet.proofs.print_numbers.Statement.{statement}
 use Rattle.bench_sheet.proofs.print_numbers.Tie as tie
 

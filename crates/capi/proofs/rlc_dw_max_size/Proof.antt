@@ -1,5 +1,5 @@
 -- `capi::rlc_dw_max_size` meets its contract.
-use borrow.Author.Needs.{needs}
+use Rattle.words.specs.Words.{needs}
 use Rattle.coding.proofs.Coding.{handed}
 use Rattle.capi.proofs.rlc_dw_max_size.Statement.{statement}
 use Rattle.capi.proofs.rlc_dw_max_size.Tie as tie

@@ -1,7 +1,7 @@
 -- `capi::rlc_working_memory` meets its contract.
+use Rattle.words.specs.Words.{needs}
 use Rattle.history.specs.History.{workingSize}
 use Rattle.coding.proofs.Coding.{asked-none, asked-some, asked-valid}
-use borrow.Author.Needs.{needs}
 use Rattle.capi.proofs.rlc_working_memory.Statement.{statement}
 use Rattle.capi.proofs.rlc_working_memory.Tie as tie
 

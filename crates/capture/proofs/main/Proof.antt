@@ -1,6 +1,5 @@
 -- `capture::main` is safe and ends: the turns that are left fall.
-use native.Mathlib.Omega.{arith}
-use borrow.Author.Needs.{needs}
+use Rattle.words.specs.Words.{arith, needs}
 use Rattle.capture.proofs.main.Statement.{statement}
 use Rattle.capture.proofs.main.Tie as tie
 

@@ -1,7 +1,5 @@
 -- `capture::print_last` is safe and ends.
-use lib.Seq.{length-take-le}
-use mathlib.Core.Path.{sym}
-use borrow.Author.Needs.{needs}
+use Rattle.words.specs.Words.{needs, sym, length-take-le}
 use Rattle.capture.proofs.print_last.Statement.{statement}
 use Rattle.capture.proofs.print_last.Tie as tie
 

@@ -1,13 +1,8 @@
 -- `capture::work_through` meets its contract. The invariant: calls have brought the capture to where the loop stands, and the rest of the input is left.
-use mathlib.Core.Path.{sym, ap, _∙_}
-use mathlib.Core.Bool.{not}
-use Prim.Native.Nat.{_+_, _-_, _≤_, _<_}
-use native.Mathlib.Omega.{arith}
-use lib.ListN.{length, drop}
+use Rattle.words.specs.Words.{arith, _≤_, _+_, length, needs, _<_, _∙_, sym, ap, _-_, drop, not}
 use Rattle.replay.proofs.Feeding.{left}
 use Rattle.capture.specs.Going.{Handed}
 use Rattle.capture.proofs.Turns.{handed-none, next-handed, went-over, went-failed, went-all, next-moves}
-use borrow.Author.Needs.{needs}
 use Rattle.capture.proofs.work_through.Statement.{statement}
 use Rattle.capture.proofs.work_through.Tie as tie
 
@@ -32,21 +27,42 @@ returns-2 c = went-failed _ _ _ _ _ _ _
 
 -- some of the input is taken, and no more than there is
 moves : (c : tie.After-feed Inv-loop μ-loop)
-    → (0 < c .feed .result .taken) × (c .before .before .before .before .before .before .before .before .before .before .loop .at + c .feed .result .taken ≤ length (c .before .before .before .before .before .before .before .before .before .before .before .before .args .input .now))
+    → (0 < c .feed .result .taken) × (c .before .before .before .before .before .before .before .before .before .before .loop .at + c .feed .result .taken ≤
+    length (c .before .before .before .before .before .before .before .before .before .before .before .before .args .input .now))
 moves c =
-    next-moves _ (c .before .before .before .before .before .before .before .before .before .before .before .before .args .input .now) (c .before .before .before .before .before .before .before .before .before .loop-test .taken) (sym (c .before .before .before .before .before .before .before .before .is-over .ensures) ∙ c .before .before .before .before .before .before .before .if1 .left) (c .feed .ensures)
+    next-moves _ (c .before .before .before .before .before .before .before .before .before .before .before .before .args .input .now)
+    (c .before .before .before .before .before .before .before .before .before .loop-test .taken)
+    (sym (c .before .before .before .before .before .before .before .before .is-over .ensures) ∙
+    c .before .before .before .before .before .before .before .if1 .left) (c .feed .ensures)
 
 add-at : tie.Need-add-at Inv-loop μ-loop
-add-at c = omega (arith, moves (c .before .before .before .before .before .before .before) .1, c .before .before .before .before .before .before .before .before .before .before .before .before .before .before .before .before .before .before .before .good .1 .1 .1 .1 .1 .0 .0)
+add-at c = omega (
+  arith,
+  moves (c .before .before .before .before .before .before .before) .1,
+  c .before .before .before .before .before .before .before .before .before .before .before .before .before .before .before .before .before .before .before
+      .good .1 .1 .1 .1 .1 .0 .0,
+)
 
 loop-less : tie.Need-loop-less Inv-loop μ-loop
-loop-less c = omega (arith, moves (c .before .before .before .before .before .before .before) .0, moves (c .before .before .before .before .before .before .before) .1, c .before .before .before .before .before .before .before .before .before .before .before .before .before .before .before .before .loop-test .taken)
+loop-less c = omega (
+  arith,
+  moves (c .before .before .before .before .before .before .before) .0,
+  moves
+      (c .before .before .before .before .before .before .before) .1,
+  c .before .before .before .before .before .before .before .before .before .before .before .before .before .before .before .before .loop-test .taken,
+)
 
 loop-again : tie.Need-loop-again Inv-loop μ-loop
-loop-again c = (moves (c .before .before .before .before .before .before .before) .1, next-handed _ _ _ _ _ _ _ _ _ _ _ _ (c .before .before .before .before .before .before .before .before .before .before .before .before .before .before .before .before .before .loop .inv .1) (c .before .before .before .before .before .before .before .feed .ensures))
+loop-again c = (
+  moves (c .before .before .before .before .before .before .before) .1,
+  next-handed _ _ _ _ _ _ _ _ _ _ _ _
+      (c .before .before .before .before .before .before .before .before .before .before .before .before .before .before .before .before .before .loop .inv .1)
+      (c .before .before .before .before .before .before .before .feed .ensures),
+)
 
 returns-3 : tie.Need-returns-3 Inv-loop μ-loop
-returns-3 c = went-all _ _ _ _ _ _ _ _ _ (c .before .before .loop .inv .1) (c .before .before .loop .inv .0) (c .before .loop-test .left) (ap not (c .is-over2 .ensures))
+returns-3 c = went-all _ _ _ _ _ _ _ _ _ (c .before .before .loop .inv .1) (c .before .before .loop .inv .0) (c .before .loop-test .left)
+    (ap not (c .is-over2 .ensures))
 
 pub work-through-spec : {M : Type 1} → statement M
 work-through-spec =

@@ -1,6 +1,6 @@
 -- `coding::coded_adu` meets its contract.
+use Rattle.words.specs.Words.{needs}
 use Rattle.coding.proofs.Coding.{adu-large}
-use borrow.Author.Needs.{needs}
 use Rattle.coding.proofs.coded_adu.Statement.{statement}
 use Rattle.coding.proofs.coded_adu.Tie as tie
 

@@ -1,7 +1,7 @@
 -- `coding::coded_answer` meets its contract.
+use Rattle.words.specs.Words.{needs}
 use Rattle.wire.specs.Answers.{said}
 use Rattle.coding.proofs.Coding.{coded-case}
-use borrow.Author.Needs.{needs}
 use Rattle.coding.proofs.coded_answer.Statement.{statement}
 use Rattle.coding.proofs.coded_answer.Tie as tie
 

@@ -1,7 +1,6 @@
 -- `coding::coded_count` meets its contract: the count alone, or the draws alone, are past the largest number; or they make a value together.
-use native.Mathlib.Omega.{arith}
+use Rattle.words.specs.Words.{arith, needs}
 use Rattle.coding.proofs.Coding.{value-large}
-use borrow.Author.Needs.{needs}
 use Rattle.coding.proofs.coded_count.Statement.{statement}
 use Rattle.coding.proofs.coded_count.Tie as tie
 

@@ -1,7 +1,7 @@
 -- `coding::coded_handed` meets its contract.
+use Rattle.words.specs.Words.{needs}
 use Rattle.receiver.specs.Promises.{handedSaid}
 use Rattle.coding.proofs.Coding.{coded-case}
-use borrow.Author.Needs.{needs}
 use Rattle.coding.proofs.coded_handed.Statement.{statement}
 use Rattle.coding.proofs.coded_handed.Tie as tie
 

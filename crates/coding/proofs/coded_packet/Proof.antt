@@ -1,7 +1,7 @@
 -- `coding::coded_packet` meets its contract.
+use Rattle.words.specs.Words.{needs}
 use Rattle.coding.specs.Coding.{packetSaid}
 use Rattle.coding.proofs.Coding.{coded-case}
-use borrow.Author.Needs.{needs}
 use Rattle.coding.proofs.coded_packet.Statement.{statement}
 use Rattle.coding.proofs.coded_packet.Tie as tie
 

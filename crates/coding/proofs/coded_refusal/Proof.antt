@@ -1,10 +1,8 @@
 -- `coding::coded_refusal` meets its contract.
-use mathlib.Core.Path.{ap, _∙_}
-use native.Mathlib.Omega.{arith}
+use Rattle.words.specs.Words.{arith, needs, _∙_, ap}
 use Rattle.wire.specs.Answers.{refusal}
 use Rattle.coding.specs.Coding.{coded}
 use Rattle.coding.proofs.Coding.{handed, negated, negated-fits}
-use borrow.Author.Needs.{needs}
 use Rattle.coding.proofs.coded_refusal.Statement.{statement}
 use Rattle.coding.proofs.coded_refusal.Tie as tie
 

@@ -1,7 +1,7 @@
 -- `coding::coded_repair` meets its contract.
+use Rattle.words.specs.Words.{needs}
 use Rattle.coding.specs.Coding.{repairSaid}
 use Rattle.coding.proofs.Coding.{coded-case}
-use borrow.Author.Needs.{needs}
 use Rattle.coding.proofs.coded_repair.Statement.{statement}
 use Rattle.coding.proofs.coded_repair.Tie as tie
 

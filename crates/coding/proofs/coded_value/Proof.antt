@@ -1,6 +1,6 @@
 -- `coding::coded_value` meets its contract.
+use Rattle.words.specs.Words.{needs}
 use Rattle.coding.proofs.Coding.{value-small, value-large}
-use borrow.Author.Needs.{needs}
 use Rattle.coding.proofs.coded_value.Statement.{statement}
 use Rattle.coding.proofs.coded_value.Tie as tie
 

@@ -1,6 +1,5 @@
 -- `coding::coded_window` meets its contract.
-use mathlib.Core.Path.{sym, ap}
-use borrow.Author.Needs.{needs}
+use Rattle.words.specs.Words.{needs, sym, ap}
 use Rattle.coding.specs.Coding.{windowSaid, remainderAfter}
 use Rattle.coding.proofs.Coding.{coded-case}
 use Rattle.coding.proofs.coded_window.Statement.{statement}

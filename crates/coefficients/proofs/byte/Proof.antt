@@ -1,7 +1,6 @@
 -- `coefficients::byte` meets its contract: each way out rewrites with its tests, and with the draw.
-use borrow.Author.Tests.{eq-eqb, ne-eqb, le-leb, lt-leb}
+use Rattle.words.specs.Words.{needs, le-leb, lt-leb, ne-eqb, eq-eqb}
 use Rattle.coefficients.specs.Coefficients.{byteOf}
-use borrow.Author.Needs.{needs}
 use Rattle.coefficients.proofs.byte.Statement.{statement}
 use Rattle.coefficients.proofs.byte.Tie as tie
 

@@ -1,12 +1,6 @@
 -- `coefficients::draw_list` meets its contract. The loop's invariant: the bytes before i are the first i coefficients (`Partly`).
-use mathlib.Core.Path.{_≡_, refl, sym}
-use Prim.Native.Nat.{_≤_, _-_}
-use native.Mathlib.Omega.{arith}
-use lib.ListN.{length, length-set}
-use borrow.Author.Tests.{not-true, not-false}
-use borrow.Author.Needs.{needs}
+use Rattle.words.specs.Words.{_≡_, arith, _≤_, length, needs, refl, sym, _-_, not-false, not-true, length-set, now}
 use Rattle.coefficients.proofs.Fills.{Partly, partly-none, partly-more, next-draws, partly-draws, partly-refused, partly-all, fills-done, fills-refused}
-use denote.Ref.{now}
 use Rattle.coefficients.proofs.draw_list.Statement.{statement}
 use Rattle.coefficients.proofs.draw_list.Tie as tie
 

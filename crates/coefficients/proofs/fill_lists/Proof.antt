@@ -1,9 +1,5 @@
 -- `coefficients::fill_lists` meets its contract. The loop's invariant: the lists before i stand in the output (`Listed`).
-use mathlib.Core.Path.{_≡_}
-use Prim.Native.Nat.{_+_, _*_, _-_, _≤_}
-use native.Mathlib.Omega.{arith}
-use lib.ListN.{length}
-use borrow.Author.Needs.{needs}
+use Rattle.words.specs.Words.{_≡_, arith, _≤_, _+_, length, needs, _-_, _*_}
 use Rattle.memory.proofs.Parts.{row-fits}
 use Rattle.coefficients.proofs.Fills.{Listed, listed-none, lent-length, listed-more, listed-draws, lists-refused, lists-done}
 use Rattle.coefficients.proofs.fill_lists.Statement.{statement}
@@ -40,7 +36,11 @@ add-draws c =
     let p = c .before .before .before .before .before in
     let q = p .before .before in
     let a = q .before .before .before in
-    omega (arith, listed-draws (a .pre .1) (a .pre .2) (listed-more (a .pre .0) (q .loop-test .taken) (q .before .loop .inv .1) (p .fill .ensures) (c .before .more .given .1)))
+    omega (
+      arith,
+      listed-draws (a .pre .1) (a .pre .2) (listed-more (a .pre .0) (q .loop-test .taken) (q .before .loop .inv .1) (p .fill .ensures)
+          (c .before .more .given .1)),
+    )
 
 loop-again : tie.Need-loop-again Inv-loop μ-loop
 loop-again c =
@@ -48,7 +48,8 @@ loop-again c =
     let q = p .before .before in (
       omega arith,
       rw (c .next .ensures)
-          (listed-more (q .before .before .before .pre .0) (q .loop-test .taken) (q .before .loop .inv .1) (p .fill .ensures) (c .before .before .more .given .1)),
+          (listed-more (q .before .before .before .pre .0) (q .loop-test .taken) (q .before .loop .inv .1) (p .fill .ensures)
+          (c .before .before .more .given .1)),
     )
 
 returns-2 : tie.Need-returns-2 Inv-loop μ-loop

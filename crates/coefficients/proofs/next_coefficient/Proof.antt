@@ -1,5 +1,5 @@
 -- `coefficients::next_coefficient` meets its contract, by the scheme.
-use borrow.Author.Needs.{needs}
+use Rattle.words.specs.Words.{needs}
 use Rattle.coefficients.proofs.next_coefficient.Statement.{statement}
 use Rattle.coefficients.proofs.next_coefficient.Tie as tie
 

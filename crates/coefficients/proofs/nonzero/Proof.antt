@@ -1,11 +1,5 @@
 -- `coefficients::nonzero` meets its contract. The loop's invariant: what is still to be drawn gives what was asked.
-use mathlib.Core.Path.{_≡_, ap, _∙_}
-use mathlib.Core.Logic.{⊎-elim}
-use Prim.Native.Nat.{ℕ, _≤_, _<_, _-_, _+_}
-use mathlib.Core.List.{List}
-use borrow.Author.Tests.{ne-eqb}
-use native.Mathlib.Omega.{arith}
-use borrow.Author.Needs.{needs}
+use Rattle.words.specs.Words.{_≡_, arith, ℕ, _≤_, _+_, List, needs, _<_, _∙_, ap, _-_, ne-eqb, ⊎-elim}
 use Rattle.coefficients.specs.Coefficients.{lastZero, found, nonzeroFrom}
 use Rattle.coefficients.proofs.Zeros.{zero-byte, nonzero-byte}
 use Rattle.coefficients.proofs.nonzero.Statement.{statement}

@@ -1,8 +1,5 @@
 -- `field::if_odd` meets its contract.
-use mathlib.Core.Path.{_≡_, sym}
-use Prim.Native.Nat.{_%_}
-use native.Mathlib.Nat.{zero-mul, one-mul}
-use native.Mathlib.Omega.{arith}
+use Rattle.words.specs.Words.{_≡_, arith, sym, _%_, zero-mul, one-mul}
 use Rattle.field.proofs.if_odd.Statement.{statement}
 use Rattle.field.proofs.if_odd.Tie as tie
 

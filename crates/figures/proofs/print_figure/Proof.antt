@@ -1,6 +1,5 @@
 -- `figures::print_figure` is safe and ends.
-use Prim.Native.Nat.{_≤_, _-_}
-use borrow.Author.Needs.{needs}
+use Rattle.words.specs.Words.{_≤_, needs, _-_}
 use Rattle.figures.proofs.print_figure.Statement.{statement}
 use Rattle.figures.proofs.print_figure.Tie as tie
 

@@ -1,10 +1,6 @@
 -- `gather::add_rows` meets its contract.
-use mathlib.Core.Path.{_≡_, sym, ap₂}
-use Prim.Native.Nat.{_+_, _*_}
-use native.Mathlib.Omega.{arith}
-use lib.Seq.{length-take-le}
+use Rattle.words.specs.Words.{arith, _+_, needs, sym, _*_, ap₂, length-take-le}
 use Rattle.gather.proofs.Reducing.{length-lent, rows-added}
-use borrow.Author.Needs.{needs}
 use Rattle.gather.proofs.add_rows.Statement.{statement}
 use Rattle.gather.proofs.add_rows.Tie as tie
 

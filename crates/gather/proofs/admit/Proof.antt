@@ -1,21 +1,11 @@
 -- `gather::admit` meets its contract.
+use Rattle.words.specs.Words.{arith, needs}
 use Rattle.table.proofs.Offsets.{flags-fit}
-use native.Mathlib.Omega.{arith}
 use Rattle.gather.proofs.Framing.{works-only}
 use Rattle.gather.proofs.Reducing.{state-only}
 use Rattle.gather.proofs.Admitting.{admitted}
-use borrow.Author.Needs.{needs}
 use Rattle.gather.proofs.admit.Statement.{statement}
 use Rattle.gather.proofs.admit.Tie as tie
-use Rattle.gather.proofs.admit.Reads as reads
-use Rattle.gather.proofs.admit.Lts as lts
-use Rattle.gather.proofs.reduce.Reads as reduce-reads
-use Rattle.gather.proofs.reduce_within.Reads as reduce-within-reads
-use Rattle.gather.proofs.settle.Reads as settle-reads
-use Rattle.gather.proofs.staying.Reads as staying-reads
-
-staying-requires : tie.Need-staying-requires
-staying-requires c κs = search needs
 
 reduce-requires : tie.Need-reduce-requires
 reduce-requires c κs =
@@ -43,9 +33,6 @@ settle-requires c κs =
       search needs,
     )
 
-same-length : tie.Need-same-length
-same-length c = search needs
-
 returns : tie.Need-returns
 returns c =
     let start = c .before .before .before .before .before .before .before .before .before .before .before .before .before .before .before in
@@ -65,9 +52,9 @@ pub admit-spec : {M : Type 1} → statement M
 admit-spec =
     tie.close
     (tie.spec
-    staying-requires
+    (λ c κs. search needs)
     reduce-requires
     reduce-within-requires
     settle-requires
-    same-length
+    (λ c. search needs)
     returns)

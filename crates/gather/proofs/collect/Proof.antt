@@ -1,18 +1,9 @@
 -- `gather::collect` meets its contract. The loop: the multipliers of the columns so far.
-use mathlib.Core.Path.{_≡_, refl, sym, ap, _∙_, subst}
-use Prim.Native.Nat.{_+_, _-_, _%_, _≤_, _<_}
-use native.Mathlib.Omega.{arith}
-use native.Mathlib.Nat.{add-zero, mod-eq-of-lt}
-use lib.ListN.{length}
+use Rattle.words.specs.Words.{_≡_, arith, _≤_, _+_, length, needs, _<_, refl, _∙_, sym, ap, _-_, _%_, subst, add-zero, mod-eq-of-lt}
 use Rattle.gather.specs.GatherSteps.{Collected}
 use Rattle.gather.proofs.Collecting.{next-column, collected-none, collected-more}
-use borrow.Author.Needs.{needs}
 use Rattle.gather.proofs.collect.Statement.{statement}
 use Rattle.gather.proofs.collect.Tie as tie
-use Rattle.gather.proofs.collect.Reads as reads
-use Rattle.gather.proofs.collect.Lts as lts
-use Rattle.gather.proofs.multiplier.Reads as multiplier-reads
-use Rattle.memory.proofs.next.Reads as next-reads
 
 abbrev Inv-loop : tie.InvT-loop
 Inv-loop mem equation multipliers₀ shape first n w c₀ any₀ -i₀ multipliers c any -i =
@@ -35,24 +26,6 @@ loop-holds c =
       refl,
     )
 
-shared-slice-read-multiplier : tie.Need-shared-slice-read-multiplier Inv-loop μ-loop
-shared-slice-read-multiplier c = search needs
-
-multiplier-requires : tie.Need-multiplier-requires Inv-loop μ-loop
-multiplier-requires c κs = search needs
-
-slice-write-multipliers : tie.Need-slice-write-multipliers Inv-loop μ-loop
-slice-write-multipliers c = search needs
-
-next-requires : tie.Need-next-requires Inv-loop μ-loop
-next-requires c κs = search needs
-
-add--i : tie.Need-add--i Inv-loop μ-loop
-add--i c = search needs
-
-loop-less : tie.Need-loop-less Inv-loop μ-loop
-loop-less c = search needs
-
 loop-again : tie.Need-loop-again Inv-loop μ-loop
 loop-again c =
     let a = c .before .before .before .before .before .before .before .before .args in
@@ -67,9 +40,6 @@ loop-again c =
       more,
       more .size,
     )
-
-same-length : tie.Need-same-length Inv-loop μ-loop
-same-length c = search needs
 
 returns : tie.Need-returns Inv-loop μ-loop
 returns c =
@@ -86,12 +56,12 @@ collect-spec =
     Inv-loop
     μ-loop
     loop-holds
-    shared-slice-read-multiplier
-    multiplier-requires
-    slice-write-multipliers
-    next-requires
-    add--i
-    loop-less
+    (λ c. search needs)
+    (λ c κs. search needs)
+    (λ c. search needs)
+    (λ c κs. search needs)
+    (λ c. search needs)
+    (λ c. search needs)
     loop-again
-    same-length
+    (λ c. search needs)
     returns)

@@ -1,18 +1,10 @@
 -- `gather::find_pivot` meets its contract. The loops: no coefficient in the rows before, and none in the columns before.
-use mathlib.Core.Path.{_≡_, refl, sym, ap, _∙_}
-use Prim.Native.Nat.{_+_, _-_, _%_, _≤_, _<_}
-use native.Mathlib.Omega.{arith}
-use native.Mathlib.Nat.{add-zero, mod-eq-of-lt}
+use Rattle.words.specs.Words.{_≡_, arith, _≤_, _+_, needs, _<_, refl, _∙_, sym, ap, _-_, _%_, add-zero, mod-eq-of-lt}
 use Rattle.table.specs.Window.{row}
 use Rattle.gather.proofs.Collecting.{next-column}
 use Rattle.gather.proofs.Searching.{Blank, BlankRows, blank-none, blank-more, blank-all, rows-none, rows-more, read-cell, leading-here}
-use borrow.Author.Needs.{needs}
 use Rattle.gather.proofs.find_pivot.Statement.{statement}
 use Rattle.gather.proofs.find_pivot.Tie as tie
-use Rattle.gather.proofs.find_pivot.Reads as reads
-use Rattle.gather.proofs.find_pivot.Lts as lts
-use Rattle.memory.proofs.next.Reads as next-reads
-use Rattle.table.proofs.row_offset.Reads as row-offset-reads
 
 abbrev Inv-loop : tie.InvT-loop
 Inv-loop work shape first from to w r at i₀ c₀ i c =
@@ -32,9 +24,6 @@ rows-holds c =
     let a = c .before .args in
     (search needs, search needs, refl, rows-none (a .shape .width) (a .shape .size) (a .first) (a .from) (a .from) (a .work .now) refl)
 
-row-offset-requires : tie.Need-row-offset-requires Inv-loop μ-loop Inv-rows μ-rows
-row-offset-requires c κs = search needs
-
 loop-holds : tie.Need-loop-holds Inv-loop μ-loop Inv-rows μ-rows
 loop-holds c =
     let a = c .before .before .before .before .args in (
@@ -45,21 +34,6 @@ loop-holds c =
       blank-none (a .shape .width)
           (a .first) (row (a .shape .width) (a .shape .size) (c .before .before .rows .r) (a .work .now)),
     )
-
-add-if2 : tie.Need-add-if2 Inv-loop μ-loop Inv-rows μ-rows
-add-if2 c = search needs
-
-shared-slice-read-if2 : tie.Need-shared-slice-read-if2 Inv-loop μ-loop Inv-rows μ-rows
-shared-slice-read-if2 c = search needs
-
-add-i : tie.Need-add-i Inv-loop μ-loop Inv-rows μ-rows
-add-i c = search needs
-
-next-requires : tie.Need-next-requires Inv-loop μ-loop Inv-rows μ-rows
-next-requires c κs = search needs
-
-loop-less : tie.Need-loop-less Inv-loop μ-loop Inv-rows μ-rows
-loop-less c = search needs
 
 loop-again : tie.Need-loop-again Inv-loop μ-loop Inv-rows μ-rows
 loop-again c =
@@ -75,12 +49,6 @@ loop-again c =
       c .next .ensures .1,
       blank-more (a .shape .width) (a .first) (turn .i) (row (a .shape .width) (a .shape .size) r (a .work .now)) (turn .inv .4) zero,
     )
-
-add-r : tie.Need-add-r Inv-loop μ-loop Inv-rows μ-rows
-add-r c = search needs
-
-rows-less : tie.Need-rows-less Inv-loop μ-loop Inv-rows μ-rows
-rows-less c = search needs
 
 rows-again : tie.Need-rows-again Inv-loop μ-loop Inv-rows μ-rows
 rows-again c =
@@ -126,16 +94,16 @@ find-pivot-spec =
     Inv-rows
     μ-rows
     rows-holds
-    row-offset-requires
+    (λ c κs. search needs)
     loop-holds
-    add-if2
-    shared-slice-read-if2
-    add-i
-    next-requires
-    loop-less
+    (λ c. search needs)
+    (λ c. search needs)
+    (λ c. search needs)
+    (λ c κs. search needs)
+    (λ c. search needs)
     loop-again
-    add-r
-    rows-less
+    (λ c. search needs)
+    (λ c. search needs)
     rows-again
     returns
     returns-2)

@@ -1,33 +1,17 @@
 -- `gather::multiplier` meets its contract.
-use mathlib.Core.Path.{sym, ap, _∙_}
-use Prim.Native.Nat.{_+_}
-use native.Mathlib.Omega.{arith}
-use lib.ListN.{getD}
+use Rattle.words.specs.Words.{arith, _+_, needs, _∙_, sym, ap, getD}
 use Rattle.memory.proofs.Parts.{row-fits}
 use Rattle.table.specs.Window.{stride, row, inUse}
 use Rattle.gather.specs.GatherSteps.{if-used}
 use Rattle.table.proofs.Flags.{flag-at, unused, used}
 use Rattle.gather.proofs.Collecting.{used-zero}
-use borrow.Author.Needs.{needs}
 use Rattle.gather.proofs.multiplier.Statement.{statement}
 use Rattle.gather.proofs.multiplier.Tie as tie
-use Rattle.gather.proofs.multiplier.Reads as reads
-use Rattle.gather.proofs.multiplier.Lts as lts
-use Rattle.table.proofs.row_offset.Reads as row-offset-reads
 
 returns : tie.Need-returns
 returns c =
     let a = c .before .before .args in
     used-zero (inUse (a .shape .width) (a .shape .size) (row (a .shape .width) (a .shape .size) (a .c) (a .mem .now))) (a .k) (omega arith)
-
-row-offset-requires : tie.Need-row-offset-requires
-row-offset-requires c κs = search needs
-
-add-if2 : tie.Need-add-if2
-add-if2 c = search needs
-
-add-if2-2 : tie.Need-add-if2-2
-add-if2-2 c = search needs
 
 shared-slice-read-if2 : tie.Need-shared-slice-read-if2
 shared-slice-read-if2 c =
@@ -56,9 +40,9 @@ multiplier-spec =
     tie.close
     (tie.spec
     returns
-    row-offset-requires
-    add-if2
-    add-if2-2
+    (λ c κs. search needs)
+    (λ c. search needs)
+    (λ c. search needs)
     shared-slice-read-if2
     returns-2
     returns-3)

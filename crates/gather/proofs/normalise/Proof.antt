@@ -1,45 +1,8 @@
 -- `gather::normalise` meets its contract.
-use mathlib.Core.Path.{refl}
-use native.Mathlib.Omega.{arith}
+use Rattle.words.specs.Words.{arith, needs, refl}
 use Rattle.gather.proofs.Admitting.{normalised}
-use borrow.Author.Needs.{needs}
 use Rattle.gather.proofs.normalise.Statement.{statement}
 use Rattle.gather.proofs.normalise.Tie as tie
-use Rattle.gather.proofs.normalise.Reads as reads
-use Rattle.gather.proofs.normalise.Lts as lts
-use Rattle.table.proofs.row_offset.Reads as row-offset-reads
-use Rattle.field.proofs.Gf256.inverse.Reads as inverse-reads
-use Rattle.rows.proofs.scale_part.Reads as scale-part-reads
-
-add-n : tie.Need-add-n
-add-n c = search needs
-
-row-offset-requires : tie.Need-row-offset-requires
-row-offset-requires c κs = search needs
-
-add-work : tie.Need-add-work
-add-work c = search needs
-
-slice-read-work : tie.Need-slice-read-work
-slice-read-work c = search needs
-
-inverse-requires : tie.Need-inverse-requires
-inverse-requires c κs = search needs
-
-scale-part-requires : tie.Need-scale-part-requires
-scale-part-requires c κs = search needs
-
-cast-work : tie.Need-cast-work
-cast-work c = search needs
-
-add-work-2 : tie.Need-add-work-2
-add-work-2 c = search needs
-
-slice-write-work : tie.Need-slice-write-work
-slice-write-work c = search needs
-
-same-length : tie.Need-same-length
-same-length c = search needs
 
 returns : tie.Need-returns
 returns c =
@@ -55,14 +18,14 @@ pub normalise-spec : {M : Type 1} → statement M
 normalise-spec =
     tie.close
     (tie.spec
-    add-n
-    row-offset-requires
-    add-work
-    slice-read-work
-    inverse-requires
-    scale-part-requires
-    cast-work
-    add-work-2
-    slice-write-work
-    same-length
+    (λ c. search needs)
+    (λ c κs. search needs)
+    (λ c. search needs)
+    (λ c. search needs)
+    (λ c κs. search needs)
+    (λ c κs. search needs)
+    (λ c. search needs)
+    (λ c. search needs)
+    (λ c. search needs)
+    (λ c. search needs)
     returns)

@@ -1,20 +1,13 @@
 -- `gather::reduce_within` meets its contract. The loop: the pivots of the rows so far are eliminated.
-use mathlib.Core.Path.{_≡_, refl, subst}
-use Prim.Native.Nat.{_-_, _≤_}
-use native.Mathlib.Omega.{arith}
-use lib.ListN.{length}
+use Rattle.words.specs.Words.{_≡_, arith, _≤_, length, needs, refl, _-_, subst}
 use Rattle.memory.specs.Number.{Bytes}
 use Rattle.table.specs.Packet.{Works}
 use Rattle.table.proofs.Offsets.{flags-fit}
 use Rattle.gather.specs.GatherSteps.{PacketReduced}
 use Rattle.gather.proofs.Framing.{works-only}
 use Rattle.gather.proofs.Reducing.{packet-none, packet-more}
-use borrow.Author.Needs.{needs}
 use Rattle.gather.proofs.reduce_within.Statement.{statement}
 use Rattle.gather.proofs.reduce_within.Tie as tie
-use Rattle.gather.proofs.reduce_within.Reads as reads
-use Rattle.gather.proofs.reduce_within.Lts as lts
-use Rattle.gather.proofs.eliminate.Reads as eliminate-reads
 
 abbrev Inv-loop : tie.InvT-loop
 Inv-loop work₀ shape k j₀ work j =
@@ -33,12 +26,6 @@ loop-holds c =
 eliminate-requires : tie.Need-eliminate-requires Inv-loop μ-loop
 eliminate-requires c κs = (c .before .before .loop .inv .2, search needs)
 
-add-j : tie.Need-add-j Inv-loop μ-loop
-add-j c = search needs
-
-loop-less : tie.Need-loop-less Inv-loop μ-loop
-loop-less c = search needs
-
 loop-again : tie.Need-loop-again Inv-loop μ-loop
 loop-again c =
     let start = c .before .before .before .before .before .before .before in
@@ -53,9 +40,6 @@ loop-again c =
       (λ i. c .slice-known2 .given i .fits),
       more .only .size,
     )
-
-same-length : tie.Need-same-length Inv-loop μ-loop
-same-length c = search needs
 
 returns : tie.Need-returns Inv-loop μ-loop
 returns c =
@@ -72,8 +56,8 @@ reduce-within-spec =
     μ-loop
     loop-holds
     eliminate-requires
-    add-j
-    loop-less
+    (λ c. search needs)
+    (λ c. search needs)
     loop-again
-    same-length
+    (λ c. search needs)
     returns)

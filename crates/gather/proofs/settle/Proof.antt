@@ -1,37 +1,17 @@
 -- `gather::settle` meets its contract.
-use mathlib.Core.Path.{_≡_, ap, subst}
-use Prim.Native.Nat.{_+_}
-use native.Mathlib.Nat.{mod-lt}
-use native.Mathlib.Omega.{arith}
+use Rattle.words.specs.Words.{_≡_, arith, _+_, needs, ap, subst, mod-lt}
 use Rattle.table.specs.Packet.{Works}
 use Rattle.gather.specs.GatherSteps.{Searched}
 use Rattle.gather.proofs.Framing.{works-none}
 use Rattle.gather.proofs.Admitting.{settled-kept, settled-implied, settled-contradiction}
-use borrow.Author.Needs.{needs}
 use Rattle.gather.proofs.settle.Statement.{statement}
 use Rattle.gather.proofs.settle.Tie as tie
-use Rattle.gather.proofs.settle.Reads as reads
-use Rattle.gather.proofs.settle.Lts as lts
-use Rattle.table.proofs.or_all.Reads as or-all-reads
-use Rattle.gather.proofs.find_pivot.Reads as find-pivot-reads
-use Rattle.memory.proofs.least.Reads as least-reads
-use Rattle.gather.proofs.normalise.Reads as normalise-reads
-use Rattle.table.proofs.row_offset.Reads as row-offset-reads
-
-add-least : tie.Need-add-least
-add-least c = search needs
-
-least-requires : tie.Need-least-requires
-least-requires c κs = search needs
 
 find-pivot-requires : tie.Need-find-pivot-requires
 find-pivot-requires c κs =
     let start = c .before .before .before in
     let a = start .args in
     (works-none (start .pre .0), search needs, omega (arith, c .least .ensures, start .pre .0 .within), omega (arith, c .least .ensures))
-
-enum-known-r : tie.Need-enum-known-r
-enum-known-r c = search needs
 
 normalise-requires : tie.Need-normalise-requires
 normalise-requires c κs =
@@ -47,9 +27,6 @@ normalise-requires c κs =
       omega
           (arith, found .2, mod-lt (a .first + found .0) {m = a .shape .width} (omega arith)),
     )
-
-same-length : tie.Need-same-length
-same-length c = search needs
 
 returns : tie.Need-returns
 returns c =
@@ -67,24 +44,6 @@ returns c =
     (found .3) (omega (arith, found .4, least .ensures)) (omega (arith, found .4, least .ensures)) (found .1) (found .2) (found .6)
     (c .before .before .normalise .ensures)
 
-enum-told : tie.Need-enum-told
-enum-told c = search needs
-
-row-offset-requires : tie.Need-row-offset-requires
-row-offset-requires c κs = search needs
-
-add-symbol : tie.Need-add-symbol
-add-symbol c = search needs
-
-add-or-all : tie.Need-add-or-all
-add-or-all c = search needs
-
-or-all-requires : tie.Need-or-all-requires
-or-all-requires c κs = search needs
-
-same-length-2 : tie.Need-same-length-2
-same-length-2 c = search needs
-
 returns-2 : tie.Need-returns-2
 returns-2 c =
     let start = c .before .before .before .before .before .before .before .before .before .before .before in
@@ -99,9 +58,6 @@ returns-2 c =
     (ap (λ x. x + a .shape .width) (c .before .before .before .before .row-offset .ensures .start))
     (λ h. found (a .k) (omega arith) (omega (arith, least .ensures)))
     (c .before .or-all .ensures .0 (c .if1 .taken))
-
-same-length-3 : tie.Need-same-length-3
-same-length-3 c = search needs
 
 returns-3 : tie.Need-returns-3
 returns-3 c =
@@ -122,19 +78,19 @@ pub settle-spec : {M : Type 1} → statement M
 settle-spec =
     tie.close
     (tie.spec
-    add-least
-    least-requires
+    (λ c. search needs)
+    (λ c κs. search needs)
     find-pivot-requires
-    enum-known-r
+    (λ c. search needs)
     normalise-requires
-    same-length
+    (λ c. search needs)
     returns
-    enum-told
-    row-offset-requires
-    add-symbol
-    add-or-all
-    or-all-requires
-    same-length-2
+    (λ c. search needs)
+    (λ c κs. search needs)
+    (λ c. search needs)
+    (λ c. search needs)
+    (λ c κs. search needs)
+    (λ c. search needs)
     returns-2
-    same-length-3
+    (λ c. search needs)
     returns-3)

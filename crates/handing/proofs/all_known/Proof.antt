@@ -1,10 +1,6 @@
 -- `handing::all_known` meets its contract. The loop: the positions before the i-th from d on are known.
-use mathlib.Core.Bool.{true, false}
-use Prim.Native.Nat.{_+_, _-_, _≤_}
-use native.Mathlib.Omega.{arith}
-use borrow.Author.Tests.{not-true, not-false}
+use Rattle.words.specs.Words.{arith, _≤_, _+_, needs, _-_, true, false, not-false, not-true}
 use Rattle.handing.proofs.Giving.{KnownFrom, known-is, known-none, known-more, known-all, known-not, known-beyond}
-use borrow.Author.Needs.{needs}
 use Rattle.handing.proofs.all_known.Statement.{statement}
 use Rattle.handing.proofs.all_known.Tie as tie
 

@@ -1,11 +1,7 @@
 -- `handing::copy_adu` meets its contract. The loop: the ADU's bytes of the symbols before the i-th have been copied.
-use mathlib.Core.Path.{_≡_}
-use Prim.Native.Nat.{_-_, _≤_}
-use native.Mathlib.Omega.{arith}
-use lib.ListN.{length}
+use Rattle.words.specs.Words.{_≡_, arith, _≤_, length, needs, _-_}
 use Rattle.handing.specs.HandSteps.{text}
 use Rattle.handing.proofs.Copying.{span-some, Copied, copied-none, copied-length, copied-all, copied-more}
-use borrow.Author.Needs.{needs}
 use Rattle.handing.proofs.copy_adu.Statement.{statement}
 use Rattle.handing.proofs.copy_adu.Tie as tie
 

@@ -1,13 +1,7 @@
 -- `handing::hand_out` meets its contract.
-use mathlib.Core.Path.{sym, _∙_}
-use mathlib.Core.Bool.{true, false}
-use mathlib.Core.List.{List}
-use Prim.Native.Nat.{ℕ}
-use native.Mathlib.Omega.{arith}
-use borrow.Author.Tests.{not-true, not-false}
-use Rattle.handing.proofs.Giving.{known-is, Read, Whole, whole-is, spans}
-use Rattle.handing.proofs.Giving.{no-start, first-unknown, too-many, another-unknown, not-padded, no-room, hands-out}
-use borrow.Author.Needs.{needs}
+use Rattle.words.specs.Words.{arith, ℕ, List, needs, _∙_, sym, true, false, not-false, not-true}
+use Rattle.handing.proofs.Giving.{known-is, Read, Whole, whole-is, spans, no-start, first-unknown, too-many, another-unknown, not-padded, no-room}
+use Rattle.handing.proofs.Giving.{hands-out}
 use Rattle.handing.proofs.hand_out.Statement.{statement}
 use Rattle.handing.proofs.hand_out.Tie as tie
 

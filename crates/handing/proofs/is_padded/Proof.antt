@@ -1,8 +1,6 @@
 -- `handing::is_padded` meets its contract.
-use Prim.Native.Nat.{_+_, _-_, _*_, _<_}
-use native.Mathlib.Omega.{arith}
+use Rattle.words.specs.Words.{arith, _+_, needs, _<_, _-_, _*_}
 use Rattle.handing.proofs.Copying.{span-some, span-start, span-last, padding-test}
-use borrow.Author.Needs.{needs}
 use Rattle.handing.proofs.is_padded.Statement.{statement}
 use Rattle.handing.proofs.is_padded.Tie as tie
 

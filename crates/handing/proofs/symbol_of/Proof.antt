@@ -1,6 +1,6 @@
 -- `handing::symbol_of` meets its contract.
+use Rattle.words.specs.Words.{needs}
 use Rattle.handing.proofs.Copying.{symbol-found}
-use borrow.Author.Needs.{needs}
 use Rattle.handing.proofs.symbol_of.Statement.{statement}
 use Rattle.handing.proofs.symbol_of.Tie as tie
 

@@ -1,6 +1,5 @@
 -- `latency::are_allowed` meets its contract: each way out rewrites with the tests before it.
-use borrow.Author.Needs.{needs}
-use borrow.Author.Tests.{not-true, not-false}
+use Rattle.words.specs.Words.{needs, not-false, not-true}
 use Rattle.latency.proofs.are_allowed.Statement.{statement}
 use Rattle.latency.proofs.are_allowed.Tie as tie
 

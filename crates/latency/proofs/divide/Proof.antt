@@ -1,6 +1,5 @@
 -- `latency::divide` meets its contract.
-use mathlib.Core.Path.{refl}
-use native.Mathlib.Omega.{arith}
+use Rattle.words.specs.Words.{arith, refl}
 use Rattle.latency.proofs.divide.Statement.{statement}
 use Rattle.latency.proofs.divide.Tie as tie
 

@@ -1,7 +1,5 @@
 -- `latency::dw_max_size` meets its contract.
-use mathlib.Core.Path.{sym, _∙_}
-use borrow.Author.Tests.{not-true, not-false}
-use borrow.Author.Needs.{needs}
+use Rattle.words.specs.Words.{needs, _∙_, sym, not-false, not-true}
 use Rattle.latency.proofs.Laws.{bounds, window-answered}
 use Rattle.latency.proofs.dw_max_size.Statement.{statement}
 use Rattle.latency.proofs.dw_max_size.Tie as tie

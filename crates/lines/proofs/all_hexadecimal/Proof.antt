@@ -1,10 +1,5 @@
 -- `lines::all_hexadecimal` meets its contract. The loop's invariant: all are digits if those before i are, and the others are.
-use mathlib.Core.Path.{_≡_, refl, sym, _∙_}
-use mathlib.Core.Bool.{_&&_}
-use Prim.Native.Nat.{_-_, _≤_}
-use native.Mathlib.Omega.{arith}
-use lib.ListN.{length, drop}
-use borrow.Author.Needs.{needs}
+use Rattle.words.specs.Words.{_≡_, arith, _≤_, length, needs, refl, _∙_, sym, _-_, drop, _&&_}
 use Rattle.lines.specs.Inner.{allDigits}
 use Rattle.lines.proofs.Digits.{next-looked-at, all-looked-at}
 use Rattle.lines.proofs.all_hexadecimal.Statement.{statement}

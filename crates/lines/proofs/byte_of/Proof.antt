@@ -1,6 +1,5 @@
 -- `lines::byte_of` meets its contract.
-use native.Mathlib.Omega.{arith}
-use borrow.Author.Needs.{needs}
+use Rattle.words.specs.Words.{arith, needs}
 use Rattle.lines.proofs.Digits.{Paired, paired}
 use Rattle.lines.proofs.byte_of.Statement.{statement}
 use Rattle.lines.proofs.byte_of.Tie as tie

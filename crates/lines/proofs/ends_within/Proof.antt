@@ -1,9 +1,5 @@
 -- `lines::ends_within` meets its contract. The loop's invariant: where no 0A was found, none of the k bytes is one.
-use mathlib.Core.Path.{_≡_}
-use mathlib.Core.Bool.{false}
-use Prim.Native.Nat.{_-_, _≤_}
-use native.Mathlib.Omega.{arith}
-use lib.ListN.{drop}
+use Rattle.words.specs.Words.{_≡_, arith, _≤_, _-_, false, drop}
 use borrow.Author.Count.{below-none}
 use Rattle.lines.specs.Inner.{NoEnd}
 use Rattle.lines.proofs.Breaks.{piece-more}

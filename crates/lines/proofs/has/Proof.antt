@@ -1,9 +1,5 @@
 -- `lines::has` meets its contract. The loop's invariant: the text is at `at` exactly where its bytes from i on are at `at + i`.
-use mathlib.Core.Path.{_≡_, sym, _∙_}
-use Prim.Native.Nat.{_+_, _-_, _≤_}
-use native.Mathlib.Nat.{add-zero}
-use native.Mathlib.Omega.{arith}
-use lib.ListN.{length, drop}
+use Rattle.words.specs.Words.{_≡_, arith, _≤_, _+_, length, _∙_, sym, _-_, drop, add-zero}
 use Rattle.lines.specs.Reading.{after}
 use Rattle.lines.proofs.Texts.{no-room, same-byte, other-byte, all-bytes}
 use Rattle.lines.proofs.has.Statement.{statement}

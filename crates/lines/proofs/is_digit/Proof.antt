@@ -1,5 +1,5 @@
 -- `lines::is_digit` meets its contract.
-use borrow.Author.Tests.{lt-leb, le-leb}
+use Rattle.words.specs.Words.{le-leb, lt-leb}
 use Rattle.lines.proofs.is_digit.Statement.{statement}
 use Rattle.lines.proofs.is_digit.Tie as tie
 

@@ -1,6 +1,5 @@
 -- `lines::is_hexadecimal` meets its contract: each way out rewrites with the tests before it.
-use borrow.Author.Tests.{lt-leb, le-leb}
-use borrow.Author.Needs.{needs}
+use Rattle.words.specs.Words.{needs, le-leb, lt-leb}
 use Rattle.lines.proofs.Digits.{digits-named}
 use Rattle.lines.proofs.is_hexadecimal.Statement.{statement}
 use Rattle.lines.proofs.is_hexadecimal.Tie as tie

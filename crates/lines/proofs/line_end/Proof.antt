@@ -1,9 +1,6 @@
 -- `lines::line_end` meets its contract. The loop's invariant: no byte before i is 0A.
-use Prim.Native.Nat.{_-_, _≤_}
-use native.Mathlib.Omega.{arith}
-use lib.ListN.{length}
+use Rattle.words.specs.Words.{arith, _≤_, length, needs, _-_}
 use borrow.Author.Count.{below-more}
-use borrow.Author.Needs.{needs}
 use Rattle.lines.specs.Inner.{NoEnd}
 use Rattle.lines.proofs.line_end.Statement.{statement}
 use Rattle.lines.proofs.line_end.Tie as tie

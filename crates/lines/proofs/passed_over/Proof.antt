@@ -1,7 +1,5 @@
 -- `lines::passed_over` meets its contract. The loop's invariant: no line ends before i.
-use Prim.Native.Nat.{_-_, _≤_}
-use native.Mathlib.Omega.{arith}
-use lib.ListN.{length}
+use Rattle.words.specs.Words.{arith, _≤_, length, _-_}
 use borrow.Author.Count.{below-none}
 use Rattle.lines.specs.Inner.{NoEnd}
 use Rattle.lines.proofs.Breaks.{piece-passed}

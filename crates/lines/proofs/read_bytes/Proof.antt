@@ -1,10 +1,5 @@
 -- `lines::read_bytes` meets its contract. The loop's invariant: the bytes before k are those of the digits before `at + 2 * k`.
-use mathlib.Core.Path.{_≡_, refl, sym, _∙_}
-use Prim.Native.Nat.{_+_, _*_, _-_, _/_, _≤_}
-use native.Mathlib.Omega.{arith}
-use lib.ListN.{length, drop, length-set, length-drop}
-use borrow.Author.Tests.{not-true, not-false}
-use borrow.Author.Needs.{needs}
+use Rattle.words.specs.Words.{_≡_, arith, _≤_, _+_, length, needs, refl, _∙_, sym, _-_, _*_, drop, _/_, not-false, not-true, length-drop, length-set}
 use Rattle.lines.proofs.Digits.{odd-digits, no-digits, Bytewise, nothing-read, next-digits, more-read, all-read}
 use Rattle.lines.proofs.read_bytes.Statement.{statement}
 use Rattle.lines.proofs.read_bytes.Tie as tie

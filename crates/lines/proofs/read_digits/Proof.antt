@@ -1,11 +1,5 @@
 -- `lines::read_digits` meets its contract. The loop's invariant: the number that has begun with `value` goes on from i.
-use mathlib.Core.Path.{_≡_, refl, sym, _∙_}
-use mathlib.Core.Bool.{true}
-use Prim.Native.Nat.{ℕ, _-_, _≤_}
-use native.Mathlib.Omega.{arith}
-use lib.ListN.{length, getD, drop}
-use borrow.Author.Tests.{not-true, not-false}
-use borrow.Author.Needs.{needs}
+use Rattle.words.specs.Words.{_≡_, arith, ℕ, _≤_, length, needs, refl, _∙_, sym, _-_, true, getD, drop, not-false, not-true}
 use Rattle.wire.proofs.Settings.{within-bounds}
 use Rattle.lines.specs.Reading.{isDigit, numberFrom}
 use Rattle.lines.proofs.Numbers.{at-end, no-digit, too-large, one-digit}

@@ -1,12 +1,6 @@
 -- `lines::read_first` meets its contract: each way out rewrites with the fields that were read.
-use mathlib.Core.Path.{_≡_}
-use mathlib.Core.List.{List}
-use mathlib.Core.Option.{some}
-use Prim.Native.Nat.{ℕ}
-use native.Mathlib.Omega.{arith}
-use lib.ListN.{drop, drop-of-length-le}
-use lib.Seq.{drop-cons}
-use borrow.Author.Needs.{needs}
+use Rattle.words.specs.Words.{_≡_, arith, ℕ, List, needs, some, drop, drop-cons}
+use lib.ListN.{drop-of-length-le}
 use Rattle.text.specs.Text.{ascii}
 use Rattle.lines.specs.Reading.{fieldIn, valuesIn}
 use Rattle.lines.proofs.Answers.{number-some, number-small, number-none}

@@ -1,12 +1,5 @@
 -- `lines::read_line` meets its contract: each way out rewrites with what was read.
-use mathlib.Core.Path.{_≡_}
-use mathlib.Core.List.{List}
-use mathlib.Core.Option.{some}
-use Prim.Native.Nat.{ℕ, _≤_}
-use native.Mathlib.Omega.{arith}
-use lib.ListN.{length, drop}
-use borrow.Author.Tests.{le-leb, lt-leb}
-use borrow.Author.Needs.{needs}
+use Rattle.words.specs.Words.{_≡_, arith, ℕ, _≤_, List, length, needs, some, drop, le-leb, lt-leb}
 use Rattle.text.specs.Text.{ascii}
 use Rattle.lines.specs.Reading.{fieldIn, repairIn, mostFlow, sourceIn, callIn}
 use Rattle.lines.proofs.Answers.{number-some, number-small, number-none, bytes-some, bytes-fit, bytes-none}

@@ -1,11 +1,5 @@
 -- `lines::read_number` meets its contract: each way out goes by the line's first byte.
-use mathlib.Core.Path.{_≡_, sym, _∙_}
-use mathlib.Core.Bool.{true}
-use Prim.Native.Nat.{ℕ, _≤_}
-use native.Mathlib.Omega.{arith}
-use lib.ListN.{getD}
-use borrow.Author.Tests.{not-true, not-false}
-use borrow.Author.Needs.{needs}
+use Rattle.words.specs.Words.{_≡_, arith, ℕ, _≤_, needs, _∙_, sym, true, getD, not-false, not-true}
 use Rattle.wire.proofs.Settings.{within-bounds}
 use Rattle.lines.specs.Reading.{isDigit}
 use Rattle.lines.proofs.Numbers.{none-left, no-number, zero-read, begun}

@@ -1,9 +1,5 @@
 -- `lines::read_packet` meets its contract.
-use Prim.Native.Nat.{_+_, _≤_}
-use native.Mathlib.Omega.{arith}
-use lib.ListN.{length}
-use borrow.Author.Tests.{not-true, not-false}
-use borrow.Author.Needs.{needs}
+use Rattle.words.specs.Words.{arith, _≤_, _+_, length, needs, not-false, not-true}
 use Rattle.lines.proofs.Texts.{text-within}
 use Rattle.lines.proofs.read_packet.Statement.{statement}
 use Rattle.lines.proofs.read_packet.Tie as tie

@@ -1,8 +1,5 @@
 -- `marks::drop_first` meets its contract.
-use borrow.Author.Needs.{needs}
-use native.Mathlib.Omega.{arith}
-use mathlib.Core.Path.{_≡_}
-use Prim.Native.Nat.{_≤_, _-_}
+use Rattle.words.specs.Words.{_≡_, arith, _≤_, needs, _-_}
 use Rattle.marks.specs.MarkSteps.{Dropped}
 use Rattle.marks.proofs.Only.{only-fits}
 use Rattle.marks.proofs.Marking.{dropped-none, dropped-more, dropped-to}
@@ -20,12 +17,6 @@ loop-holds c = (search needs, dropped-none _ _ _ _)
 
 write-requires : tie.Need-write-requires Inv-loop μ-loop
 write-requires c κs = (only-fits (c .before .before .before .before .pre .0) (c .before .before .loop .inv .1 .only), omega arith, omega arith)
-
-add-i : tie.Need-add-i Inv-loop μ-loop
-add-i c = search needs
-
-loop-less : tie.Need-loop-less Inv-loop μ-loop
-loop-less c = search needs
 
 loop-again : tie.Need-loop-again Inv-loop μ-loop
 loop-again c =
@@ -47,8 +38,8 @@ drop-first-spec =
     μ-loop
     loop-holds
     write-requires
-    add-i
-    loop-less
+    (λ c. search needs)
+    (λ c. search needs)
     loop-again
     same-length
     returns)

@@ -1,7 +1,5 @@
 -- `marks::known_among` meets its contract.
-use borrow.Author.Needs.{needs}
-use native.Mathlib.Omega.{arith}
-use Prim.Native.Nat.{_-_, _≤_}
+use Rattle.words.specs.Words.{arith, _≤_, needs, _-_}
 use Rattle.marks.specs.MarkSteps.{Tallied}
 use Rattle.marks.proofs.Gaining.{tallied-none, tallied-more, tallied-to}
 use Rattle.marks.proofs.known_among.Statement.{statement}
@@ -16,22 +14,10 @@ abbrev μ-loop : tie.MeasureT-loop
 loop-holds : tie.Need-loop-holds Inv-loop μ-loop
 loop-holds c = (search needs, tallied-none _ _ _ _ _)
 
-add-one-known : tie.Need-add-one-known Inv-loop μ-loop
-add-one-known c = omega arith
-
-one-known-requires : tie.Need-one-known-requires Inv-loop μ-loop
-one-known-requires c κs = search needs
-
 add-count : tie.Need-add-count Inv-loop μ-loop
 add-count c =
     let p2 = c .before .before in
     omega (arith, p2 .loop .inv .1 .most, c .one-known .ensures .most)
-
-add-i : tie.Need-add-i Inv-loop μ-loop
-add-i c = search needs
-
-loop-less : tie.Need-loop-less Inv-loop μ-loop
-loop-less c = search needs
 
 loop-again : tie.Need-loop-again Inv-loop μ-loop
 loop-again c =
@@ -48,10 +34,10 @@ known-among-spec =
     Inv-loop
     μ-loop
     loop-holds
-    add-one-known
-    one-known-requires
+    (λ c. omega arith)
+    (λ c κs. search needs)
     add-count
-    add-i
-    loop-less
+    (λ c. search needs)
+    (λ c. search needs)
     loop-again
     returns)

@@ -1,10 +1,7 @@
 -- `marks::mark_at` meets its contract.
-use mathlib.Core.Path.{ap, _∙_}
-use Prim.Native.Nat.{_+_}
-use native.Mathlib.Omega.{arith}
+use Rattle.words.specs.Words.{arith, _+_, needs, _∙_, ap}
 use Rattle.table.proofs.Offsets.{header-long}
 use Rattle.marks.proofs.Only.{flag-inside, mark-row, mark-past}
-use borrow.Author.Needs.{needs}
 use Rattle.marks.proofs.mark_at.Statement.{statement}
 use Rattle.marks.proofs.mark_at.Tie as tie
 

@@ -1,24 +1,13 @@
 -- `marks::move_on` meets its contract.
-use native.Mathlib.Omega.{arith}
+use Rattle.words.specs.Words.{arith, needs, refl}
 use Rattle.table.proofs.Offsets.{header-long}
-use mathlib.Core.Path.{refl}
 use Rattle.marks.proofs.Only.{only-fits, only-trans}
 use Rattle.marks.proofs.Marking.{written-only, moved-none, moved-far, moved-near}
-use borrow.Author.Needs.{needs}
 use Rattle.marks.proofs.move_on.Statement.{statement}
 use Rattle.marks.proofs.move_on.Tie as tie
 
 returns : tie.Need-returns
 returns c = moved-none _ _ _ _ _ (c .before .before .pre .1) (c .if1 .taken)
-
-add-drop-first : tie.Need-add-drop-first
-add-drop-first c = search needs
-
-drop-first-requires : tie.Need-drop-first-requires
-drop-first-requires c κs = search needs
-
-same-length : tie.Need-same-length
-same-length c = search needs
 
 returns-2 : tie.Need-returns-2
 returns-2 c =
@@ -29,9 +18,6 @@ returns-2 c =
 
 slice-read-past : tie.Need-slice-read-past
 slice-read-past c = omega (arith, header-long)
-
-drop-first-requires-2 : tie.Need-drop-first-requires-2
-drop-first-requires-2 c κs = search needs
 
 write-requires : tie.Need-write-requires
 write-requires c κs =
@@ -47,9 +33,6 @@ write-requires-2 c κs =
     let only = only-trans (p7 .drop-first2 .ensures .only) (written-only (p13 .pre .0 .some-width) (p3 .write .ensures)) in
     (only-fits (p13 .pre .0) only, omega arith, omega arith)
 
-same-length-2 : tie.Need-same-length-2
-same-length-2 c = search needs
-
 returns-3 : tie.Need-returns-3
 returns-3 c =
     let p2 = c .before .before in
@@ -63,13 +46,13 @@ move-on-spec =
     tie.close
     (tie.spec
     returns
-    add-drop-first
-    drop-first-requires
-    same-length
+    (λ c. search needs)
+    (λ c κs. search needs)
+    (λ c. search needs)
     returns-2
     slice-read-past
-    drop-first-requires-2
+    (λ c κs. search needs)
     write-requires
     write-requires-2
-    same-length-2
+    (λ c. search needs)
     returns-3)

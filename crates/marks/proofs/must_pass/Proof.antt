@@ -1,9 +1,7 @@
 -- `marks::must_pass` meets its contract.
+use Rattle.words.specs.Words.{arith, inr, true≢false, inl}
 use Rattle.marks.proofs.Passing.{not-noted}
-use native.Mathlib.Omega.{arith}
 use Rattle.table.proofs.Offsets.{header-long}
-use mathlib.Core.Bool.{true≢false}
-use mathlib.Core.Logic.{inl, inr}
 use Rattle.marks.proofs.must_pass.Statement.{statement}
 use Rattle.marks.proofs.must_pass.Tie as tie
 

@@ -1,18 +1,11 @@
 -- `marks::one_known` meets its contract.
-use native.Mathlib.Omega.{arith}
+use Rattle.words.specs.Words.{arith, needs}
 use Rattle.marks.proofs.Gaining.{one-outside, one-known, one-unknown}
-use borrow.Author.Needs.{needs}
 use Rattle.marks.proofs.one_known.Statement.{statement}
 use Rattle.marks.proofs.one_known.Tie as tie
 
 returns : tie.Need-returns
 returns c = one-outside _ _ _ _ _ (c .if1 .taken)
-
-row-of-requires : tie.Need-row-of-requires
-row-of-requires c κs = search needs
-
-is-known-requires : tie.Need-is-known-requires
-is-known-requires c κs = search needs
 
 returns-2 : tie.Need-returns-2
 returns-2 c =
@@ -29,4 +22,4 @@ returns-3 c =
     one-unknown _ _ _ (p6 .args .i) _ _ (omega arith) (p2 .row-of .ensures .is) (p1 .is-known .result) (c .if2 .left) (p1 .is-known .ensures)
 
 pub one-known-spec : {M : Type 1} → statement M
-one-known-spec = tie.close (tie.spec returns row-of-requires is-known-requires returns-2 returns-3)
+one-known-spec = tie.close (tie.spec returns (λ c κs. search needs) (λ c κs. search needs) returns-2 returns-3)

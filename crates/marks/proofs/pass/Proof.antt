@@ -1,8 +1,7 @@
 -- `marks::pass` meets its contract.
-use native.Mathlib.Omega.{arith}
+use Rattle.words.specs.Words.{arith, needs}
 use Rattle.marks.proofs.Only.{starts-fits}
 use Rattle.marks.proofs.Passing.{noted-only, passed-all}
-use borrow.Author.Needs.{needs}
 use Rattle.marks.proofs.pass.Statement.{statement}
 use Rattle.marks.proofs.pass.Tie as tie
 
@@ -17,9 +16,6 @@ step-all-requires c κs =
     let p6 = p3 .before .before .before in
     (starts-fits (p6 .pre .0) (noted-only (p3 .note .ensures)), p6 .pre .1)
 
-same-length : tie.Need-same-length
-same-length c = search needs
-
 returns : tie.Need-returns
 returns c =
     let p2 = c .before .before in
@@ -28,4 +24,4 @@ returns c =
     passed-all _ _ _ _ _ _ (p9 .pre .0 .some-width) (p6 .note .ensures) (p2 .step-all .ensures)
 
 pub pass-spec : {M : Type 1} → statement M
-pass-spec = tie.close (tie.spec note-requires step-all-requires same-length returns)
+pass-spec = tie.close (tie.spec note-requires step-all-requires (λ c. search needs) returns)

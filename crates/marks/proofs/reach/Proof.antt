@@ -1,8 +1,6 @@
 -- `marks::reach` meets its contract.
-use native.Mathlib.Omega.{arith}
-use mathlib.Core.Logic.{inl, inr}
+use Rattle.words.specs.Words.{arith, needs, inr, inl}
 use Rattle.marks.proofs.Passing.{followed-none, followed-own}
-use borrow.Author.Needs.{needs}
 use Rattle.marks.proofs.reach.Statement.{statement}
 use Rattle.marks.proofs.reach.Tie as tie
 
@@ -11,19 +9,10 @@ must-pass-requires c κs =
     let p2 = c .before .before in
     omega (arith, p2 .pre .0 .room)
 
-pass-requires : tie.Need-pass-requires
-pass-requires c κs = search needs
-
-same-length : tie.Need-same-length
-same-length c = search needs
-
 returns : tie.Need-returns
 returns c =
     let p2 = c .before .before in
     record { how = inl (p2 .pass .ensures) }
-
-same-length-2 : tie.Need-same-length-2
-same-length-2 c = search needs
 
 returns-2 : tie.Need-returns-2
 returns-2 c =
@@ -31,15 +20,6 @@ returns-2 c =
     let p2 = p1 .before in
     let may = p2 .must-pass .ensures .walks (p1 .if1 .left) in
     record { how = inr (may, followed-none _ _ _ _ _ (λ k h. omega (arith, h .0, c .if2 .taken))) }
-
-add-walk-all : tie.Need-add-walk-all
-add-walk-all c = search needs
-
-walk-all-requires : tie.Need-walk-all-requires
-walk-all-requires c κs = search needs
-
-same-length-3 : tie.Need-same-length-3
-same-length-3 c = search needs
 
 returns-3 : tie.Need-returns-3
 returns-3 c =
@@ -54,12 +34,12 @@ reach-spec =
     tie.close
     (tie.spec
     must-pass-requires
-    pass-requires
-    same-length
+    (λ c κs. search needs)
+    (λ c. search needs)
     returns
-    same-length-2
+    (λ c. search needs)
     returns-2
-    add-walk-all
-    walk-all-requires
-    same-length-3
+    (λ c. search needs)
+    (λ c κs. search needs)
+    (λ c. search needs)
     returns-3)

@@ -1,12 +1,8 @@
 -- `marks::set` meets its contract.
-use native.Mathlib.Omega.{arith}
+use Rattle.words.specs.Words.{arith, needs}
 use Rattle.marks.proofs.Marking.{added}
-use borrow.Author.Needs.{needs}
 use Rattle.marks.proofs.set.Statement.{statement}
 use Rattle.marks.proofs.set.Tie as tie
-
-write-requires : tie.Need-write-requires
-write-requires c κs = search needs
 
 same-length : tie.Need-same-length
 same-length c = c .before .before .write .ensures .size
@@ -18,4 +14,4 @@ returns c =
     added _ _ _ (p5 .args .i) _ _ (p5 .pre .0 .some-width) (omega arith) (p2 .write .ensures)
 
 pub set-spec : {M : Type 1} → statement M
-set-spec = tie.close (tie.spec write-requires same-length returns)
+set-spec = tie.close (tie.spec (λ c κs. search needs) same-length returns)

@@ -1,32 +1,15 @@
 -- `marks::step` meets its contract.
-use native.Mathlib.Omega.{arith}
-use borrow.Author.Tests.{not-true, not-false}
+use Rattle.words.specs.Words.{arith, needs, not-false, not-true}
 use Rattle.table.proofs.Offsets.{flags-fit, row-end}
 use Rattle.marks.proofs.Passing.{step-unmarked, step-unknown, step-long, step-far, step-again, step-near}
-use borrow.Author.Needs.{needs}
 use Rattle.marks.proofs.step.Statement.{statement}
 use Rattle.marks.proofs.step.Tie as tie
-
-is-marked-requires : tie.Need-is-marked-requires
-is-marked-requires c κs = search needs
-
-same-length : tie.Need-same-length
-same-length c = search needs
 
 returns : tie.Need-returns
 returns c =
     let p1 = c .before in
     let p4 = p1 .before .before .before in
     step-unmarked _ _ _ (p4 .args .i) _ (p4 .pre .2) (p1 .is-marked .result) (p1 .is-marked .ensures) (not-true (p1 .is-marked .result) (c .if1 .taken))
-
-row-of-requires : tie.Need-row-of-requires
-row-of-requires c κs = search needs
-
-is-known-requires : tie.Need-is-known-requires
-is-known-requires c κs = search needs
-
-same-length-2 : tie.Need-same-length-2
-same-length-2 c = search needs
 
 returns-2 : tie.Need-returns-2
 returns-2 c =
@@ -36,26 +19,11 @@ returns-2 c =
     step-unknown _ _ _ (p8 .args .i) _ _ (p8 .pre .2) (p3 .row-of .ensures .is) (p1 .is-known .result)
     (not-true (p1 .is-known .result) (c .if2 .taken)) (p1 .is-known .ensures)
 
-symbol-offset-requires : tie.Need-symbol-offset-requires
-symbol-offset-requires c κs = search needs
-
-add-load-u16 : tie.Need-add-load-u16
-add-load-u16 c = search needs
-
 load-u16-requires : tie.Need-load-u16-requires
 load-u16-requires c κs =
     let p5 = c .before .before .before .before .before in
     let s = p5 .before .before .before .before .before .args .shape in
     omega (arith, flags-fit (s .width) (s .size), row-end (s .width) (s .size) (p5 .row-of .result) (p5 .row-of .ensures .small))
-
-cast-symbol-count : tie.Need-cast-symbol-count
-cast-symbol-count c = search needs
-
-symbol-count-requires : tie.Need-symbol-count-requires
-symbol-count-requires c κs = search needs
-
-same-length-3 : tie.Need-same-length-3
-same-length-3 c = search needs
 
 returns-3 : tie.Need-returns-3
 returns-3 c =
@@ -73,15 +41,6 @@ returns-3 c =
     (p4 .symbol-offset .ensures .start) (p6 .is-known .result) (not-false (p6 .is-known .result) (p5 .if2 .left)) (p6 .is-known .ensures)
     (p2 .load-u16 .ensures) (p1 .symbol-count .ensures)
     (p10 .is-marked .result) (p10 .is-marked .ensures) (not-false (p10 .is-marked .result) (p9 .if1 .left)) (c .if3 .taken)
-
-sub-if4 : tie.Need-sub-if4
-sub-if4 c = search needs
-
-note-requires : tie.Need-note-requires
-note-requires c κs = search needs
-
-same-length-4 : tie.Need-same-length-4
-same-length-4 c = search needs
 
 returns-4 : tie.Need-returns-4
 returns-4 c =
@@ -102,16 +61,10 @@ returns-4 c =
     (p7 .load-u16 .ensures) (p6 .symbol-count .ensures)
     (p15 .is-marked .result) (p15 .is-marked .ensures) (not-false (p15 .is-marked .result) (p14 .if1 .left)) _ (p4 .if4 .taken) (p2 .note .ensures)
 
-add-is-marked : tie.Need-add-is-marked
-add-is-marked c = search needs
-
 is-marked-requires-2 : tie.Need-is-marked-requires-2
 is-marked-requires-2 c κs =
     let s = c .before .before .before .before .before .before .before .before .before .before .before .before .before .before .before .pre in
     (s .0, s .1, omega (arith, s .2, c .before .if4 .left))
-
-same-length-5 : tie.Need-same-length-5
-same-length-5 c = search needs
 
 returns-5 : tie.Need-returns-5
 returns-5 c =
@@ -133,20 +86,11 @@ returns-5 c =
     (p14 .is-marked .result) (p14 .is-marked .ensures) (not-false (p14 .is-marked .result) (p13 .if1 .left))
     (p3 .if4 .left) (p1 .is-marked2 .result) (p1 .is-marked2 .ensures) (c .if5 .taken)
 
-add-set : tie.Need-add-set
-add-set c = search needs
-
 set-requires : tie.Need-set-requires
 set-requires c κs =
     let p = c .before .before .before .before in
     let s = p .before .before .before .before .before .before .before .before .before .before .before .before .before .before .pre in
     (s .0, s .1, omega (arith, s .2, p .if4 .left))
-
-add-result : tie.Need-add-result
-add-result c = search needs
-
-same-length-6 : tie.Need-same-length-6
-same-length-6 c = search needs
 
 returns-6 : tie.Need-returns-6
 returns-6 c =
@@ -171,30 +115,30 @@ pub step-spec : {M : Type 1} → statement M
 step-spec =
     tie.close
     (tie.spec
-    is-marked-requires
-    same-length
+    (λ c κs. search needs)
+    (λ c. search needs)
     returns
-    row-of-requires
-    is-known-requires
-    same-length-2
+    (λ c κs. search needs)
+    (λ c κs. search needs)
+    (λ c. search needs)
     returns-2
-    symbol-offset-requires
-    add-load-u16
+    (λ c κs. search needs)
+    (λ c. search needs)
     load-u16-requires
-    cast-symbol-count
-    symbol-count-requires
-    same-length-3
+    (λ c. search needs)
+    (λ c κs. search needs)
+    (λ c. search needs)
     returns-3
-    sub-if4
-    note-requires
-    same-length-4
+    (λ c. search needs)
+    (λ c κs. search needs)
+    (λ c. search needs)
     returns-4
-    add-is-marked
+    (λ c. search needs)
     is-marked-requires-2
-    same-length-5
+    (λ c. search needs)
     returns-5
-    add-set
+    (λ c. search needs)
     set-requires
-    add-result
-    same-length-6
+    (λ c. search needs)
+    (λ c. search needs)
     returns-6)

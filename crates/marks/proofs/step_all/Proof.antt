@@ -1,7 +1,5 @@
 -- `marks::step_all` meets its contract.
-use borrow.Author.Needs.{needs}
-use native.Mathlib.Omega.{arith}
-use Prim.Native.Nat.{_≤_, _-_}
+use Rattle.words.specs.Words.{arith, _≤_, needs, _-_}
 use Rattle.marks.proofs.Only.{starts-fits}
 use Rattle.marks.proofs.Passing.{Passing, passing-none, passing-more, passed}
 use Rattle.marks.proofs.step_all.Statement.{statement}
@@ -21,12 +19,6 @@ step-requires c κs =
     let p2 = c .before .before in
     let p4 = p2 .before .before in
     (starts-fits (p4 .pre .0) (p2 .loop .inv .1 .only), omega arith, omega arith)
-
-add-i : tie.Need-add-i Inv-loop μ-loop
-add-i c = search needs
-
-loop-less : tie.Need-loop-less Inv-loop μ-loop
-loop-less c = search needs
 
 loop-again : tie.Need-loop-again Inv-loop μ-loop
 loop-again c =
@@ -50,8 +42,8 @@ step-all-spec =
     μ-loop
     loop-holds
     step-requires
-    add-i
-    loop-less
+    (λ c. search needs)
+    (λ c. search needs)
     loop-again
     same-length
     returns)

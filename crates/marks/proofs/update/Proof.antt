@@ -1,15 +1,9 @@
 -- `marks::update` meets its contract.
-use mathlib.Core.Path.{sym, subst}
-use Prim.Native.Nat.{_<_}
-use native.Mathlib.Nat.{mod-lt}
+use Rattle.words.specs.Words.{needs, _<_, sym, subst, mod-lt}
 use Rattle.marks.proofs.Only.{only-fits, only-trans}
 use Rattle.marks.proofs.Passing.{updated}
-use borrow.Author.Needs.{needs}
 use Rattle.marks.proofs.update.Statement.{statement}
 use Rattle.marks.proofs.update.Tie as tie
-
-move-on-requires : tie.Need-move-on-requires
-move-on-requires c κs = search needs
 
 set-own-requires : tie.Need-set-own-requires
 set-own-requires c κs =
@@ -26,9 +20,6 @@ reach-requires c κs =
     let oldest = subst (λ x. x < p10 .args .shape .width) (sym (p10 .pre .2)) (mod-lt _ (p10 .pre .0 .some-width)) in
     (only-fits (p10 .pre .0) (only-trans (p7 .move-on .ensures .only) (p3 .set-own .ensures .only)), oldest, p10 .pre .3)
 
-same-length : tie.Need-same-length
-same-length c = search needs
-
 returns : tie.Need-returns
 returns c =
     let p2 = c .before .before in
@@ -39,4 +30,4 @@ returns c =
 
 pub update-spec : {M : Type 1} → statement M
 update-spec =
-    tie.close (tie.spec move-on-requires set-own-requires reach-requires same-length returns)
+    tie.close (tie.spec (λ c κs. search needs) set-own-requires reach-requires (λ c. search needs) returns)

@@ -1,6 +1,5 @@
 -- `marks::walk` meets its contract.
-use native.Mathlib.Omega.{arith}
-use Prim.Native.Nat.{_-_}
+use Rattle.words.specs.Words.{arith, _-_}
 use Rattle.marks.proofs.Only.{starts-fits}
 use Rattle.marks.proofs.Passing.{Walking, walking-none, walking-more, walked}
 use Rattle.marks.proofs.walk.Statement.{statement}

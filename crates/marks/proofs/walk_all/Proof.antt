@@ -1,7 +1,5 @@
 -- `marks::walk_all` meets its contract.
-use borrow.Author.Needs.{needs}
-use native.Mathlib.Omega.{arith}
-use Prim.Native.Nat.{_+_, _-_, _≤_, _<_}
+use Rattle.words.specs.Words.{arith, _≤_, _+_, needs, _<_, _-_}
 use Rattle.marks.specs.MarkSteps.{Followed}
 use Rattle.marks.proofs.Only.{starts-fits}
 use Rattle.marks.proofs.Passing.{followed-none, followed-more, followed-to}
@@ -17,20 +15,11 @@ abbrev μ-loop : tie.MeasureT-loop
 loop-holds : tie.Need-loop-holds Inv-loop μ-loop
 loop-holds c = (search needs, followed-none _ _ _ _ _ (λ k h. omega (arith, h .0, h .1)))
 
-add-walk : tie.Need-add-walk Inv-loop μ-loop
-add-walk c = omega arith
-
 walk-requires : tie.Need-walk-requires Inv-loop μ-loop
 walk-requires c κs =
     let p2 = c .before .before in
     let p4 = p2 .before .before in
     (starts-fits (p4 .pre .0) (p2 .loop .inv .1 .only), omega arith, omega arith)
-
-add-i : tie.Need-add-i Inv-loop μ-loop
-add-i c = search needs
-
-loop-less : tie.Need-loop-less Inv-loop μ-loop
-loop-less c = search needs
 
 loop-again : tie.Need-loop-again Inv-loop μ-loop
 loop-again c =
@@ -53,10 +42,10 @@ walk-all-spec =
     Inv-loop
     μ-loop
     loop-holds
-    add-walk
+    (λ c. omega arith)
     walk-requires
-    add-i
-    loop-less
+    (λ c. search needs)
+    (λ c. search needs)
     loop-again
     same-length
     returns)

@@ -1,9 +1,6 @@
 -- `memory::copy` meets its contract. The loop: the first i elements are those of the result.
-use mathlib.Core.Path.{refl}
-use Prim.Native.Nat.{_-_}
-use native.Mathlib.Omega.{arith}
+use Rattle.words.specs.Words.{arith, needs, refl, _-_}
 use Rattle.memory.proofs.Loop.{Turned, turned-more, turned-all}
-use borrow.Author.Needs.{needs}
 use Rattle.memory.proofs.copy.Statement.{statement}
 use Rattle.memory.proofs.copy.Tie as tie
 

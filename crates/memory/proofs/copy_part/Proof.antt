@@ -1,7 +1,6 @@
 -- `memory::copy_part` meets its contract.
-use native.Mathlib.Omega.{arith}
+use Rattle.words.specs.Words.{arith, needs}
 use Rattle.memory.proofs.Parts.{put, cut}
-use borrow.Author.Needs.{needs}
 use Rattle.memory.proofs.copy_part.Statement.{statement}
 use Rattle.memory.proofs.copy_part.Tie as tie
 

@@ -1,10 +1,7 @@
 -- `memory::fill` meets its contract. The loop: the first i elements are those of the result.
-use mathlib.Core.Path.{sym}
-use Prim.Native.Nat.{_-_}
-use native.Mathlib.Omega.{arith}
-use lib.ListN.{length, replicate, length-replicate, getD-replicate}
+use Rattle.words.specs.Words.{arith, length, needs, sym, _-_, replicate, length-replicate}
+use lib.ListN.{getD-replicate}
 use Rattle.memory.proofs.Loop.{Turned, turned-more, turned-all}
-use borrow.Author.Needs.{needs}
 use Rattle.memory.proofs.fill.Statement.{statement}
 use Rattle.memory.proofs.fill.Tie as tie
 

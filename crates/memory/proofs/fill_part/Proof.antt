@@ -1,10 +1,7 @@
 -- `memory::fill_part` meets its contract.
-use mathlib.Core.Path.{_≡_}
-use lib.ListN.{length}
+use Rattle.words.specs.Words.{_≡_, arith, length, needs}
 use Rattle.memory.specs.Part.{part}
-use native.Mathlib.Omega.{arith}
 use Rattle.memory.proofs.Parts.{put, cut, length-part}
-use borrow.Author.Needs.{needs}
 use Rattle.memory.proofs.fill_part.Statement.{statement}
 use Rattle.memory.proofs.fill_part.Tie as tie
 

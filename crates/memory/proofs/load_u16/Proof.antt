@@ -1,10 +1,7 @@
 -- `memory::load_u16` meets its contract.
-use Prim.Native.Nat.{_+_}
-use native.Mathlib.Omega.{arith}
-use mathlib.Core.Path.{ap}
+use Rattle.words.specs.Words.{arith, _+_, needs, ap}
 use Rattle.memory.specs.Number.{number}
 use Rattle.memory.proofs.Parts.{part-two}
-use borrow.Author.Needs.{needs}
 use Rattle.memory.proofs.load_u16.Statement.{statement}
 use Rattle.memory.proofs.load_u16.Tie as tie
 

@@ -1,7 +1,6 @@
 -- `memory::load_u32` meets its contract.
-use native.Mathlib.Omega.{arith}
+use Rattle.words.specs.Words.{arith, needs}
 use Rattle.memory.proofs.Number.{number-part}
-use borrow.Author.Needs.{needs}
 use Rattle.memory.proofs.load_u32.Statement.{statement}
 use Rattle.memory.proofs.load_u32.Tie as tie
 

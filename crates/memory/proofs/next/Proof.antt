@@ -1,9 +1,6 @@
 -- `memory::next` meets its contract.
-use mathlib.Core.Path.{sym, ap, _∙_}
-use Prim.Native.Nat.{_%_}
-use native.Mathlib.Nat.{mod-eq-of-lt, mod-self}
-use native.Mathlib.Omega.{arith}
-use borrow.Author.Needs.{needs}
+use Rattle.words.specs.Words.{arith, needs, _∙_, sym, ap, _%_, mod-eq-of-lt}
+use native.Mathlib.Nat.{mod-self}
 use Rattle.memory.proofs.next.Statement.{statement}
 use Rattle.memory.proofs.next.Tie as tie
 

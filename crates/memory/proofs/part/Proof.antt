@@ -1,8 +1,7 @@
 -- `memory::part` meets its contract.
-use mathlib.Core.Path.{refl}
+use Rattle.words.specs.Words.{needs, refl}
 use native.Mathlib.Nat.{add-comm}
 use Rattle.memory.proofs.Parts.{cut}
-use borrow.Author.Needs.{needs}
 use Rattle.memory.proofs.part.Statement.{statement}
 use Rattle.memory.proofs.part.Tie as tie
 

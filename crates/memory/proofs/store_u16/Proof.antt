@@ -1,12 +1,7 @@
 -- `memory::store_u16` meets its contract.
-use native.Mathlib.Omega.{arith}
-use mathlib.Core.Path.{_≡_}
-use Prim.Native.Nat.{_/_, _%_, _^_}
-use native.Mathlib.Numerals.{add-one}
-use lib.ListN.{length-set}
+use Rattle.words.specs.Words.{_≡_, arith, needs, _%_, _^_, _/_, add-one, length-set}
 use Rattle.memory.specs.Number.{bytes}
 use Rattle.memory.proofs.Parts.{sets-splice}
-use borrow.Author.Needs.{needs}
 use Rattle.memory.proofs.store_u16.Statement.{statement}
 use Rattle.memory.proofs.store_u16.Tie as tie
 

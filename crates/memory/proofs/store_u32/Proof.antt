@@ -1,10 +1,7 @@
 -- `memory::store_u32` meets its contract.
-use mathlib.Core.Path.{_≡_}
-use Prim.Native.Nat.{_/_, _%_, _^_}
-use native.Mathlib.Omega.{arith}
+use Rattle.words.specs.Words.{_≡_, arith, needs, _%_, _^_, _/_}
 use Rattle.memory.specs.Number.{bytes}
 use Rattle.memory.proofs.Parts.{splice-next}
-use borrow.Author.Needs.{needs}
 use Rattle.memory.proofs.store_u32.Statement.{statement}
 use Rattle.memory.proofs.store_u32.Tie as tie
 

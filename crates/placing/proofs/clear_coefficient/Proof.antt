@@ -1,18 +1,8 @@
-use native.Mathlib.Omega.{arith}
-use borrow.Author.Needs.{needs}
+use Rattle.words.specs.Words.{arith, needs}
 use Rattle.placing.proofs.Placing.{cleared-unused, cleared-row}
 use Rattle.table.proofs.Offsets.{row-end}
 use Rattle.placing.proofs.clear_coefficient.Statement.{statement}
 use Rattle.placing.proofs.clear_coefficient.Tie as tie
-
-row-offset-requires : tie.Need-row-offset-requires
-row-offset-requires c κs = search needs
-
-add-n : tie.Need-add-n
-add-n c = search needs
-
-add-if1 : tie.Need-add-if1
-add-if1 c = search needs
 
 slice-read-if1 : tie.Need-slice-read-if1
 slice-read-if1 c =
@@ -25,9 +15,6 @@ returns c =
     let at = c .before .before .before .row-offset in
     cleared-unused (a .shape .width) (a .shape .size) (a .r) (a .q) (a .row .now) (a .mem .now) (at .result) (at .ensures .start) (c .if1 .taken)
 
-add-c : tie.Need-add-c
-add-c c = search needs
-
 slice-read-c : tie.Need-slice-read-c
 slice-read-c c =
     let a = c .before .before .before .before .before .before .before .args in
@@ -37,12 +24,6 @@ add-part-requires : tie.Need-add-part-requires
 add-part-requires c κs =
     let a = c .before .before .before .before .before .before .before .before .args in
     (omega (arith, row-end (a .shape .width) (a .shape .size) (a .q) (omega arith)), search needs)
-
-mark-requires : tie.Need-mark-requires
-mark-requires c κs = search needs
-
-same-length : tie.Need-same-length
-same-length c = search needs
 
 returns-2 : tie.Need-returns-2
 returns-2 c =
@@ -63,14 +44,14 @@ pub clear-coefficient-spec : {M : Type 1} → statement M
 clear-coefficient-spec =
     tie.close
     (tie.spec
-    row-offset-requires
-    add-n
-    add-if1
+    (λ c κs. search needs)
+    (λ c. search needs)
+    (λ c. search needs)
     slice-read-if1
     returns
-    add-c
+    (λ c. search needs)
     slice-read-c
     add-part-requires
-    mark-requires
-    same-length
+    (λ c κs. search needs)
+    (λ c. search needs)
     returns-2)

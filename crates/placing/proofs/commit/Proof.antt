@@ -1,23 +1,13 @@
+use Rattle.words.specs.Words.{needs}
 use Rattle.table.proofs.Rows.{fits-kept}
 use Rattle.placing.proofs.Joining.{committed}
-use borrow.Author.Needs.{needs}
 use Rattle.placing.proofs.commit.Statement.{statement}
 use Rattle.placing.proofs.commit.Tie as tie
-use Rattle.placing.proofs.commit.Reads as reads
-use Rattle.placing.proofs.commit.Lts as lts
-use Rattle.placing.proofs.move_on.Reads as move-on-reads
-use Rattle.placing.proofs.place_all.Reads as place-all-reads
-
-move-on-requires : tie.Need-move-on-requires
-move-on-requires c κs = search needs
 
 place-all-requires : tie.Need-place-all-requires
 place-all-requires c κs =
     let start = c .before .before .before .before .before .before .before in
     (fits-kept (start .pre .0) (c .before .before .before .move-on .ensures .kept), start .pre .2)
-
-same-length : tie.Need-same-length
-same-length c = search needs
 
 returns : tie.Need-returns
 returns c =
@@ -30,4 +20,4 @@ returns c =
     (λ i. c .before .before .before .before .slice-known2 .given i .fits) (λ i. c .slice-known3 .given i .fits) (moved .ensures) (joined .ensures)
 
 pub commit-spec : {M : Type 1} → statement M
-commit-spec = tie.close (tie.spec move-on-requires place-all-requires same-length returns)
+commit-spec = tie.close (tie.spec (λ c κs. search needs) place-all-requires (λ c. search needs) returns)

@@ -1,16 +1,8 @@
-use native.Mathlib.Omega.{arith}
+use Rattle.words.specs.Words.{arith, needs}
 use Rattle.table.proofs.Marking.{tested-alone, tested-other}
 use Rattle.table.proofs.Offsets.{row-end}
-use borrow.Author.Needs.{needs}
 use Rattle.placing.proofs.is_alone.Statement.{statement}
 use Rattle.placing.proofs.is_alone.Tie as tie
-use Rattle.placing.proofs.is_alone.Reads as reads
-use Rattle.placing.proofs.is_alone.Lts as lts
-use Rattle.table.proofs.or_all.Reads as or-all-reads
-use Rattle.table.proofs.row_offset.Reads as row-offset-reads
-
-row-offset-requires : tie.Need-row-offset-requires
-row-offset-requires c κs = search needs
 
 add-or-all : tie.Need-add-or-all
 add-or-all c =
@@ -21,9 +13,6 @@ or-all-requires : tie.Need-or-all-requires
 or-all-requires c κs =
     let a = c .before .before .args in
     (search needs, omega (arith, row-end (a .shape .width) (a .shape .size) (a .r) (omega arith)))
-
-add-or-all-2 : tie.Need-add-or-all-2
-add-or-all-2 c = search needs
 
 add-or-all-3 : tie.Need-add-or-all-3
 add-or-all-3 c =
@@ -62,10 +51,10 @@ pub is-alone-spec : {M : Type 1} → statement M
 is-alone-spec =
     tie.close
     (tie.spec
-    row-offset-requires
+    (λ c κs. search needs)
     add-or-all
     or-all-requires
-    add-or-all-2
+    (λ c. search needs)
     add-or-all-3
     add-or-all-4
     or-all-requires-2

@@ -1,23 +1,10 @@
 -- `placing::is_known` meets its contract.
-use mathlib.Core.Path.{sym, ap, _∙_}
-use Prim.Native.Nat.{_+_}
-use native.Mathlib.Omega.{arith}
-use lib.ListN.{getD}
-use lib.Dec.{eqb}
+use Rattle.words.specs.Words.{arith, _+_, needs, _∙_, sym, ap, getD, eqb}
 use Rattle.table.proofs.Flags.{flag-at}
 use Rattle.placing.proofs.Showing.{flag-known}
 use Rattle.table.proofs.Offsets.{row-end}
-use borrow.Author.Needs.{needs}
 use Rattle.placing.proofs.is_known.Statement.{statement}
 use Rattle.placing.proofs.is_known.Tie as tie
-use Rattle.placing.proofs.is_known.Reads as reads
-use Rattle.placing.proofs.is_known.Lts as lts
-
-row-offset-requires : tie.Need-row-offset-requires
-row-offset-requires c κs = search needs
-
-add-n : tie.Need-add-n
-add-n c = search needs
 
 add-result : tie.Need-add-result
 add-result c =
@@ -41,4 +28,4 @@ returns c =
 
 pub is-known-spec : {M : Type 1} → statement M
 is-known-spec =
-    tie.close (tie.spec row-offset-requires add-n add-result shared-slice-read-result returns)
+    tie.close (tie.spec (λ c κs. search needs) (λ c. search needs) add-result shared-slice-read-result returns)

@@ -1,16 +1,9 @@
 -- `placing::move_on` meets its contract. The loop: the window has moved on by i, and oldest is the row of its oldest position.
-use mathlib.Core.Path.{_≡_}
-use Prim.Native.Nat.{_≤_, _-_}
-use native.Mathlib.Omega.{arith}
+use Rattle.words.specs.Words.{_≡_, arith, _≤_, needs, _-_}
 use Rattle.table.proofs.Rows.{fits-kept}
 use Rattle.placing.proofs.Moving.{Leaving, leaving-none, leaving-more, moved-to, moved-past}
-use borrow.Author.Needs.{needs}
 use Rattle.placing.proofs.move_on.Statement.{statement}
 use Rattle.placing.proofs.move_on.Tie as tie
-use Rattle.placing.proofs.move_on.Reads as reads
-use Rattle.placing.proofs.move_on.Lts as lts
-use Rattle.memory.proofs.next.Reads as next-reads
-use Rattle.placing.proofs.set_flag.Reads as set-flag-reads
 
 abbrev Inv-loop : tie.InvT-loop
 Inv-loop mem₀ shape rise w oldest₀ i₀ mem oldest i = (i ≤ w) × (i ≤ rise) × Leaving (shape .width) (shape .size) (shape .oldest) i oldest mem₀ mem
@@ -31,15 +24,6 @@ set-flag-requires : tie.Need-set-flag-requires Inv-loop μ-loop
 set-flag-requires c κs =
     let leaving = c .before .before .before .loop .inv .2 in
     (fits-kept (c .before .before .before .before .before .pre .0) (leaving .moved .kept), leaving .within)
-
-next-requires : tie.Need-next-requires Inv-loop μ-loop
-next-requires c κs = search needs
-
-add-i : tie.Need-add-i Inv-loop μ-loop
-add-i c = search needs
-
-loop-less : tie.Need-loop-less Inv-loop μ-loop
-loop-less c = search needs
 
 loop-again : tie.Need-loop-again Inv-loop μ-loop
 loop-again c =
@@ -71,9 +55,9 @@ move-on-spec =
     same-length
     returns
     set-flag-requires
-    next-requires
-    add-i
-    loop-less
+    (λ c κs. search needs)
+    (λ c. search needs)
+    (λ c. search needs)
     loop-again
     same-length-2
     returns-2)

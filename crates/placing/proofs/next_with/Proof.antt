@@ -1,7 +1,5 @@
 -- `placing::next_with` meets its contract. The loop: the rows from `from` on and before q have no coefficient in the column.
-use Prim.Native.Nat.{_-_}
-use native.Mathlib.Omega.{arith}
-use borrow.Author.Needs.{needs}
+use Rattle.words.specs.Words.{arith, needs, _-_}
 use Rattle.placing.proofs.Placing.{Passed, passed-none, passed-more, passed-here, passed-all}
 use Rattle.table.proofs.Offsets.{row-end}
 use Rattle.placing.proofs.next_with.Statement.{statement}
@@ -16,9 +14,6 @@ abbrev μ-loop : tie.MeasureT-loop
 loop-holds : tie.Need-loop-holds Inv-loop μ-loop
 loop-holds c = passed-none (omega arith)
 
-row-offset-requires : tie.Need-row-offset-requires Inv-loop μ-loop
-row-offset-requires c κs = search needs
-
 add-if1 : tie.Need-add-if1 Inv-loop μ-loop
 add-if1 c =
     let a = c .before .before .before .before .args in
@@ -31,12 +26,6 @@ shared-slice-read-if1 c =
 
 returns : tie.Need-returns Inv-loop μ-loop
 returns c = passed-here _ _ (c .before .before .before .before .loop .inv) (omega arith) (c .before .before .row-offset .ensures .start) (c .if1 .taken)
-
-add-q : tie.Need-add-q Inv-loop μ-loop
-add-q c = search needs
-
-loop-less : tie.Need-loop-less Inv-loop μ-loop
-loop-less c = search needs
 
 loop-again : tie.Need-loop-again Inv-loop μ-loop
 loop-again c = passed-more _ _ (c .before .before .before .before .loop .inv) (omega arith) (c .before .before .row-offset .ensures .start) (c .if1 .left)
@@ -51,11 +40,11 @@ next-with-spec =
     Inv-loop
     μ-loop
     loop-holds
-    row-offset-requires
+    (λ c κs. search needs)
     add-if1
     shared-slice-read-if1
     returns
-    add-q
-    loop-less
+    (λ c. search needs)
+    (λ c. search needs)
     loop-again
     returns-2)

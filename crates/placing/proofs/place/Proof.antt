@@ -1,10 +1,6 @@
 -- `placing::place` meets its contract. The loop: the column is clear in the rows before q, of which count have become known, and the
 -- row q has a coefficient there.
-use mathlib.Core.Logic.{_≢_}
-use Prim.Native.Nat.{_+_, _≤_, _<_, _-_}
-use native.Mathlib.Omega.{arith}
-use lib.ListN.{getD}
-use borrow.Author.Needs.{needs}
+use Rattle.words.specs.Words.{arith, _≤_, _+_, needs, _<_, _-_, getD, _≢_}
 use Rattle.table.specs.Window.{rowOffset}
 use Rattle.table.proofs.Rows.{fits-kept}
 use Rattle.placing.proofs.Placing.{Cleared, cleared-none, cleared-more, cleared-skip, settled}
@@ -17,9 +13,6 @@ Inv-loop mem₀ row shape r w count₀ q₀ mem count q =
 
 abbrev μ-loop : tie.MeasureT-loop
 μ-loop mem₀ row shape r w count₀ q₀ mem count q = w - q
-
-next-with-requires : tie.Need-next-with-requires Inv-loop μ-loop
-next-with-requires c κs = search needs
 
 loop-holds : tie.Need-loop-holds Inv-loop μ-loop
 loop-holds c =
@@ -43,9 +36,6 @@ clear-coefficient-requires c κs =
       turn .inv .2 (omega arith),
     )
 
-add-count : tie.Need-add-count Inv-loop μ-loop
-add-count c = search needs
-
 -- After a turn the column is clear in one row more.
 more : (c : tie.After-slice-known2 Inv-loop μ-loop)
     → let a = c .before .before .before .before .before .before .before .before .before .before .args in
@@ -58,9 +48,6 @@ more c =
     let done = c .before .before .clear-coefficient in
     cleared-more (a .shape .width) (a .shape .size) (a .r) (a .row .now) (a .mem .now) (turn .q) (turn .count) (done .result) (turn .mem) (done .last .0)
     (omega arith) (turn .inv .1) (done .ensures)
-
-add-next-with : tie.Need-add-next-with Inv-loop μ-loop
-add-next-with c = search needs
 
 next-with-requires-2 : tie.Need-next-with-requires-2 Inv-loop μ-loop
 next-with-requires-2 c κs = (
@@ -87,12 +74,6 @@ store-row-requires : tie.Need-store-row-requires Inv-loop μ-loop
 store-row-requires c κs =
     (fits-kept (c .before .before .before .before .before .before .before .pre .0) (c .before .before .loop .inv .1 .kept), search needs, search needs)
 
-add-result : tie.Need-add-result Inv-loop μ-loop
-add-result c = search needs
-
-same-length : tie.Need-same-length Inv-loop μ-loop
-same-length c = search needs
-
 returns : tie.Need-returns Inv-loop μ-loop
 returns c =
     let a = c .before .before .before .before .before .before .before .before .before .before .args in
@@ -107,15 +88,15 @@ place-spec =
     (tie.spec
     Inv-loop
     μ-loop
-    next-with-requires
+    (λ c κs. search needs)
     loop-holds
     clear-coefficient-requires
-    add-count
-    add-next-with
+    (λ c. search needs)
+    (λ c. search needs)
     next-with-requires-2
     loop-less
     loop-again
     store-row-requires
-    add-result
-    same-length
+    (λ c. search needs)
+    (λ c. search needs)
     returns)

@@ -1,16 +1,10 @@
 -- `placing::place_all` meets its contract. The loop: the rows before k have joined the system, and total positions have become known.
-use mathlib.Core.Path.{_≡_}
-use Prim.Native.Nat.{_≤_, _-_}
-use native.Mathlib.Omega.{arith}
+use Rattle.words.specs.Words.{_≡_, arith, _≤_, needs, _-_}
 use Rattle.placing.specs.PlaceSteps.{RowsPlaced}
 use Rattle.table.proofs.Rows.{fits-kept}
 use Rattle.placing.proofs.Joining.{joined-none, joined-more, joined-all}
-use borrow.Author.Needs.{needs}
 use Rattle.placing.proofs.place_all.Statement.{statement}
 use Rattle.placing.proofs.place_all.Tie as tie
-use Rattle.placing.proofs.place_all.Reads as reads
-use Rattle.placing.proofs.place_all.Lts as lts
-use Rattle.placing.proofs.place_kept.Reads as place-kept-reads
 
 abbrev Inv-loop : tie.InvT-loop
 Inv-loop mem₀ work shape kept total₀ k₀ mem total k = (k ≤ kept) × RowsPlaced (shape .width) (shape .size) k total work mem₀ mem
@@ -41,12 +35,6 @@ add-total c =
     let turn = c .before .before .before .before .before .loop in
     omega (arith, turn .inv .1 .most, c .before .before .place-kept .ensures .most, start .pre .1 .within, start .pre .1 .wide)
 
-add-k : tie.Need-add-k Inv-loop μ-loop
-add-k c = search needs
-
-loop-less : tie.Need-loop-less Inv-loop μ-loop
-loop-less c = search needs
-
 loop-again : tie.Need-loop-again Inv-loop μ-loop
 loop-again c =
     let start = c .before .before .before .before .before .before .before .before in
@@ -57,9 +45,6 @@ loop-again c =
     joined-more (a .shape .width) (a .shape .size) (turn .k) (turn .total) (done .result) (a .work .now) (a .mem .now) (turn .mem) (done .last .0)
     (start .pre .0) (turn .inv .1) (done .ensures) in
     (search needs, more)
-
-same-length : tie.Need-same-length Inv-loop μ-loop
-same-length c = search needs
 
 returns : tie.Need-returns Inv-loop μ-loop
 returns c =
@@ -75,8 +60,8 @@ place-all-spec =
     loop-holds
     place-kept-requires
     add-total
-    add-k
-    loop-less
+    (λ c. search needs)
+    (λ c. search needs)
     loop-again
-    same-length
+    (λ c. search needs)
     returns)

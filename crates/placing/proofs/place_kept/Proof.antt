@@ -1,27 +1,12 @@
-use mathlib.Core.Path.{sym, ap, _∙_, subst}
-use Prim.Native.Nat.{_+_, _<_}
-use native.Mathlib.Omega.{arith}
-use lib.ListN.{length, getD}
+use Rattle.words.specs.Words.{arith, _+_, length, needs, _<_, _∙_, sym, ap, getD, subst}
 use Rattle.memory.proofs.Parts.{length-part}
 use Rattle.table.specs.Window.{row}
 use Rattle.placing.specs.PlaceSteps.{RowPlaced}
 use Rattle.table.proofs.Flags.{flag-at}
 use Rattle.placing.proofs.Joining.{settled-line, without-flags}
 use Rattle.table.proofs.Offsets.{row-end}
-use borrow.Author.Needs.{needs}
 use Rattle.placing.proofs.place_kept.Statement.{statement}
 use Rattle.placing.proofs.place_kept.Tie as tie
-use Rattle.placing.proofs.place_kept.Reads as reads
-use Rattle.placing.proofs.place_kept.Lts as lts
-use Rattle.placing.proofs.place.Reads as place-reads
-use Rattle.table.proofs.row_offset.Reads as row-offset-reads
-use Rattle.memory.proofs.part.Reads as part-reads
-
-row-offset-requires : tie.Need-row-offset-requires
-row-offset-requires c κs = search needs
-
-add-n : tie.Need-add-n
-add-n c = search needs
 
 add-r : tie.Need-add-r
 add-r c =
@@ -56,9 +41,6 @@ place-requires c κs =
       subst (λ f. f < w) column (start .pre .1 .column),
     )
 
-same-length : tie.Need-same-length
-same-length c = search needs
-
 returns : tie.Need-returns
 returns c =
     let start = c .before .before .before .before .before .before .before .before .before .before in
@@ -77,12 +59,12 @@ pub place-kept-spec : {M : Type 1} → statement M
 place-kept-spec =
     tie.close
     (tie.spec
-    row-offset-requires
-    add-n
+    (λ c κs. search needs)
+    (λ c. search needs)
     add-r
     shared-slice-read-r
     cast-r
     part-requires
     place-requires
-    same-length
+    (λ c. search needs)
     returns)

@@ -1,31 +1,13 @@
-use native.Mathlib.Omega.{arith}
+use Rattle.words.specs.Words.{arith, needs}
 use Rattle.placing.proofs.Placing.{stored-copy}
 use Rattle.table.proofs.Offsets.{row-end}
-use borrow.Author.Needs.{needs}
 use Rattle.placing.proofs.store_row.Statement.{statement}
 use Rattle.placing.proofs.store_row.Tie as tie
-use Rattle.placing.proofs.store_row.Reads as reads
-use Rattle.placing.proofs.store_row.Lts as lts
-use Rattle.placing.proofs.mark.Reads as mark-reads
-use Rattle.table.proofs.row_offset.Reads as row-offset-reads
-use Rattle.memory.proofs.copy_part.Reads as copy-part-reads
-
-row-offset-requires : tie.Need-row-offset-requires
-row-offset-requires c κs = search needs
-
-add-n : tie.Need-add-n
-add-n c = search needs
 
 copy-part-requires : tie.Need-copy-part-requires
 copy-part-requires c κs =
     let a = c .before .before .before .before .before .args in
     (omega (arith, row-end (a .shape .width) (a .shape .size) (a .r) (omega arith)), search needs)
-
-mark-requires : tie.Need-mark-requires
-mark-requires c κs = search needs
-
-same-length : tie.Need-same-length
-same-length c = search needs
 
 returns : tie.Need-returns
 returns c =
@@ -40,4 +22,4 @@ returns c =
 pub store-row-spec : {M : Type 1} → statement M
 store-row-spec =
     tie.close
-    (tie.spec row-offset-requires add-n copy-part-requires mark-requires same-length returns)
+    (tie.spec (λ c κs. search needs) (λ c. search needs) copy-part-requires (λ c κs. search needs) (λ c. search needs) returns)

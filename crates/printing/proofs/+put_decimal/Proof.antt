@@ -1,16 +1,14 @@
 -- `printing::put_decimal` meets its contract. The measure is the number, of which each call of itself loses the last digit.
-use Prim.Native.Nat.{ℕ, _+_, _%_, _<_}
-use native.Mathlib.Omega.{arith}
-use borrow.Author.Needs.{needs}
+use Rattle.words.specs.Words.{arith, ℕ, _+_, needs, _<_, _%_}
 use borrow.Fn.Kinds.{In}
 use borrow.Fn.PlainCycle.{Measures, is, falls, and}
 use Rattle.text.proofs.Decimals.{decimal-small, decimal-more, decimal-positive, length-more}
 use Rattle.printing.proofs.Laws.{put-then, put-byte}
+use Rattle.printing.proofs.+put_decimal.{statement}
+use Rattle.printing.proofs.+put_decimal.Tie.{close}
 use Rattle.printing.proofs.put_decimal.Reads as reads
 use Rattle.printing.proofs.put_decimal.Kinds as kinds
 use Rattle.printing.proofs.+put_decimal.Lts-put_decimal as lts
-use Rattle.printing.proofs.+put_decimal.{statement}
-use Rattle.printing.proofs.+put_decimal.Tie.{close}
 
 abbrev μ : Measures 1 kinds.ps ℕ
 μ κs a = a .1 .1 .0

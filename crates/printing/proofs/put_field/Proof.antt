@@ -1,6 +1,5 @@
 -- `printing::put_field` meets its contract.
-use native.Mathlib.Omega.{arith}
-use borrow.Author.Needs.{needs}
+use Rattle.words.specs.Words.{arith, needs}
 use Rattle.text.proofs.Decimals.{decimal-length}
 use Rattle.printing.proofs.Laws.{put-then}
 use Rattle.printing.proofs.put_field.Statement.{statement}

@@ -1,8 +1,5 @@
 -- `printing::put_last` meets its contract. Each field is put where the one before it ends, which leaves room for the rest.
-use Prim.Native.Nat.{_+_, _≤_}
-use native.Mathlib.Omega.{arith}
-use lib.ListN.{length}
-use borrow.Author.Needs.{needs}
+use Rattle.words.specs.Words.{arith, _≤_, _+_, length, needs}
 use Rattle.text.specs.Text.{ascii}
 use Rattle.printing.specs.Printed.{lastLine}
 use Rattle.printing.proofs.Laws.{put-then, put-room}

@@ -1,8 +1,5 @@
 -- `printing::put_text` meets its contract.
-use mathlib.Core.Path.{_≡_, refl}
-use native.Mathlib.Omega.{arith}
-use lib.ListN.{length}
-use borrow.Author.Needs.{needs}
+use Rattle.words.specs.Words.{_≡_, arith, length, needs, refl}
 use Rattle.memory.specs.Part.{splice}
 use Rattle.memory.proofs.Parts.{whole}
 use Rattle.printing.proofs.Laws.{put-splice}

@@ -1,7 +1,7 @@
 -- `receiver::adu` meets its contract.
+use Rattle.words.specs.Words.{needs}
 use Rattle.holding.proofs.Standing.{Stood, stood, looks, hidden}
 use Rattle.receiver.proofs.Giving.{adu-outside, adu-inside}
-use borrow.Author.Needs.{needs}
 use Rattle.receiver.proofs.adu.Statement.{statement}
 use Rattle.receiver.proofs.adu.Tie as tie
 

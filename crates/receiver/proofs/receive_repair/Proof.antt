@@ -1,12 +1,5 @@
 -- `receiver::receive_repair` meets its contract.
-use mathlib.Core.Path.{_≡_, refl, ap, sym, _∙_}
-use mathlib.Core.Bool.{true}
-use mathlib.Core.Option.{some}
-use Prim.Native.Nat.{_*_, _≤_}
-use native.Mathlib.Nat.{mul-le-mul}
-use native.Mathlib.Omega.{arith}
-use lib.ListN.{length}
-use borrow.Author.Tests.{not-true, not-false}
+use Rattle.words.specs.Words.{_≡_, arith, _≤_, length, needs, refl, _∙_, sym, ap, some, true, _*_, not-false, not-true, mul-le-mul}
 use Rattle.wire.specs.declared.RepairFields.{RepairFields}
 use Rattle.wire.specs.declared.RepairHeader.the-variants.{Repair}
 use Rattle.wire.specs.Numbers.{within}
@@ -27,7 +20,6 @@ use Rattle.admission.proofs.Joining.{based}
 use Rattle.receiver.proofs.Receiving.{received-unopened, received-short, accept-asks}
 use Rattle.receiver.proofs.Drawing.{answered-refused, answered-done}
 use Rattle.receiver.proofs.RepairCall.{sized, draws-are, call-form, call-range, call-out, call-draws, gather-asks, call-contradicts, call-done}
-use borrow.Author.Needs.{needs}
 use Rattle.receiver.proofs.receive_repair.Statement.{statement}
 use Rattle.receiver.proofs.receive_repair.Tie as tie
 

@@ -1,9 +1,5 @@
 -- `receiver::receive_source` meets its contract.
-use mathlib.Core.Path.{_≡_, refl, ap, sym, _∙_}
-use mathlib.Core.Option.{some}
-use Prim.Native.Nat.{ℕ, _≤_}
-use native.Mathlib.Omega.{arith}
-use lib.ListN.{length}
+use Rattle.words.specs.Words.{_≡_, arith, ℕ, _≤_, length, needs, refl, _∙_, sym, ap, some}
 use Rattle.wire.specs.declared.SourceFields.{SourceFields}
 use Rattle.wire.specs.Packets.{symbolCount}
 use Rattle.holding.specs.declared.Header.{Header}
@@ -17,9 +13,8 @@ use Rattle.holding.proofs.Headers.{header-is, header-none, Headed, headed}
 use Rattle.admission.proofs.Joining.{based}
 use Rattle.receiver.proofs.Receiving.{received-unopened, received-short, location-width, location-size, ready, accept-asks}
 use Rattle.receiver.proofs.Drawing.{answered-refused, answered-done}
-use Rattle.receiver.proofs.SourceCall.{Fields, source-fields, adu-length, source-none}
-use Rattle.receiver.proofs.SourceCall.{call-form, call-long, call-many, call-out, call-contradicts, call-done}
-use borrow.Author.Needs.{needs}
+use Rattle.receiver.proofs.SourceCall.{Fields, source-fields, adu-length, source-none, call-form, call-long, call-many, call-out, call-contradicts}
+use Rattle.receiver.proofs.SourceCall.{call-done}
 use Rattle.receiver.proofs.receive_source.Statement.{statement}
 use Rattle.receiver.proofs.receive_source.Tie as tie
 

@@ -1,6 +1,6 @@
 -- `receiver::symbol` meets its contract.
+use Rattle.words.specs.Words.{needs}
 use Rattle.receiver.proofs.Showing.{symbol-found, symbol-missing}
-use borrow.Author.Needs.{needs}
 use Rattle.receiver.proofs.symbol.Statement.{statement}
 use Rattle.receiver.proofs.symbol.Tie as tie
 

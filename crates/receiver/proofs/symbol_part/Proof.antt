@@ -1,9 +1,8 @@
 -- `receiver::symbol_part` meets its contract.
-use mathlib.Core.Path.{_∙_}
+use Rattle.words.specs.Words.{needs, _∙_}
 use Rattle.memory.proofs.Parts.{part-none}
 use Rattle.holding.proofs.Finding.{at-bounded}
 use Rattle.receiver.proofs.Showing.{part-found, part-missing}
-use borrow.Author.Needs.{needs}
 use Rattle.receiver.proofs.symbol_part.Statement.{statement}
 use Rattle.receiver.proofs.symbol_part.Tie as tie
 

@@ -1,6 +1,6 @@
 -- `receiver::symbol_place` meets its contract.
+use Rattle.words.specs.Words.{needs}
 use Rattle.receiver.proofs.Placing.{place-found, place-missing}
-use borrow.Author.Needs.{needs}
 use Rattle.receiver.proofs.symbol_place.Statement.{statement}
 use Rattle.receiver.proofs.symbol_place.Tie as tie
 

@@ -1,9 +1,5 @@
 -- `refusals::end_from` meets its contract.
-use mathlib.Core.Path.{_≡_}
-use Prim.Native.Nat.{_≤_, _-_}
-use native.Mathlib.Omega.{arith}
-use lib.ListN.{length}
-use borrow.Author.Needs.{needs}
+use Rattle.words.specs.Words.{_≡_, _≤_, length, needs, _-_}
 use Rattle.refusals.proofs.end_from.Statement.{statement}
 use Rattle.refusals.proofs.end_from.Tie as tie
 

@@ -1,9 +1,5 @@
 -- `refusals::read_bytes` is safe and ends.
-use mathlib.Core.Path.{_≡_}
-use Prim.Native.Nat.{_≤_, _-_}
-use native.Mathlib.Omega.{arith}
-use lib.ListN.{length}
-use borrow.Author.Needs.{needs}
+use Rattle.words.specs.Words.{_≡_, arith, _≤_, length, needs, _-_}
 use Rattle.refusals.proofs.read_bytes.Statement.{statement}
 use Rattle.refusals.proofs.read_bytes.Tie as tie
 

@@ -1,9 +1,5 @@
 -- `refusals::take_all` is safe and ends: each turn takes a line and its end.
-use mathlib.Core.Path.{_≡_}
-use Prim.Native.Nat.{_-_}
-use native.Mathlib.Omega.{arith}
-use lib.ListN.{length}
-use borrow.Author.Needs.{needs}
+use Rattle.words.specs.Words.{_≡_, length, needs, _-_}
 use Rattle.refusals.proofs.take_all.Statement.{statement}
 use Rattle.refusals.proofs.take_all.Tie as tie
 

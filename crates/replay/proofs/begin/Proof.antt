@@ -1,6 +1,5 @@
 -- `replay::begin` meets its contract.
-use mathlib.Core.Path.{refl}
-use native.Mathlib.Omega.{arith}
+use Rattle.words.specs.Words.{arith, refl}
 use Rattle.records.specs.Records.{total}
 use Rattle.answering.proofs.Keeping.{kept-none}
 use Rattle.replay.proofs.begin.Statement.{statement}

@@ -1,8 +1,6 @@
 -- `replay::count` meets its contract.
-use mathlib.Core.Path.{refl}
-use lib.Dec.{eqb}
+use Rattle.words.specs.Words.{needs, refl, eqb}
 use Rattle.replay.proofs.Ending.{counted, one-or-none}
-use borrow.Author.Needs.{needs}
 use Rattle.replay.proofs.count.Statement.{statement}
 use Rattle.replay.proofs.count.Tie as tie
 
@@ -11,7 +9,8 @@ sub-wrapping-add-u64 c = rw (c .before .before .is-accepted .ensures) (one-or-no
 
 returns : tie.Need-returns
 returns c =
-    counted _ _ _ _ (c .before .before .before .before .is-accepted .ensures) refl refl (c .before .before .before .wrapping-add-u64 .ensures) (c .before .before .wrapping-add-u642 .ensures)
+    counted _ _ _ _ (c .before .before .before .before .is-accepted .ensures) refl refl (c .before .before .before .wrapping-add-u64 .ensures)
+    (c .before .before .wrapping-add-u642 .ensures)
     (c .before .wrapping-add-u643 .ensures) (c .wrapping-add-u644 .ensures)
 
 pub count-spec : {M : Type 1} → statement M

@@ -1,6 +1,6 @@
 -- `replay::end_first` meets its contract.
+use Rattle.words.specs.Words.{needs}
 use Rattle.replay.proofs.Ending.{first-opened, first-closed}
-use borrow.Author.Needs.{needs}
 use Rattle.replay.proofs.end_first.Statement.{statement}
 use Rattle.replay.proofs.end_first.Tie as tie
 

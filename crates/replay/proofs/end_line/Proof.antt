@@ -1,6 +1,6 @@
 -- `replay::end_line` meets its contract.
+use Rattle.words.specs.Words.{needs}
 use Rattle.replay.proofs.Ending.{line-opening, line-working, line-closed}
-use borrow.Author.Needs.{needs}
 use Rattle.replay.proofs.end_line.Statement.{statement}
 use Rattle.replay.proofs.end_line.Tie as tie
 
@@ -8,7 +8,8 @@ returns : tie.Need-returns
 returns c = line-opening _ _ _ _ _ _ _ (c .before .before .before .before .enum-told .given .1) (c .before .before .end-first .ensures)
 
 returns-2 : tie.Need-returns-2
-returns-2 c = line-working _ _ _ _ _ _ _ _ (c .before .before .before .before .before .before .before .before .before .before .before .before .before .enum-told2 .given .1) (c .before .before .before .before .before .before .before .before .end-packet .ensures)
+returns-2 c = line-working _ _ _ _ _ _ _ _ (c .before .before .before .before .before .before .before .before .before .before .before .before .before
+    .enum-told2 .given .1) (c .before .before .before .before .before .before .before .before .end-packet .ensures)
 
 returns-3 : tie.Need-returns-3
 returns-3 c = line-closed _ _ _ _ _ _ (c .before .enum-told3 .given .1) (c .moved .ensures)

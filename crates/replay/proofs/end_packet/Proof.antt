@@ -1,7 +1,6 @@
 -- `replay::end_packet` meets its contract.
+use Rattle.words.specs.Words.{arith, needs}
 use Rattle.replay.proofs.Ending.{packet-past, packet-read}
-use native.Mathlib.Omega.{arith}
-use borrow.Author.Needs.{needs}
 use Rattle.replay.proofs.end_packet.Statement.{statement}
 use Rattle.replay.proofs.end_packet.Tie as tie
 
@@ -10,7 +9,9 @@ returns c = packet-past _ _ _ _ _ _ (c .before .if1 .taken) (c .moved .ensures)
 
 returns-2 : tie.Need-returns-2
 returns-2 c =
-    packet-read _ _ _ _ _ _ _ _ _ _ (c .before .before .before .before .before .before .before .before .before .before .before .before .before .before .before .if1 .left) (omega arith) (omega arith) (c .before .before .before .before .before .before .before .before .before .before .before .answer-line .ensures)
+    packet-read _ _ _ _ _ _ _ _ _ _ (c .before .before .before .before .before .before .before .before .before .before .before .before .before .before
+    .before .if1 .left) (omega arith) (omega arith) (c .before .before .before .before .before .before .before .before .before .before .before .answer-line
+    .ensures)
     (c .before .before .before .put-record .ensures) (c .count .ensures)
 
 pub end-packet-spec : {M : Type 1} → statement M

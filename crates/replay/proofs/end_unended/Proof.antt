@@ -1,6 +1,6 @@
 -- `replay::end_unended` meets its contract.
+use Rattle.words.specs.Words.{needs}
 use Rattle.replay.proofs.Finishing.{nothing-left, line-left}
-use borrow.Author.Needs.{needs}
 use Rattle.replay.proofs.end_unended.Statement.{statement}
 use Rattle.replay.proofs.end_unended.Tie as tie
 
@@ -8,7 +8,8 @@ returns : tie.Need-returns
 returns c = nothing-left _ _ _ _ (c .if1 .taken)
 
 returns-2 : tie.Need-returns-2
-returns-2 c = line-left _ _ _ _ _ _ _ (c .before .before .before .before .before .before .before .before .before .before .before .before .before .if1 .left) (c .before .before .before .before .before .before .before .before .end-line .ensures)
+returns-2 c = line-left _ _ _ _ _ _ _ (c .before .before .before .before .before .before .before .before .before .before .before .before .before .if1 .left)
+    (c .before .before .before .before .before .before .before .before .end-line .ensures)
 
 pub end-unended-spec : {M : Type 1} → statement M
 end-unended-spec =

@@ -1,10 +1,6 @@
 -- `replay::feed_lines` meets its contract. The invariant: the capture has come from where the piece began to where the loop stands.
-use mathlib.Core.Path.{_≡_, refl, sym, _∙_}
-use Prim.Native.Nat.{_+_, _-_, _≤_, _<_}
-use native.Mathlib.Omega.{arith}
-use lib.ListN.{length}
+use Rattle.words.specs.Words.{_≡_, arith, _≤_, _+_, length, needs, _<_, refl, _∙_, sym, _-_}
 use Rattle.replay.proofs.Feeding.{Running, starts, taken-more, runs, wanted, fed}
-use borrow.Author.Needs.{needs}
 use Rattle.replay.proofs.feed_lines.Statement.{statement}
 use Rattle.replay.proofs.feed_lines.Tie as tie
 
@@ -18,13 +14,17 @@ abbrev μ-loop : tie.MeasureT-loop
 
 -- there is input, and room for a record
 goes : (c : tie.Then1 Inv-loop μ-loop)
-    → (c .before .before .loop .taken < length (c .before .before .before .before .before .before .before .before .before .args .input .now)) × (c .before .before .loop .written ≤ 65458)
+    → (c .before .before .loop .taken < length (c .before .before .before .before .before .before .before .before .before .args .input .now)) ×
+    (c .before .before .loop .written ≤ 65458)
 goes c = wanted _ _ _ (c .before .before .loop .p) _ (c .before .goes-on .ensures) (c .if1 .taken)
 
 -- some input is taken, and no more than there is
 more : (c : tie.After-feed-line Inv-loop μ-loop)
-    → (0 < c .feed-line .result .taken) × (c .before .before .before .before .before .before .before .before .before .loop .taken + c .feed-line .result .taken ≤ length (c .before .before .before .before .before .before .before .before .before .before .before .before .before .before .before .before .args .input .now))
-more c = taken-more _ (c .before .before .before .before .before .before .before .before .before .before .before .before .before .before .before .before .args .input .now) (goes (c .before .before .before .before .before .before .before) .0) (c .feed-line .ensures)
+    → (0 < c .feed-line .result .taken) × (c .before .before .before .before .before .before .before .before .before .loop .taken + c .feed-line .result .taken
+    ≤ length (c .before .before .before .before .before .before .before .before .before .before .before .before .before .before .before .before .args .input
+    .now))
+more c = taken-more _ (c .before .before .before .before .before .before .before .before .before .before .before .before .before .before .before .before
+    .args .input .now) (goes (c .before .before .before .before .before .before .before) .0) (c .feed-line .ensures)
 
 loop-holds : tie.Need-loop-holds Inv-loop μ-loop
 loop-holds c = (starts _ _ _ _ _, refl, refl, refl, refl, refl)
@@ -42,20 +42,41 @@ feed-line-requires c κs =
         working = omega (arith, i .3, l .working);
         bytes = omega (arith, i .4, l .bytes);
       },
-      omega (arith, i .5, c .before .before .before .before .before .before .before .before .before .before .before .before .before .before .before .pre .1, goes (c .before .before .before .before .before .before) .1),
+      omega (
+        arith,
+        i .5,
+        c .before .before .before .before .before .before .before .before .before .before .before .before .before .before .before .pre .1,
+        goes (c .before .before .before .before .before .before) .1,
+      ),
     )
 
 add-taken : tie.Need-add-taken Inv-loop μ-loop
-add-taken c = omega (arith, more (c .before .before .before .before .before .before .before .before .before .before .before .before) .1, c .before .before .before .before .before .before .before .before .before .before .before .before .before .before .before .before .before .before .before .before .before .before .before .before .before .before .before .before .good .1 .1 .1 .1 .1 .0 .0)
+add-taken c = omega (
+  arith,
+  more (c .before .before .before .before .before .before .before .before .before .before .before .before) .1,
+  c .before .before .before .before .before .before .before .before .before .before .before .before .before .before .before .before .before .before .before
+      .before .before .before .before .before .before .before .before .before .good .1 .1 .1 .1 .1 .0 .0,
+)
 
 loop-less : tie.Need-loop-less Inv-loop μ-loop
-loop-less c = omega (arith, more (c .before .before .before .before .before .before .before .before .before .before .before .before) .0, more (c .before .before .before .before .before .before .before .before .before .before .before .before) .1, goes (c .before .before .before .before .before .before .before .before .before .before .before .before .before .before .before .before .before .before .before) .0)
+loop-less c = omega (
+  arith,
+  more (c .before .before .before .before .before .before .before .before .before .before .before .before) .0,
+  more
+      (c .before .before .before .before .before .before .before .before .before .before .before .before) .1,
+  goes
+      (c .before .before .before .before .before .before .before .before .before .before .before .before .before .before .before .before .before .before
+      .before) .0,
+)
 
 loop-again : tie.Need-loop-again Inv-loop μ-loop
 loop-again c =
-    let i = c .before .before .before .before .before .before .before .before .before .before .before .before .before .before .before .before .before .before .before .before .before .loop .inv in
+    let i = c .before .before .before .before .before .before .before .before .before .before .before .before .before .before .before .before .before .before
+    .before .before .before .loop .inv in
     let f = c .before .before .before .before .before .before .before .before .before .before .before .before .feed-line in (
-      runs _ _ _ _ _ _ _ _ _ _ _ _ _ _ (i .0) (goes (c .before .before .before .before .before .before .before .before .before .before .before .before .before .before .before .before .before .before .before) .1) (goes (c .before .before .before .before .before .before .before .before .before .before .before .before .before .before .before .before .before .before .before) .0) (f .ensures),
+      runs _ _ _ _ _ _ _ _ _ _ _ _ _ _ (i .0) (goes (c .before .before .before .before .before .before .before .before .before .before .before .before
+          .before .before .before .before .before .before .before) .1) (goes (c .before .before .before .before .before .before .before .before .before .before
+          .before .before .before .before .before .before .before .before .before) .0) (f .ensures),
       f .kept .1 .0 ∙ i .1,
       f .kept .1 .1 .0 ∙ i .2,
       f .kept .1 .1 .1 .0 ∙ i .3,
@@ -64,7 +85,11 @@ loop-again c =
     )
 
 returns : tie.Need-returns Inv-loop μ-loop
-returns c = let i = c .before .before .loop .inv in fed _ _ _ _ _ _ _ _ _ _ (omega (arith, i .5, c .before .before .before .before .before .before .before .before .before .pre .1)) (i .0) (sym (c .before .goes-on .ensures) ∙ c .if1 .left)
+returns c = let i = c .before .before .loop .inv in fed _ _ _ _ _ _ _ _ _ _ (omega (
+  arith,
+  i .5,
+  c .before .before .before .before .before .before .before .before .before .pre .1,
+)) (i .0) (sym (c .before .goes-on .ensures) ∙ c .if1 .left)
 
 pub feed-lines-spec : {M : Type 1} → statement M
 feed-lines-spec =

@@ -1,6 +1,6 @@
 -- `replay::finish` meets its contract.
+use Rattle.words.specs.Words.{needs}
 use Rattle.replay.proofs.Finishing.{finished}
-use borrow.Author.Needs.{needs}
 use Rattle.replay.proofs.finish.Statement.{statement}
 use Rattle.replay.proofs.finish.Tie as tie
 

@@ -1,6 +1,5 @@
 -- `replay::goes_on` meets its contract: each way out rewrites with the tests before it.
-use borrow.Author.Tests.{le-ltb, lt-ltb, lt-leb, le-leb}
-use borrow.Author.Needs.{needs}
+use Rattle.words.specs.Words.{needs, le-leb, lt-leb, lt-ltb, le-ltb}
 use Rattle.replay.proofs.goes_on.Statement.{statement}
 use Rattle.replay.proofs.goes_on.Tie as tie
 

@@ -1,5 +1,5 @@
 -- `replay::is_accepted` meets its contract.
-use borrow.Author.Tests.{eq-eqb, ne-eqb}
+use Rattle.words.specs.Words.{ne-eqb, eq-eqb}
 use Rattle.replay.proofs.is_accepted.Statement.{statement}
 use Rattle.replay.proofs.is_accepted.Tie as tie
 

@@ -1,5 +1,5 @@
 -- `replay::is_over` meets its contract.
-use borrow.Author.Needs.{needs}
+use Rattle.words.specs.Words.{needs}
 use Rattle.replay.proofs.is_over.Statement.{statement}
 use Rattle.replay.proofs.is_over.Tie as tie
 

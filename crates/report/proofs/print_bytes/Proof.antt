@@ -1,8 +1,5 @@
 -- `report::print_bytes` is safe and ends.
-use mathlib.Core.Path.{_≡_}
-use Prim.Native.Nat.{_≤_, _-_}
-use lib.ListN.{length}
-use borrow.Author.Needs.{needs}
+use Rattle.words.specs.Words.{_≡_, _≤_, length, needs, _-_}
 use Rattle.report.proofs.print_bytes.Statement.{statement}
 use Rattle.report.proofs.print_bytes.Tie as tie
 

@@ -1,13 +1,10 @@
 -- `sender::add_adu` meets its contract.
-use mathlib.Core.Path.{_≡_, ap}
-use mathlib.Core.Option.{some}
-use native.Mathlib.Omega.{arith}
+use Rattle.words.specs.Words.{_≡_, arith, needs, ap, some}
 use Rattle.wire.proofs.Reading.{source-length}
 use Rattle.sender.specs.declared.Header.{Header}
 use Rattle.sender.specs.State.{headerIn, taken}
 use Rattle.sender.proofs.Heads.{header-is, header-none, Opened, opened}
 use Rattle.sender.proofs.Promising.{kept, promise-unopened, promise-refused, promise-done, adding-long, adding-many, adding-short, adding-done}
-use borrow.Author.Needs.{needs}
 use Rattle.sender.proofs.add_adu.Statement.{statement}
 use Rattle.sender.proofs.add_adu.Tie as tie
 

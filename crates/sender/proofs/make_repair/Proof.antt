@@ -1,12 +1,6 @@
 -- `sender::make_repair` meets its contract.
-use mathlib.Core.Path.{_≡_, sym, _∙_}
-use mathlib.Core.Bool.{true, false, _||_, not}
-use mathlib.Core.Option.{some}
-use Prim.Native.Nat.{_*_, _^_, _≤_, _<_}
-use native.Mathlib.Nat.{mul-le-mul}
-use native.Mathlib.Omega.{arith}
-use lib.Dec.{ltb}
-use borrow.Author.Tests.{not-true, not-false, lt-ltb, le-ltb}
+use Rattle.words.specs.Words.{_≡_, arith, _≤_, needs, _<_, _∙_, sym, some, true, _*_, false, _^_, ltb, lt-ltb, not-false, not-true, le-ltb, _||_, not}
+use Rattle.words.specs.Words.{mul-le-mul}
 use Rattle.wire.specs.Numbers.{within}
 use Rattle.wire.proofs.Settings.{within-bounds}
 use Rattle.sender.specs.declared.Header.{Header}
@@ -15,7 +9,6 @@ use Rattle.sender.proofs.Heads.{header-is, header-none, Opened, opened}
 use Rattle.sender.proofs.Promising.{kept, promise-unopened, promise-refused}
 use Rattle.sender.proofs.Repairing.{repairing-range, repairing-empty, repairing-short}
 use Rattle.sender.proofs.Combining.{repair-made, refused-made}
-use borrow.Author.Needs.{needs}
 use Rattle.sender.proofs.make_repair.Statement.{statement}
 use Rattle.sender.proofs.make_repair.Tie as tie
 

@@ -1,9 +1,5 @@
 -- `sender::open` meets its contract.
-use mathlib.Core.Path.{_≡_, ap, _∙_}
-use mathlib.Core.Option.{some}
-use Prim.Native.Nat.{_≤_}
-use native.Mathlib.Omega.{arith}
-use lib.ListN.{length}
+use Rattle.words.specs.Words.{_≡_, arith, _≤_, length, needs, _∙_, ap, some}
 use Rattle.memory.specs.Part.{splice}
 use Rattle.wire.specs.declared.Setting.{Setting}
 use Rattle.wire.specs.Settings.{Valid, settingOf}
@@ -13,7 +9,6 @@ use Rattle.sender.specs.Inner.{countBytes}
 use Rattle.sender.proofs.Heads.{setting-good, setting-bad, header-room}
 use Rattle.sender.proofs.Promising.{kept, opening-values, opening-short, opening-done}
 use Rattle.sender.proofs.Taking.{opens}
-use borrow.Author.Needs.{needs}
 use Rattle.sender.proofs.open.Statement.{statement}
 use Rattle.sender.proofs.open.Tie as tie
 

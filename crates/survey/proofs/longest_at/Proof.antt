@@ -1,8 +1,5 @@
 -- `survey::longest_at` meets its contract. The loop's invariant: `longest` is the longest row of the keys below `key`.
-use mathlib.Core.Path.{_≡_}
-use Prim.Native.Nat.{_≤_, _-_}
-use native.Mathlib.Omega.{arith}
-use borrow.Author.Needs.{needs}
+use Rattle.words.specs.Words.{_≡_, arith, _≤_, needs, _-_}
 use Rattle.survey.specs.Survey.{longestAt}
 use Rattle.survey.proofs.Laws.{largest-none, largest-more}
 use Rattle.survey.proofs.longest_at.Statement.{statement}

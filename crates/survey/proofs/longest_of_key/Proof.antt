@@ -1,9 +1,6 @@
 -- `survey::longest_of_key` meets its contract. The loop's invariant: `longest` is the longest row of the first i coefficients, and state are the words after
 -- them.
-use mathlib.Core.Path.{_≡_}
-use Prim.Native.Nat.{_≤_, _-_}
-use native.Mathlib.Omega.{arith}
-use borrow.Author.Needs.{needs}
+use Rattle.words.specs.Words.{_≡_, arith, _≤_, needs, _-_}
 use Rattle.survey.specs.Survey.{wordsAfter, longestOfKey}
 use Rattle.survey.proofs.Laws.{largest-none, largest-more, words-none, words-more}
 use Rattle.survey.proofs.longest_of_key.Statement.{statement}

@@ -1,8 +1,5 @@
 -- `survey::longest_zeros` meets its contract. The loop's invariant: `longest` is the longest row at the density thresholds below dt.
-use mathlib.Core.Path.{_≡_}
-use Prim.Native.Nat.{_≤_, _-_}
-use native.Mathlib.Omega.{arith}
-use borrow.Author.Needs.{needs}
+use Rattle.words.specs.Words.{_≡_, arith, _≤_, needs, _-_}
 use Rattle.survey.specs.Survey.{longestWithin}
 use Rattle.survey.proofs.Laws.{largest-none, largest-more}
 use Rattle.survey.proofs.longest_zeros.Statement.{statement}

@@ -1,10 +1,5 @@
 -- `survey::zeros_of` meets its contract: what is left of the draws are the zeros.
-use mathlib.Core.Path.{_≡_}
-use mathlib.Core.Logic.{⊎-elim}
-use Prim.Native.Nat.{_+_, _-_}
-use native.Mathlib.Omega.{arith}
-use borrow.Author.Tests.{eq-eqb, ne-eqb}
-use borrow.Author.Needs.{needs}
+use Rattle.words.specs.Words.{_≡_, arith, _+_, needs, _-_, ne-eqb, eq-eqb, ⊎-elim}
 use Rattle.survey.specs.Survey.{zerosOf}
 use Rattle.survey.proofs.Laws.{first, last, row-of}
 use Rattle.survey.proofs.zeros_of.Statement.{statement}

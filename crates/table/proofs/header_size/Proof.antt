@@ -1,6 +1,5 @@
 -- `table::header_size` meets its contract.
-use native.Mathlib.Omega.{arith}
-use borrow.Author.Needs.{needs}
+use Rattle.words.specs.Words.{arith}
 use Rattle.table.specs.Window.{headerSize}
 use Rattle.table.proofs.header_size.Statement.{statement}
 use Rattle.table.proofs.header_size.Tie as tie

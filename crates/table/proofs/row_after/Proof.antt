@@ -1,8 +1,6 @@
 -- `table::row_after` meets its contract.
-use mathlib.Core.Path.{sym, _∙_}
-use native.Mathlib.Nat.{mod-eq-of-lt, mod-eq-sub-mod}
-use native.Mathlib.Omega.{arith}
-use borrow.Author.Needs.{needs}
+use Rattle.words.specs.Words.{arith, needs, _∙_, sym, mod-eq-of-lt}
+use native.Mathlib.Nat.{mod-eq-sub-mod}
 use Rattle.table.proofs.row_after.Statement.{statement}
 use Rattle.table.proofs.row_after.Tie as tie
 

@@ -1,12 +1,9 @@
 -- `table::row_offset` meets its contract.
-use mathlib.Core.Path.{_≡_, ap}
-use Prim.Native.Nat.{ℕ, _+_, _*_, _≤_}
-use native.Mathlib.Omega.{arith}
+use Rattle.words.specs.Words.{_≡_, arith, ℕ, _≤_, _+_, needs, ap, _*_}
 use Rattle.memory.proofs.Parts.{row-fits}
 use Rattle.table.specs.declared.Shape.{Shape}
 use Rattle.table.specs.Window.{stride, rowOffset}
 use Rattle.table.proofs.Offsets.{flags-fit, small-row}
-use borrow.Author.Needs.{needs}
 use Rattle.table.proofs.row_offset.Statement.{statement}
 use Rattle.table.proofs.row_offset.Tie as tie
 

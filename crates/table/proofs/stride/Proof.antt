@@ -1,6 +1,5 @@
 -- `table::stride` meets its contract.
-use native.Mathlib.Omega.{arith}
-use borrow.Author.Needs.{needs}
+use Rattle.words.specs.Words.{arith, needs}
 use Rattle.table.specs.Window.{stride}
 use Rattle.table.proofs.stride.Statement.{statement}
 use Rattle.table.proofs.stride.Tie as tie

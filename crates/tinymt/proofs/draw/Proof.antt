@@ -1,6 +1,6 @@
 -- `tinymt::draw` meets its contract: what `step` and `output` ensure, joined.
+use Rattle.words.specs.Words.{needs}
 use Rattle.tinymt.specs.Generator.{drawOf}
-use borrow.Author.Needs.{needs}
 use Rattle.tinymt.proofs.draw.Statement.{statement}
 use Rattle.tinymt.proofs.draw.Tie as tie
 

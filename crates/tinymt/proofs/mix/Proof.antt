@@ -1,12 +1,8 @@
 -- `tinymt::mix` meets its contract: the code computes the definition's own expression, and a word XOR itself shifted is a word, so the product fits 64 bits.
-use mathlib.Core.Path.{refl}
-use Prim.Native.Nat.{_/_, _^_, _<_}
+use Rattle.words.specs.Words.{arith, needs, _<_, refl, _^_, _/_, bitXor, xor-lt}
 use native.Mathlib.Nat.{lt-of-le-of-lt}
-use native.Mathlib.Omega.{arith}
-use lib.Bits.{bitXor, xor-lt}
 use lib.Pow.{shr-le}
 use Rattle.tinymt.specs.Generator.{mixed}
-use borrow.Author.Needs.{needs}
 use Rattle.tinymt.proofs.mix.Statement.{statement}
 use Rattle.tinymt.proofs.mix.Tie as tie
 

@@ -1,6 +1,6 @@
 -- `tinymt::output` meets its contract: what the callees ensure, joined.
+use Rattle.words.specs.Words.{needs}
 use Rattle.tinymt.specs.Generator.{temper}
-use borrow.Author.Needs.{needs}
 use Rattle.tinymt.proofs.output.Statement.{statement}
 use Rattle.tinymt.proofs.output.Tie as tie
 

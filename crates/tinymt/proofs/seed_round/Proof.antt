@@ -1,6 +1,6 @@
 -- `tinymt::seed_round` meets its contract: the code computes the definition's own expression.
+use Rattle.words.specs.Words.{needs}
 use Rattle.tinymt.specs.Generator.{seedRound}
-use borrow.Author.Needs.{needs}
 use Rattle.tinymt.proofs.seed_round.Statement.{statement}
 use Rattle.tinymt.proofs.seed_round.Tie as tie
 

@@ -1,9 +1,6 @@
 -- `tinymt::start` meets its contract. The first loop's invariant: the state is that after the rounds before i; the second's: that after k steps.
-use mathlib.Core.Path.{_≡_, refl}
-use borrow.Author.Needs.{needs}
+use Rattle.words.specs.Words.{_≡_, arith, _≤_, needs, refl, _-_}
 use Rattle.tinymt.proofs.Laws.{seeded-more, steps-more}
-use Prim.Native.Nat.{_≤_, _-_}
-use native.Mathlib.Omega.{arith}
 use Rattle.tinymt.specs.Generator.{steps, seeded, startOf}
 use Rattle.tinymt.proofs.start.Statement.{statement}
 use Rattle.tinymt.proofs.start.Tie as tie

@@ -1,9 +1,5 @@
 -- `tinymt::step` meets its contract: the code computes the definition's own expressions.
-use mathlib.Core.Path.{ap₂}
-use mathlib.Core.List.{[], _∷_}
-use Prim.Native.Nat.{ℕ}
-use lib.ListN.{getD}
-use borrow.Author.Needs.{needs}
+use Rattle.words.specs.Words.{ℕ, needs, [], _∷_, getD, ap₂}
 use Rattle.tinymt.specs.Generator.{stepQ, stepY, stepOf}
 use Rattle.tinymt.proofs.step.Statement.{statement}
 use Rattle.tinymt.proofs.step.Tie as tie

@@ -1,5 +1,5 @@
 -- `tinymt::xor_if_odd` meets its contract: each way out rewrites with its test.
-use borrow.Author.Tests.{eq-eqb, ne-eqb}
+use Rattle.words.specs.Words.{ne-eqb, eq-eqb}
 use Rattle.tinymt.specs.Generator.{xorIfOdd}
 use Rattle.tinymt.proofs.xor_if_odd.Statement.{statement}
 use Rattle.tinymt.proofs.xor_if_odd.Tie as tie

@@ -1,5 +1,5 @@
 -- `wire::between` meets its contract.
-use borrow.Author.Tests.{lt-leb, le-leb}
+use Rattle.words.specs.Words.{le-leb, lt-leb}
 use Rattle.wire.proofs.between.Statement.{statement}
 use Rattle.wire.proofs.between.Tie as tie
 

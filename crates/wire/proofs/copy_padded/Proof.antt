@@ -1,6 +1,5 @@
 -- `wire::copy_padded` meets its contract.
-use borrow.Author.Needs.{needs}
-use native.Mathlib.Omega.{arith}
+use Rattle.words.specs.Words.{arith, needs}
 use Rattle.wire.proofs.Adui.{copied}
 use Rattle.wire.proofs.copy_padded.Statement.{statement}
 use Rattle.wire.proofs.copy_padded.Tie as tie

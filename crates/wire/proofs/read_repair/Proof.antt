@@ -1,16 +1,9 @@
 -- `wire::read_repair` meets its contract.
-use mathlib.Core.Path.{_≡_, sym, _∙_}
-use mathlib.Core.Bool.{true}
-use Prim.Native.Nat.{ℕ, _-_, _*_, _≤_, _/_}
+use Rattle.words.specs.Words.{_≡_, arith, ℕ, _≤_, List, length, needs, _∙_, sym, _-_, true, _*_, _/_, not-false, not-true}
 use native.Mathlib.Nat.{div-mul-le-self, zero-div, div-zero}
-use native.Mathlib.Omega.{arith}
-use borrow.Author.Tests.{not-true, not-false}
-use mathlib.Core.List.{List}
-use lib.ListN.{length}
 use Rattle.wire.specs.Numbers.{within}
 use Rattle.wire.specs.Packets.{mostRepairs, repairCount, repairKey, densityThreshold, protectedCount, firstEsi}
 use Rattle.wire.proofs.Headers.{no-repair, no-count, no-symbols, uneven, even-read}
-use borrow.Author.Needs.{needs}
 use Rattle.wire.proofs.read_repair.Statement.{statement}
 use Rattle.wire.proofs.read_repair.Tie as tie
 

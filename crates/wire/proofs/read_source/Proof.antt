@@ -1,8 +1,7 @@
 -- `wire::read_source` meets its contract.
-use native.Mathlib.Omega.{arith}
+use Rattle.words.specs.Words.{arith, needs}
 use Rattle.wire.specs.Packets.{sourceEsi}
 use Rattle.wire.proofs.Headers.{no-source, source-read}
-use borrow.Author.Needs.{needs}
 use Rattle.wire.proofs.read_source.Statement.{statement}
 use Rattle.wire.proofs.read_source.Tie as tie
 

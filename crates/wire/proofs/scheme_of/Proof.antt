@@ -1,5 +1,5 @@
 -- `wire::scheme_of` meets its contract.
-use borrow.Author.Tests.{eq-eqb, ne-eqb}
+use Rattle.words.specs.Words.{ne-eqb, eq-eqb}
 use Rattle.wire.proofs.scheme_of.Statement.{statement}
 use Rattle.wire.proofs.scheme_of.Tie as tie
 

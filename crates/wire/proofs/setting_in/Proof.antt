@@ -1,7 +1,6 @@
 -- `wire::setting_in` meets its contract.
-use mathlib.Core.Path.{sym, _∙_}
+use Rattle.words.specs.Words.{needs, _∙_, sym}
 use Rattle.wire.proofs.Settings.{short-none, other-none, header-read}
-use borrow.Author.Needs.{needs}
 use Rattle.wire.proofs.setting_in.Statement.{statement}
 use Rattle.wire.proofs.setting_in.Tie as tie
 

@@ -1,7 +1,6 @@
 -- `wire::setting_of` meets its contract: each way out rewrites with the tests before it.
-use borrow.Author.Tests.{not-true, not-false}
+use Rattle.words.specs.Words.{needs, not-false, not-true}
 use Rattle.wire.specs.Settings.{inRange, settingOf}
-use borrow.Author.Needs.{needs}
 use Rattle.wire.proofs.setting_of.Statement.{statement}
 use Rattle.wire.proofs.setting_of.Tie as tie
 

@@ -1,7 +1,6 @@
 -- `wire::symbol_count` meets its contract.
-use mathlib.Core.Path.{refl}
+use Rattle.words.specs.Words.{needs, refl}
 use Rattle.wire.specs.Packets.{symbolCount}
-use borrow.Author.Needs.{needs}
 use Rattle.wire.proofs.symbol_count.Statement.{statement}
 use Rattle.wire.proofs.symbol_count.Tie as tie
 

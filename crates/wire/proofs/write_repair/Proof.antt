@@ -1,8 +1,5 @@
 -- `wire::write_repair` meets its contract.
-use mathlib.Core.Path.{refl}
-use mathlib.Core.List.{_++_}
-use Prim.Native.Nat.{_+_, _*_}
-use borrow.Author.Needs.{needs}
+use Rattle.words.specs.Words.{_+_, needs, refl, _*_, _++_}
 use Rattle.memory.specs.Number.{bytes}
 use Rattle.wire.specs.Packets.{repairHeader}
 use Rattle.wire.proofs.Adui.{front-next}

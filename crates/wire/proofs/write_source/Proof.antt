@@ -1,7 +1,5 @@
 -- `wire::write_source` meets its contract.
-use mathlib.Core.Path.{refl}
-use lib.ListN.{length}
-use borrow.Author.Needs.{needs}
+use Rattle.words.specs.Words.{length, needs, refl}
 use Rattle.memory.specs.Number.{bytes}
 use Rattle.memory.proofs.Parts.{whole}
 use Rattle.wire.specs.Packets.{sourcePacket}

@@ -1,9 +1,5 @@
 -- `wire::write_symbol` meets its contract: the first symbol by its stores, a later one by a copy.
-use mathlib.Core.Path.{_≡_}
-use native.Mathlib.Omega.{arith}
-use borrow.Author.Needs.{needs}
-use Prim.Native.Nat.{_+_, _*_, _≤_, _<_}
-use lib.ListN.{length, length-set}
+use Rattle.words.specs.Words.{_≡_, arith, _≤_, _+_, length, needs, _<_, _*_, length-set}
 use Rattle.memory.proofs.Parts.{row-fits}
 use Rattle.wire.proofs.Adui.{symbol-start, stored-length, first-written, later-written}
 use Rattle.wire.proofs.write_symbol.Statement.{statement}

@@ -1,12 +1,7 @@
 -- `admission::packet::accept` meets its contract.
-use mathlib.Core.Path.{_∙_}
-use mathlib.Core.Bool.{not}
-use native.Mathlib.Omega.{arith}
-use lib.Dec.{eqb}
-use borrow.Author.Tests.{eqb-true, not-false}
+use Rattle.words.specs.Words.{arith, needs, _∙_, eqb, not-false, eqb-true, not}
 use Rattle.history.proofs.Sides.{limits}
 use Rattle.admission.proofs.Marking.{count-asks, count-again, update-asks, accepted}
-use borrow.Author.Needs.{needs}
 use Rattle.admission.proofs.packet.accept.Statement.{statement}
 use Rattle.admission.proofs.packet.accept.Tie as tie
 
@@ -18,26 +13,17 @@ known-among-requires c κs =
     let p5 = c .before .before .before .before .before in
     rw (c .before .shape .ensures) (count-asks (p5 .args .header) (p5 .args .location) (p5 .args .own) _ (p5 .pre .0) (p5 .pre .4) (p5 .pre .3))
 
-finish-requires : tie.Need-finish-requires
-finish-requires c κs = search needs
-
 known-among-requires-2 : tie.Need-known-among-requires-2
 known-among-requires-2 c κs =
     let p3 = c .before .before .before in
     let p11 = p3 .before .before .before .before .before .before .before .before in
     count-again (p11 .args .header) (p11 .args .location) (p11 .args .own) _ _ (p11 .pre .0) (p11 .pre .4) (p3 .finish .ensures .contained)
 
-excess-requires : tie.Need-excess-requires
-excess-requires c κs = search needs
-
 update-requires : tie.Need-update-requires
 update-requires c κs =
     let p6 = c .before .before .before .before .before .before in
     let p14 = p6 .before .before .before .before .before .before .before .before in
     update-asks (p14 .args .header) (p14 .args .location) (p14 .args .own) _ _ (p14 .pre .0) (p14 .pre .4) (p6 .finish .ensures .contained)
-
-same-length : tie.Need-same-length
-same-length c = search needs
 
 returns : tie.Need-returns
 returns c =
@@ -62,9 +48,9 @@ accept-spec =
     (λ c κs. search needs)
     add-known-among
     known-among-requires
-    finish-requires
+    (λ c κs. search needs)
     known-among-requires-2
-    excess-requires
+    (λ c κs. search needs)
     update-requires
-    same-length
+    (λ c. search needs)
     returns)

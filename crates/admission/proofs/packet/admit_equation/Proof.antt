@@ -1,11 +1,9 @@
 -- `admission::packet::admit_equation` meets its contract.
-use mathlib.Core.Path.{subst, sym}
-use native.Mathlib.Omega.{arith}
+use Rattle.words.specs.Words.{arith, needs, sym, subst}
 use Rattle.table.proofs.Offsets.{flags-fit}
 use Rattle.gather.proofs.Framing.{works-only}
 use Rattle.admission.specs.Steps.{EquationAdmitted}
 use Rattle.admission.proofs.Gathering.{equation-admitted}
-use borrow.Author.Needs.{needs}
 use Rattle.admission.proofs.packet.admit_equation.Statement.{statement}
 use Rattle.admission.proofs.packet.admit_equation.Tie as tie
 

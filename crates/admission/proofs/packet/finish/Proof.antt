@@ -1,11 +1,10 @@
 -- `admission::packet::finish` meets its contract.
-use native.Mathlib.Omega.{arith}
+use Rattle.words.specs.Words.{arith, needs}
 use Rattle.table.specs.Window.{Fits}
 use Rattle.placing.specs.Place.{Committed}
 use Rattle.history.proofs.Sides.{limits}
 use Rattle.admission.proofs.Joining.{based-fits}
 use Rattle.admission.proofs.Finishing.{finished}
-use borrow.Author.Needs.{needs}
 use Rattle.admission.proofs.packet.finish.Statement.{statement}
 use Rattle.admission.proofs.packet.finish.Tie as tie
 

@@ -1,6 +1,5 @@
 -- `admission::packet::gathered_by` meets its contract.
-use borrow.Author.Needs.{needs}
-use mathlib.Core.Path.{ap, sym}
+use Rattle.words.specs.Words.{needs, sym, ap}
 use Rattle.admission.specs.Steps.{gatheredBy}
 use Rattle.admission.proofs.packet.gathered_by.Statement.{statement}
 use Rattle.admission.proofs.packet.gathered_by.Tie as tie

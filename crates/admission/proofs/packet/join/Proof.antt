@@ -1,7 +1,6 @@
 -- `admission::packet::join` meets its contract.
-use native.Mathlib.Omega.{arith}
+use Rattle.words.specs.Words.{arith, needs}
 use Rattle.admission.proofs.Joining.{for-joined, for-fresh}
-use borrow.Author.Needs.{needs}
 use Rattle.admission.proofs.packet.join.Statement.{statement}
 use Rattle.admission.proofs.packet.join.Tie as tie
 

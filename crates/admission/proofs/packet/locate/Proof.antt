@@ -1,12 +1,9 @@
 -- `admission::packet::locate` meets its contract.
-use mathlib.Core.Path.{_≡_}
-use Prim.Native.Nat.{_<_}
-use native.Mathlib.Omega.{arith}
+use Rattle.words.specs.Words.{_≡_, arith, needs, _<_}
 use Rattle.history.specs.History.{ahead, sideOf, halfway, farthest}
 use Rattle.history.proofs.Sides.{limits, ahead-by}
 use Rattle.holding.proofs.Standing.{side-is-ahead, side-is-behind}
 use Rattle.admission.proofs.Locating.{found-behind, found-ahead, found-location}
-use borrow.Author.Needs.{needs}
 use Rattle.admission.proofs.packet.locate.Statement.{statement}
 use Rattle.admission.proofs.packet.locate.Tie as tie
 

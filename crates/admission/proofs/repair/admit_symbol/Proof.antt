@@ -1,14 +1,11 @@
 -- `admission::repair::admit_symbol` meets its contract.
-use mathlib.Core.Path.{_≡_}
-use Prim.Native.Nat.{_+_}
-use native.Mathlib.Omega.{arith}
+use Rattle.words.specs.Words.{_≡_, arith, _+_, needs}
 use Rattle.memory.specs.Part.{splice}
 use Rattle.memory.proofs.Parts.{whole}
 use Rattle.table.specs.Window.{rowOffset}
 use Rattle.gather.proofs.Framing.{row-room}
 use Rattle.admission.proofs.Gathering.{works-stored}
 use Rattle.admission.proofs.Repairing.{symbol-admitted}
-use borrow.Author.Needs.{needs}
 use Rattle.admission.proofs.repair.admit_symbol.Statement.{statement}
 use Rattle.admission.proofs.repair.admit_symbol.Tie as tie
 

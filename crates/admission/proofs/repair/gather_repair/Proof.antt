@@ -1,15 +1,11 @@
 -- `admission::repair::gather_repair` meets its contract. The loop: working memory keeps `kept` rows of the first i equations.
-use mathlib.Core.Path.{_∙_}
-use Prim.Native.Nat.{_+_, _-_, _*_, _≤_}
-use native.Mathlib.Omega.{arith}
-use lib.ListN.{length}
+use Rattle.words.specs.Words.{arith, _≤_, _+_, length, needs, _∙_, _-_, _*_}
 use Rattle.memory.proofs.Parts.{cut, length-part, row-fits}
 use Rattle.admission.specs.declared.packet.Gathered.the-variants.{All}
 use Rattle.admission.specs.Steps.{Admits, Gathers}
 use Rattle.admission.specs.RepairSteps.{equationAt}
 use Rattle.admission.proofs.Gathering.{gathers-none, gathers-on, gathers-stop, gathers-all}
 use Rattle.admission.proofs.Repairing.{symbol-of}
-use borrow.Author.Needs.{needs}
 use Rattle.admission.proofs.repair.gather_repair.Statement.{statement}
 use Rattle.admission.proofs.repair.gather_repair.Tie as tie
 
@@ -74,23 +70,11 @@ add-at c = omega (arith, inside c)
 add-admit-symbol : tie.Need-add-admit-symbol Inv-loop μ-loop
 add-admit-symbol c = omega (arith, within (c .before))
 
-sub-admit-symbol : tie.Need-sub-admit-symbol Inv-loop μ-loop
-sub-admit-symbol c = omega arith
-
-part-admit-symbol-start : tie.Need-part-admit-symbol-start Inv-loop μ-loop
-part-admit-symbol-start c = omega arith
-
 part-admit-symbol-end : tie.Need-part-admit-symbol-end Inv-loop μ-loop
 part-admit-symbol-end c = omega (arith, within (c .before))
 
 add-admit-symbol-2 : tie.Need-add-admit-symbol-2 Inv-loop μ-loop
 add-admit-symbol-2 c = omega (arith, inside (c .before .before))
-
-sub-admit-symbol-2 : tie.Need-sub-admit-symbol-2 Inv-loop μ-loop
-sub-admit-symbol-2 c = omega arith
-
-part-admit-symbol-start-2 : tie.Need-part-admit-symbol-start-2 Inv-loop μ-loop
-part-admit-symbol-start-2 c = omega arith
 
 part-admit-symbol-end-2 : tie.Need-part-admit-symbol-end-2 Inv-loop μ-loop
 part-admit-symbol-end-2 c = omega (arith, inside (c .before .before))
@@ -109,12 +93,6 @@ admit-symbol-requires c κs =
       rw (cut (l .i * a .n) (a .n) (a .lists .now), length-part (l .i * a .n) (a .n) (a .lists .now) (within p)) (s .pre .4),
       rw (cut (8 + l .i * size) size (a .packet .now)) (length-part (8 + l .i * size) size (a .packet .now) (inside p)),
     )
-
-enum-known-now : tie.Need-enum-known-now Inv-loop μ-loop
-enum-known-now c = search needs
-
-enum-told : tie.Need-enum-told Inv-loop μ-loop
-enum-told c = search needs
 
 same-length : tie.Need-same-length Inv-loop μ-loop
 same-length c = one (c .before .before .before .before) .contained .same
@@ -163,16 +141,16 @@ gather-repair-spec =
     mul-at
     add-at
     add-admit-symbol
-    sub-admit-symbol
-    part-admit-symbol-start
+    (λ c. omega arith)
+    (λ c. omega arith)
     part-admit-symbol-end
     add-admit-symbol-2
-    sub-admit-symbol-2
-    part-admit-symbol-start-2
+    (λ c. omega arith)
+    (λ c. omega arith)
     part-admit-symbol-end-2
     admit-symbol-requires
-    enum-known-now
-    enum-told
+    (λ c. search needs)
+    (λ c. search needs)
     same-length
     returns
     add-i

@@ -1,8 +1,7 @@
 -- `admission::source::admit_symbol` meets its contract.
-use native.Mathlib.Omega.{arith}
+use Rattle.words.specs.Words.{arith, needs}
 use Rattle.admission.proofs.Gathering.{works-stored}
 use Rattle.admission.proofs.Sourcing.{length-symbol, symbol-admitted}
-use borrow.Author.Needs.{needs}
 use Rattle.admission.proofs.source.admit_symbol.Statement.{statement}
 use Rattle.admission.proofs.source.admit_symbol.Tie as tie
 

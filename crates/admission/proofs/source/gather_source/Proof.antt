@@ -1,13 +1,10 @@
 -- `admission::source::gather_source` meets its contract.
-use Prim.Native.Nat.{_-_, _≤_}
-use native.Mathlib.Omega.{arith}
-use lib.ListN.{length}
+use Rattle.words.specs.Words.{arith, _≤_, length, needs, _-_}
 use Rattle.wire.specs.Packets.{symbolCount}
 use Rattle.admission.specs.declared.packet.Gathered.the-variants.{All}
 use Rattle.admission.specs.Steps.{Gathers}
 use Rattle.admission.specs.SourceSteps.{equationOf}
 use Rattle.admission.proofs.Gathering.{gathers-none, gathers-on, gathers-stop, gathers-all}
-use borrow.Author.Needs.{needs}
 use Rattle.admission.proofs.source.gather_source.Statement.{statement}
 use Rattle.admission.proofs.source.gather_source.Tie as tie
 

@@ -1,14 +1,9 @@
 -- `admission::source::write_row` meets its contract.
-use mathlib.Core.Path.{_≡_, ap, _∙_}
-use Prim.Native.Nat.{ℕ, _+_, _-_, _≤_}
-use mathlib.Core.List.{List}
-use native.Mathlib.Omega.{arith}
-use lib.ListN.{length, take, drop}
+use Rattle.words.specs.Words.{_≡_, arith, ℕ, _≤_, _+_, List, length, needs, _∙_, ap, _-_, drop, take}
 use Rattle.memory.specs.Part.{splice}
 use Rattle.memory.proofs.Parts.{cut, put, length-part}
 use Rattle.wire.specs.Packets.{symbolAt}
 use Rattle.gather.proofs.Framing.{row-room}
-use borrow.Author.Needs.{needs}
 use Rattle.admission.proofs.source.write_row.Statement.{statement}
 use Rattle.admission.proofs.source.write_row.Tie as tie
 

@@ -1,7 +1,6 @@
 -- `field::Gf256::double` meets its contract: x times the polynomial, less the modulus if that reaches degree 8.
-use native.Mathlib.Omega.{arith}
+use Rattle.words.specs.Words.{arith, needs}
 use Rattle.field.proofs.Linear.{twice-low, twice-high}
-use borrow.Author.Needs.{needs}
 use Rattle.field.proofs.Gf256.double.Statement.{statement}
 use Rattle.field.proofs.Gf256.double.Tie as tie
 

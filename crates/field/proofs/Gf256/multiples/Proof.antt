@@ -1,8 +1,7 @@
 -- `field::Gf256::multiples` meets its contract: the multiples of 2^e are the powers from e on.
-use mathlib.Core.Path.{_∙_}
+use Rattle.words.specs.Words.{needs, _∙_}
 use Rattle.field.specs.Tables.{doublings}
 use Rattle.field.proofs.Linear.{eight-powers}
-use borrow.Author.Needs.{needs}
 use Rattle.field.proofs.Gf256.multiples.Statement.{statement}
 use Rattle.field.proofs.Gf256.multiples.Tie as tie
 

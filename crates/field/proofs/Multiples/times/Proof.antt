@@ -1,11 +1,6 @@
 -- `field::Multiples::times` meets its contract.
-use mathlib.Core.Path.{ap}
-use mathlib.Core.List.{List}
-use Prim.Native.Nat.{ℕ}
-use native.Mathlib.Omega.{arith}
-use lib.Bits.{xor-zero-r}
+use Rattle.words.specs.Words.{arith, ℕ, List, needs, ap, xor-zero-r}
 use Rattle.field.proofs.Linear.{chosen, chosen-product}
-use borrow.Author.Needs.{needs}
 use Rattle.field.proofs.Multiples.times.Statement.{statement}
 use Rattle.field.proofs.Multiples.times.Tie as tie
 

@@ -1,10 +1,6 @@
 -- `field::tables::logarithm` meets its contract, by the rule of the table.
+use Rattle.words.specs.Words.{arith, ℕ, List, needs, _-_, getD}
 use mathlib.Core.Path.{subst⁻¹}
-use mathlib.Core.List.{List}
-use Prim.Native.Nat.{ℕ, _-_}
-use native.Mathlib.Omega.{arith}
-use lib.ListN.{getD}
-use borrow.Author.Needs.{needs}
 use Rattle.field.specs.Logarithm.{IsLogarithm}
 use Rattle.field.proofs.Laws.{logarithms-at}
 use Rattle.field.proofs.tables.logarithm.Statement.{statement}

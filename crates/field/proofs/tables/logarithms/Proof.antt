@@ -1,5 +1,5 @@
 -- `field::tables::logarithms` meets its contract: antt computes the table and compares.
-use mathlib.Core.Path.{refl}
+use Rattle.words.specs.Words.{refl}
 use Rattle.field.specs.Tables.{logarithmTable}
 use Rattle.field.proofs.tables.logarithms.Statement.{statement}
 use Rattle.field.proofs.tables.logarithms.Tie as tie

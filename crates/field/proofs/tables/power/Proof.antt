@@ -1,10 +1,5 @@
 -- `field::tables::power` meets its contract, by the rule of the table.
-use mathlib.Core.Path.{_∙_, ap₂}
-use mathlib.Core.List.{List}
-use Prim.Native.Nat.{ℕ, _%_}
-use native.Mathlib.Omega.{arith}
-use lib.ListN.{getD}
-use borrow.Author.Needs.{needs}
+use Rattle.words.specs.Words.{arith, ℕ, List, needs, _∙_, _%_, getD, ap₂}
 use Rattle.field.proofs.Laws.{doublings-at, power-reduced}
 use Rattle.field.proofs.tables.power.Statement.{statement}
 use Rattle.field.proofs.tables.power.Tie as tie

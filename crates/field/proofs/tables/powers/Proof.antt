@@ -1,5 +1,5 @@
 -- `field::tables::powers` meets its contract: antt computes the table, each entry from the one before, and compares.
-use mathlib.Core.Path.{refl}
+use Rattle.words.specs.Words.{refl}
 use Rattle.field.specs.Tables.{doublings}
 use Rattle.field.proofs.tables.powers.Statement.{statement}
 use Rattle.field.proofs.tables.powers.Tie as tie

@@ -1,10 +1,5 @@
 -- `field::tables::product` meets its contract: 2^e times 2^f is 2^(e + f).
-use mathlib.Core.Logic.{⊎-elim}
-use mathlib.Core.Path.{_≡_, sym, ap, _∙_}
-use Prim.Native.Nat.{ℕ}
-use native.Mathlib.Omega.{arith}
-use borrow.Author.Needs.{needs}
-use borrow.Author.Tests.{eqb-true, eqb-false}
+use Rattle.words.specs.Words.{_≡_, arith, ℕ, needs, _∙_, sym, ap, eqb-true, ⊎-elim, eqb-false}
 use Rattle.field.specs.Gf256.{product}
 use Rattle.field.proofs.Laws.{product-by-logarithms, product-zero, product-comm}
 use Rattle.field.proofs.tables.product.Statement.{statement}

@@ -1,5 +1,5 @@
 -- `field::tables::reduced` meets its contract.
-use native.Mathlib.Omega.{arith}
+use Rattle.words.specs.Words.{arith}
 use Rattle.field.proofs.tables.reduced.Statement.{statement}
 use Rattle.field.proofs.tables.reduced.Tie as tie
 

@@ -1,9 +1,7 @@
 -- `holding::find::find` meets its contract.
-use native.Mathlib.Omega.{arith}
-use borrow.Author.Tests.{not-true, not-false}
+use Rattle.words.specs.Words.{arith, needs, not-false, not-true}
 use Rattle.holding.proofs.Standing.{Stood, stood, looks, hidden}
 use Rattle.holding.proofs.Finding.{finds-outside, finds-unknown, finds-at}
-use borrow.Author.Needs.{needs}
 use Rattle.holding.proofs.find.find.Statement.{statement}
 use Rattle.holding.proofs.find.find.Tie as tie
 

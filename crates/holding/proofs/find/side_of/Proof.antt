@@ -1,8 +1,7 @@
 -- `holding::find::side_of` meets its contract.
-use native.Mathlib.Omega.{arith}
+use Rattle.words.specs.Words.{arith, needs}
 use Rattle.history.specs.History.{halfway}
 use Rattle.holding.proofs.Standing.{finds-ahead, finds-behind}
-use borrow.Author.Needs.{needs}
 use Rattle.holding.proofs.find.side_of.Statement.{statement}
 use Rattle.holding.proofs.find.side_of.Tie as tie
 

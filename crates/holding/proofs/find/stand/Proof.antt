@@ -1,13 +1,9 @@
 -- `holding::find::stand` meets its contract.
-use mathlib.Core.Path.{_≡_}
-use mathlib.Core.Bool.{true}
-use mathlib.Core.Option.{some}
-use borrow.Author.Tests.{not-true, not-false}
+use Rattle.words.specs.Words.{_≡_, needs, some, true, not-false, not-true}
 use Rattle.holding.specs.declared.Header.{Header}
 use Rattle.holding.specs.Header.{headerIn}
 use Rattle.holding.proofs.Headers.{header-is, header-none}
 use Rattle.holding.proofs.Standing.{side-is-ahead, side-is-behind, stands-unopened, stands-fresh, stands-behind, stands-past, stands-inside}
-use borrow.Author.Needs.{needs}
 use Rattle.holding.proofs.find.stand.Statement.{statement}
 use Rattle.holding.proofs.find.stand.Tie as tie
 

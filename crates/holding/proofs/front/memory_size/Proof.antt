@@ -1,7 +1,6 @@
 -- `holding::front::memory_size` meets its contract.
-use native.Mathlib.Omega.{arith}
+use Rattle.words.specs.Words.{arith, needs}
 use Rattle.holding.proofs.Headers.{area}
-use borrow.Author.Needs.{needs}
 use Rattle.holding.proofs.front.memory_size.Statement.{statement}
 use Rattle.holding.proofs.front.memory_size.Tie as tie
 

@@ -1,11 +1,9 @@
 -- `holding::front::read_header` meets its contract.
-use mathlib.Core.Path.{_≡_}
-use mathlib.Core.Option.{some}
+use Rattle.words.specs.Words.{_≡_, needs, some}
 use Rattle.wire.specs.declared.Setting.{Setting}
 use Rattle.wire.specs.Settings.{Valid, settingIn}
 use Rattle.wire.proofs.Settings.{setting-found}
 use Rattle.holding.proofs.Headers.{setting-good, setting-bad, found, none-setting, none-short, none-row}
-use borrow.Author.Needs.{needs}
 use Rattle.holding.proofs.front.read_header.Statement.{statement}
 use Rattle.holding.proofs.front.read_header.Tie as tie
 

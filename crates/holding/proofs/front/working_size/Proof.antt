@@ -1,7 +1,6 @@
 -- `holding::front::working_size` meets its contract.
-use native.Mathlib.Omega.{arith}
+use Rattle.words.specs.Words.{arith, needs}
 use Rattle.holding.proofs.Headers.{working-area}
-use borrow.Author.Needs.{needs}
 use Rattle.holding.proofs.front.working_size.Statement.{statement}
 use Rattle.holding.proofs.front.working_size.Tie as tie
 

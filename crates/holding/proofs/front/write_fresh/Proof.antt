@@ -1,11 +1,8 @@
 -- `holding::front::write_fresh` meets its contract.
-use mathlib.Core.Path.{ap₂, _∙_}
-use mathlib.Core.List.{List}
-use Prim.Native.Nat.{ℕ, _-_}
+use Rattle.words.specs.Words.{ℕ, List, needs, _∙_, _-_, ap₂}
 use Rattle.memory.specs.Part.{splice}
 use Rattle.wire.specs.Packets.{zeros}
 use Rattle.holding.specs.Inner.{freshMemory}
-use borrow.Author.Needs.{needs}
 use Rattle.holding.proofs.front.write_fresh.Statement.{statement}
 use Rattle.holding.proofs.front.write_fresh.Tie as tie
 

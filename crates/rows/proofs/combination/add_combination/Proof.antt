@@ -1,6 +1,6 @@
 -- `rows::combination::add_combination` meets its contract.
+use Rattle.words.specs.Words.{needs}
 use Rattle.rows.proofs.Digits.{scaled-back}
-use borrow.Author.Needs.{needs}
 use Rattle.rows.proofs.combination.add_combination.Statement.{statement}
 use Rattle.rows.proofs.combination.add_combination.Tie as tie
 

@@ -1,13 +1,9 @@
 -- `rows::combination::add_digit` meets its contract. The loop: the first k rows have been added.
-use mathlib.Core.Path.{_≡_}
-use Prim.Native.Nat.{_≤_, _-_}
-use native.Mathlib.Omega.{arith}
-use lib.ListN.{length}
+use Rattle.words.specs.Words.{_≡_, arith, _≤_, length, needs, _-_}
 use Rattle.memory.proofs.Parts.{row-fits}
 use Rattle.rows.specs.Combination.{combined, rowAt}
 use Rattle.rows.specs.Digits.{digit}
 use Rattle.rows.proofs.Combinations.{row-added}
-use borrow.Author.Needs.{needs}
 use Rattle.rows.proofs.combination.add_digit.Statement.{statement}
 use Rattle.rows.proofs.combination.add_digit.Tie as tie
 

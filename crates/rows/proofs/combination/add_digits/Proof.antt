@@ -1,8 +1,5 @@
 -- `rows::combination::add_digits` meets its contract. The loop: the sum has the j highest binary digits of the coefficients.
-use mathlib.Core.Path.{_≡_, refl, sym, _∙_}
-use Prim.Native.Nat.{_≤_, _-_, _+_, suc}
-use native.Mathlib.Omega.{arith}
-use lib.ListN.{length}
+use Rattle.words.specs.Words.{_≡_, arith, _≤_, _+_, length, needs, refl, _∙_, sym, _-_, suc}
 use Rattle.field.specs.Gf256.{power}
 use Rattle.rows.specs.Rows.{scaled}
 use Rattle.rows.specs.Combination.{combined, rowAt}
@@ -10,7 +7,6 @@ use Rattle.rows.specs.Digits.{shifted}
 use Rattle.rows.proofs.Sums.{length-scaled}
 use Rattle.rows.proofs.Combinations.{long-rows}
 use Rattle.rows.proofs.Digits.{combined-shifted, combined-start, combined-end, scaled-next, scaled-start}
-use borrow.Author.Needs.{needs}
 use Rattle.rows.proofs.combination.add_digits.Statement.{statement}
 use Rattle.rows.proofs.combination.add_digits.Tie as tie
 

@@ -1,12 +1,8 @@
 -- `rows::combination::add_row` meets its contract.
-use mathlib.Core.Path.{_≡_, sym}
-use lib.ListN.{length}
-use native.Mathlib.Omega.{arith}
+use Rattle.words.specs.Words.{_≡_, arith, _+_, length, needs, sym, _*_}
 use Rattle.rows.proofs.Sums.{addScaled-zero}
-use Prim.Native.Nat.{_+_, _*_}
 use Rattle.memory.proofs.Parts.{cut}
 use Rattle.rows.specs.Combination.{rowAt}
-use borrow.Author.Needs.{needs}
 use Rattle.rows.proofs.combination.add_row.Statement.{statement}
 use Rattle.rows.proofs.combination.add_row.Tie as tie
 

@@ -1,6 +1,6 @@
 -- `rows::combination::combine` meets its contract.
+use Rattle.words.specs.Words.{needs}
 use Rattle.rows.proofs.Sums.{scaled-zeros}
-use borrow.Author.Needs.{needs}
 use Rattle.rows.proofs.combination.combine.Statement.{statement}
 use Rattle.rows.proofs.combination.combine.Tie as tie
 

@@ -1,11 +1,9 @@
 -- `rows::combination::double` meets its contract. The loop: the first i elements are those of the result.
-use Prim.Native.Nat.{_-_}
-use native.Mathlib.Omega.{arith}
+use Rattle.words.specs.Words.{arith, needs, _-_}
 use Rattle.memory.proofs.Loop.{Turned, turned-all}
 use Rattle.rows.specs.Rows.{scaled}
 use Rattle.rows.proofs.Sums.{length-scaled}
 use Rattle.rows.proofs.Turns.{scale-more}
-use borrow.Author.Needs.{needs}
 use Rattle.rows.proofs.combination.double.Statement.{statement}
 use Rattle.rows.proofs.combination.double.Tie as tie
 

@@ -1,7 +1,5 @@
 -- `rows::combination::general` meets its contract. The loop: at most k are counted among the first k.
-use Prim.Native.Nat.{_≤_, _-_}
-use lib.ListN.{length}
-use borrow.Author.Needs.{needs}
+use Rattle.words.specs.Words.{_≤_, length, needs, _-_}
 use Rattle.rows.proofs.combination.general.Statement.{statement}
 use Rattle.rows.proofs.combination.general.Tie as tie
 

@@ -1,6 +1,5 @@
 -- `sender::front::memory_size` meets its contract.
-use mathlib.Core.Path.{refl}
-use native.Mathlib.Omega.{arith}
+use Rattle.words.specs.Words.{arith, refl}
 use Rattle.sender.specs.State.{headerSize}
 use Rattle.sender.proofs.Heads.{area}
 use Rattle.sender.proofs.front.memory_size.Statement.{statement}

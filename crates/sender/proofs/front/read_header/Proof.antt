@@ -1,15 +1,10 @@
 -- `sender::front::read_header` meets its contract.
-use mathlib.Core.Path.{_≡_}
-use mathlib.Core.Option.{some}
-use native.Mathlib.Omega.{arith}
-use Prim.Native.Nat.{_≤_}
-use lib.ListN.{length}
+use Rattle.words.specs.Words.{_≡_, arith, _≤_, length, needs, some}
 use Rattle.wire.specs.declared.Setting.{Setting}
 use Rattle.wire.specs.Settings.{Valid, settingIn}
 use Rattle.wire.proofs.Settings.{setting-found}
 use Rattle.sender.specs.State.{memorySize}
 use Rattle.sender.proofs.Heads.{setting-good, setting-bad, header-room, found, none-setting, none-short, none-held, none-next}
-use borrow.Author.Needs.{needs}
 use Rattle.sender.proofs.front.read_header.Statement.{statement}
 use Rattle.sender.proofs.front.read_header.Tie as tie
 

@@ -1,7 +1,6 @@
 -- `sender::front::write_counts` meets its contract.
-use native.Mathlib.Omega.{arith}
+use Rattle.words.specs.Words.{arith, needs}
 use Rattle.sender.proofs.Heads.{counts-chain}
-use borrow.Author.Needs.{needs}
 use Rattle.sender.proofs.front.write_counts.Statement.{statement}
 use Rattle.sender.proofs.front.write_counts.Tie as tie
 

@@ -1,8 +1,6 @@
 -- `sender::repair::first_slot` meets its contract.
-use mathlib.Core.Path.{sym, _∙_}
-use native.Mathlib.Nat.{mod-eq-of-lt, mod-eq-sub-mod}
-use native.Mathlib.Omega.{arith}
-use borrow.Author.Needs.{needs}
+use Rattle.words.specs.Words.{arith, needs, _∙_, sym, mod-eq-of-lt}
+use native.Mathlib.Nat.{mod-eq-sub-mod}
 use Rattle.sender.proofs.repair.first_slot.Statement.{statement}
 use Rattle.sender.proofs.repair.first_slot.Tie as tie
 

@@ -1,10 +1,6 @@
 -- `sender::repair::lay` meets its contract.
-use mathlib.Core.Path.{_≡_, refl}
-use Prim.Native.Nat.{_-_, _≤_}
-use native.Mathlib.Omega.{arith}
-use lib.ListN.{length, length-set}
+use Rattle.words.specs.Words.{_≡_, arith, _≤_, length, needs, refl, _-_, length-set}
 use Rattle.sender.proofs.Laying.{Laying, laying-none, laying-more, laying-done}
-use borrow.Author.Needs.{needs}
 use Rattle.sender.proofs.repair.lay.Statement.{statement}
 use Rattle.sender.proofs.repair.lay.Tie as tie
 

@@ -1,5 +1,5 @@
 -- `sender::repair::no_coefficients` meets its contract.
-use mathlib.Core.Path.{refl}
+use Rattle.words.specs.Words.{refl}
 use Rattle.sender.proofs.Laying.{getD-zeros}
 use Rattle.sender.proofs.repair.no_coefficients.Statement.{statement}
 use Rattle.sender.proofs.repair.no_coefficients.Tie as tie

@@ -1,17 +1,10 @@
 -- `sender::repair::repair_symbol` meets its contract.
-use mathlib.Core.Path.{_≡_, sym, _∙_}
-use Prim.Native.Nat.{ℕ}
-use native.Mathlib.Nat.{mod-lt}
-use native.Mathlib.Omega.{arith}
-use mathlib.Core.List.{_++_}
-use lib.ListN.{length, take, drop, length-append}
-use lib.Seq.{length-take-le, take-at}
+use Rattle.words.specs.Words.{_≡_, arith, ℕ, length, needs, _∙_, sym, _++_, drop, take, mod-lt, length-append, length-take-le, take-at}
 use Rattle.sender.specs.State.{headerSize}
 use Rattle.sender.specs.Inner.{Laid, firstSlot}
 use Rattle.sender.proofs.Heads.{Opened, opened}
 use Rattle.sender.proofs.Laying.{zero-front}
 use Rattle.sender.proofs.Combining.{symbol-made}
-use borrow.Author.Needs.{needs}
 use Rattle.sender.proofs.repair.repair_symbol.Statement.{statement}
 use Rattle.sender.proofs.repair.repair_symbol.Tie as tie
 

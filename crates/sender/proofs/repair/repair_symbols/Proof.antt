@@ -1,9 +1,5 @@
 -- `sender::repair::repair_symbols` meets its contract.
-use mathlib.Core.Path.{_≡_, refl, sym, ap, _∙_}
-use Prim.Native.Nat.{ℕ, _+_, _-_, _*_, _≤_}
-use native.Mathlib.Omega.{arith}
-use mathlib.Core.List.{List, []}
-use lib.ListN.{length, getD}
+use Rattle.words.specs.Words.{_≡_, arith, ℕ, _≤_, _+_, List, length, refl, _∙_, sym, ap, _-_, [], _*_, getD}
 use Rattle.memory.specs.Part.{splice}
 use Rattle.memory.proofs.Parts.{cut, put, length-part, length-splice, row-fits}
 use Rattle.sender.specs.declared.Header.{Header}

@@ -1,12 +1,8 @@
 -- `sender::repair::write_packet` meets its contract.
-use mathlib.Core.Path.{_∙_}
-use Prim.Native.Nat.{_*_, _≤_}
-use native.Mathlib.Nat.{mul-le-mul}
-use native.Mathlib.Omega.{arith}
+use Rattle.words.specs.Words.{arith, _≤_, needs, _∙_, _*_, mul-le-mul}
 use Rattle.coefficients.proofs.Fills.{lists-were-done, lists-were-refused}
 use Rattle.sender.proofs.Heads.{Opened, opened}
 use Rattle.sender.proofs.Combining.{packed-refused, packed-done}
-use borrow.Author.Needs.{needs}
 use Rattle.sender.proofs.repair.write_packet.Statement.{statement}
 use Rattle.sender.proofs.repair.write_packet.Tie as tie
 

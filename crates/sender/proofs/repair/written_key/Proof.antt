@@ -1,6 +1,5 @@
 -- `sender::repair::written_key` meets its contract.
-use borrow.Author.Tests.{eq-eqb, ne-eqb}
-use borrow.Author.Needs.{needs}
+use Rattle.words.specs.Words.{needs, ne-eqb, eq-eqb}
 use Rattle.sender.proofs.repair.written_key.Statement.{statement}
 use Rattle.sender.proofs.repair.written_key.Tie as tie
 

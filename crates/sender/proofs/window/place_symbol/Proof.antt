@@ -1,12 +1,7 @@
 -- `sender::window::place_symbol` meets its contract.
-use mathlib.Core.Path.{_≡_, ap, _∙_}
-use Prim.Native.Nat.{ℕ, _+_, _-_}
-use mathlib.Core.List.{List}
-use native.Mathlib.Omega.{arith}
-use lib.ListN.{length, take, drop}
+use Rattle.words.specs.Words.{_≡_, arith, ℕ, _+_, List, length, needs, _∙_, ap, _-_, drop, take}
 use Rattle.memory.specs.Part.{splice}
 use Rattle.memory.proofs.Parts.{cut, put, length-part}
-use borrow.Author.Needs.{needs}
 use Rattle.sender.proofs.window.place_symbol.Statement.{statement}
 use Rattle.sender.proofs.window.place_symbol.Tie as tie
 

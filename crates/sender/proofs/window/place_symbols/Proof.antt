@@ -1,12 +1,6 @@
 -- `sender::window::place_symbols` meets its contract.
-use mathlib.Core.Path.{_≡_, sym, ap, _∙_}
-use Prim.Native.Nat.{ℕ, _+_, _-_, _*_, _≤_, _<_}
-use native.Mathlib.Nat.{mul-le-mul}
-use native.Mathlib.Omega.{arith}
-use native.Mathlib.Numerals.{add-one}
-use mathlib.Core.List.{List, []}
-use lib.ListN.{length, take, getD}
-use lib.Seq.{take-suc, take-all}
+use Rattle.words.specs.Words.{_≡_, arith, ℕ, _≤_, _+_, List, length, _<_, _∙_, sym, ap, _-_, [], _*_, getD, take, add-one, take-all, mul-le-mul}
+use lib.Seq.{take-suc}
 use Rattle.wire.specs.declared.Setting.{Setting}
 use Rattle.wire.specs.Packets.{symbolCount, sourceSymbols}
 use Rattle.wire.proofs.Adui.{symbols-count, symbol-at, symbol-length}

@@ -1,9 +1,7 @@
 -- `sender::window::take_adu` meets its contract.
-use mathlib.Core.Path.{_∙_}
-use native.Mathlib.Omega.{arith}
+use Rattle.words.specs.Words.{arith, needs, _∙_}
 use Rattle.sender.proofs.Heads.{header-room, Opened, opened}
 use Rattle.sender.proofs.Taking.{took}
-use borrow.Author.Needs.{needs}
 use Rattle.sender.proofs.window.take_adu.Statement.{statement}
 use Rattle.sender.proofs.window.take_adu.Tie as tie
 

@@ -1,0 +1,1 @@
+// The commonest words of the logic, under one name (specs/Words.antt); no code.
