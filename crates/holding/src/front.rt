@@ -6,16 +6,28 @@ ghost use Rattle.holding.specs.Header.{headerIn};
 ghost use Rattle.holding.specs.Inner.{foundOf, freshMemory};
 use super::Found;
 use super::Header;
+use table::Shape;
 use wire::Checked;
 use wire::Esi;
 use wire::Setting;
+
+// The rows of a fresh receiver.
+fn rows_of(setting: Setting) -> Shape
+    ensures { λ r. ⌜ (r .width ≡ setting .width) × (r .size ≡ setting .size) ⌝ }
+{
+    Shape {
+        width: setting.width,
+        size: setting.size,
+        oldest: 0,
+    }
+}
 
 // How many bytes a receiver needs.
 pub fn memory_size(setting: Setting) -> usize
     requires { ⌜ Valid setting ⌝ }
     ensures { λ r. ⌜ r ≡ memorySize setting ⌝ }
 {
-    64 + setting.width * (setting.width + setting.size + 4)
+    table::row_offset(rows_of(setting), setting.width)
 }
 
 // How many bytes of working memory a packet call borrows.
@@ -23,7 +35,7 @@ pub fn working_size(setting: Setting) -> usize
     requires { ⌜ Valid setting ⌝ }
     ensures { λ r. ⌜ r ≡ workingSize setting ⌝ }
 {
-    64 + (setting.width + 1) * (setting.width + setting.size + 4)
+    memory_size(setting) + table::stride(rows_of(setting))
 }
 
 // Reads the header, if the memory has a receiver's and is long enough for its setting.

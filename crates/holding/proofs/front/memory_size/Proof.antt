@@ -1,14 +1,14 @@
 -- `holding::front::memory_size` meets its contract.
-use Rattle.words.specs.Words.{arith, needs}
-use Rattle.holding.proofs.Headers.{area}
+use Rattle.words.specs.Words.{needs}
+use Rattle.table.specs.Window.{headerSize, stride}
 use Rattle.holding.proofs.front.memory_size.Statement.{statement}
 use Rattle.holding.proofs.front.memory_size.Tie as tie
 
-mul-result : tie.Need-mul-result
-mul-result c = omega (arith, area _ (c .before .before .pre))
-
-add-result-3 : tie.Need-add-result-3
-add-result-3 c = omega (arith, area _ (c .before .before .pre))
+returns : tie.Need-returns
+unfolding headerSize stride
+returns c =
+    let s = c .before .rows-of .ensures in
+    rw (s .0, s .1) at (c .row-offset .ensures .start)
 
 pub memory-size-spec : {M : Type 1} → statement M
-memory-size-spec = tie.close (tie.spec (λ c. search needs) (λ c. search needs) mul-result add-result-3 (λ c. search needs))
+memory-size-spec = tie.close (tie.spec (λ c κs. search needs) (λ c κs. search needs) returns)
