@@ -6,6 +6,7 @@
 --   length-keys
 --   key-at: key i is i after the first, modulo 65,536
 --   Below: every element is below b
+--   bits: every coefficient of GF(2) is 0 or 1
 --   list-bytes: every coefficient is a byte
 --   bits-ok: GF(2) never meets refusal 10
 --   bits-all-ok
@@ -137,6 +138,10 @@ module _ (scheme : Scheme) (key dt b : ℕ) (z : 0 < b) (h : (s : List ℕ) → 
       cond-both (λ (r : Coefficients). Below b (r .list)) (l .ok)
       (below-append b z (l .list) _ (list-below n) (cond-both (Below b) (c .ok) (below-one b (c .value) z (h (l .state))) (λ i. z)))
       (list-below n)
+
+-- every coefficient of GF(2) is 0 or 1
+pub bits : (key dt n : ℕ) → Below 2 (coefficientsOf Gf2 key dt n .list)
+bits key dt n = list-below Gf2 key dt 2 (lit< tt) (bit-small dt) n
 
 -- every coefficient is a byte
 pub list-bytes : (scheme : Scheme) (key dt n : ℕ) → Bytes (coefficientsOf scheme key dt n .list)
