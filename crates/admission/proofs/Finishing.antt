@@ -2,7 +2,7 @@
 -- Laws:
 --   the new header: rebased, rebased-length, rebased-front, rebased-past, rebased-row, rebased-esi, rebased-window
 --   the state after the packet: finished
-use Rattle.words.specs.Words.{_≡_, arith, ℕ, _≤_, _+_, List, length, _<_, refl, _∙_, sym, ap, some, _%_, getD, subst, drop, _^_, take, mod-lt, getD-take}
+use Rattle.words.specs.Words.{_≡_, arith, ℕ, _≤_, length, _+_, List, _<_, refl, _∙_, sym, ap, some, _%_, getD, subst, drop, take, _^_, getD-take, mod-lt}
 use lib.Seq.{take-take}
 use Rattle.memory.specs.Part.{part, splice}
 use Rattle.memory.specs.Number.{number, bytes}

@@ -4,7 +4,7 @@
 --   a stored symbol: stored-only, works-stored, stored-is
 --   one equation: equation-admitted, stored-admitted
 --   all equations: firsts-same, firsts-cons, contradiction-stays, gathers-none, gathers-on, gathers-stop, gathers-all
-use Rattle.words.specs.Words.{_≡_, arith, ℕ, _≤_, _+_, List, length, _<_, refl, _∙_, sym, ap, [], some, _∷_, suc, zero, none, getD, _++_, subst, ap₂}
+use Rattle.words.specs.Words.{_≡_, arith, ℕ, _≤_, length, _+_, List, _<_, refl, _∙_, sym, ap, [], some, _∷_, suc, zero, none, getD, _++_, subst, ap₂}
 use Rattle.words.specs.Words.{ℕ-discrete}
 use Rattle.memory.specs.Part.{splice}
 use Rattle.memory.proofs.Parts.{getD-part, getD-within, row-fits}

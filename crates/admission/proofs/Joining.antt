@@ -1,5 +1,5 @@
 -- The header for a packet: with a base it is the receiver's own, and without one the packet's first ESI is the base.
-use Rattle.words.specs.Words.{_≡_, arith, ℕ, List, _<_, sym, ap, some, _%_, true, none, false, Bool, _^_, ap₂, cond, mod-lt, mod-eq-of-lt}
+use Rattle.words.specs.Words.{_≡_, arith, ℕ, List, _<_, sym, ap, some, _%_, true, none, false, Bool, _^_, cond, ap₂, mod-eq-of-lt, mod-lt}
 use Rattle.wire.specs.declared.Setting.{Setting}
 use Rattle.wire.specs.Settings.{Valid}
 use Rattle.decoder.proofs.Bytes.{laws}

@@ -5,3 +5,6 @@ pub mod Gathering
 pub mod Marking
 pub mod Sourcing
 pub mod Repairing
+pub mod Reading
+pub mod SourceReading
+pub mod RepairReading

@@ -1,5 +1,5 @@
 -- Where a packet lies by the header is where it lies by every base that the header is of.
-use Rattle.words.specs.Words.{_≡_, arith, ℕ, _≤_, _+_, _<_, refl, _∙_, sym, ap, _%_, true, false, Bool, subst, _≢_, _^_, cond, leb, le-leb, lt-leb, leb-true}
+use Rattle.words.specs.Words.{_≡_, arith, ℕ, _≤_, _+_, _<_, refl, _∙_, sym, ap, _%_, true, false, Bool, subst, _^_, le-leb, leb-true, lt-leb, leb, cond, _≢_}
 use Rattle.wire.specs.declared.Refusal.{Refusal}
 use Rattle.wire.specs.declared.Refusal.the-variants.{Behind, Ahead}
 use Rattle.wire.specs.Numbers.{distanceOf, numberOf}

@@ -3,8 +3,8 @@
 --   only marks changed: header-same, starts-contained, starts-holds
 --   marks not changed: same-marks
 --   a packet is accepted: update-asks, count-asks, count-again, accepted
-use Rattle.words.specs.Words.{_≡_, arith, ℕ, _≤_, _+_, List, length, _<_, refl, _∙_, sym, ap, _-_, some, _%_, none, getD, false, Bool, subst, Option, drop, ap₂}
-use Rattle.words.specs.Words.{ltb, mod-lt, decLt, mod-add-mod, length-drop, getD-drop, ext-getD}
+use Rattle.words.specs.Words.{_≡_, arith, ℕ, _≤_, length, _+_, List, _<_, refl, _∙_, sym, ap, _-_, some, _%_, none, getD, false, Bool, subst, Option, drop, ltb}
+use Rattle.words.specs.Words.{length-drop, ext-getD, getD-drop, ap₂, decLt, mod-add-mod, mod-lt}
 use Rattle.memory.specs.Part.{part}
 use Rattle.memory.proofs.Parts.{length-part, getD-part}
 use Rattle.wire.specs.declared.Setting.{Setting}

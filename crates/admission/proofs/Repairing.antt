@@ -1,5 +1,5 @@
 -- A repair packet's equations: a row with its coefficients and its symbol spells the model's equation, and all are the model's packet.
-use Rattle.words.specs.Words.{_≡_, arith, ℕ, _+_, List, length, refl, _∙_, sym, ap, _-_, [], _∷_, _*_, getD, drop, ap₂}
+use Rattle.words.specs.Words.{_≡_, arith, ℕ, length, _+_, List, refl, _∙_, sym, ap, _-_, [], _∷_, _*_, getD, drop, ap₂}
 use Rattle.memory.specs.Part.{part, splice}
 use Rattle.memory.proofs.Parts.{part-drop}
 use Rattle.wire.specs.Packets.{chunks}

@@ -1,5 +1,5 @@
 -- A source packet's equations: a row with the coefficient one at the symbol's position spells the model's equation, and all are the model's packet.
-use Rattle.words.specs.Words.{_≡_, arith, ℕ, _+_, List, length, _<_, refl, _∙_, sym, ap, _-_, [], _%_, _∷_, suc, zero, getD, ap₂, map, mod-add-mod}
+use Rattle.words.specs.Words.{_≡_, arith, ℕ, length, _+_, List, _<_, refl, _∙_, sym, ap, _-_, [], _%_, _∷_, suc, zero, getD, map, ap₂, mod-add-mod}
 use Rattle.memory.specs.Part.{splice}
 use Rattle.wire.specs.Packets.{symbolCount, adui, symbolAt, sourceSymbols}
 use Rattle.decoder.specs.Bytes.{Coded}

@@ -1,6 +1,6 @@
 -- Contracts of inner functions: a reader need not believe these.
 -- A source packet's equations.
-use Rattle.words.specs.Words.{ℕ, List, length}
+use Rattle.words.specs.Words.{ℕ, length, List}
 use Rattle.wire.specs.Packets.{symbolCount, symbolAt}
 use Rattle.decoder.specs.Bytes.{Coded}
 use Rattle.decoder.specs.Model.{Row}

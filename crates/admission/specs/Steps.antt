@@ -1,6 +1,6 @@
 -- Contracts of inner functions: a reader need not believe these.
 -- The steps of a packet call: the packet's place, its equations in working memory, and the state after it.
-use Rattle.words.specs.Words.{_≡_, ℕ, _≤_, _+_, List, length, _<_, _-_, [], some, _%_, _∷_, suc, zero, none, _*_, getD, _++_, cond, leb}
+use Rattle.words.specs.Words.{_≡_, ℕ, _≤_, length, _+_, List, _<_, _-_, [], some, _%_, _∷_, suc, zero, none, _*_, getD, _++_, leb, cond}
 use Rattle.wire.specs.declared.Setting.{Setting}
 use Rattle.wire.specs.declared.Refusal.the-variants.{Behind, Ahead}
 use Rattle.decoder.specs.Bytes.{Coded}

@@ -1,5 +1,5 @@
-// A packet that is let in: where it lies and the state after it (`packet`), and its equations (`source`, `repair`). Until all of these are found to
-// agree with the state it is only read.
+// A packet that is let in: its checks and its equations (`source`, `repair`), where it lies and the state after it (`packet`). Until all of its
+// equations are found to agree with the state, the state is only read.
 
 pub mod packet;
 pub mod repair;

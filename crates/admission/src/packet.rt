@@ -30,6 +30,22 @@ pub enum LocationFound {
     Out(Refusal),
 }
 
+// A packet that passed its checks: the header for it, where it lies, how many positions it names, how many symbols it has, and the draws that its
+// coefficients took.
+pub struct Passed {
+    pub header: Header,
+    pub location: Location,
+    pub named: usize,
+    pub count: usize,
+    pub draws: u32,
+}
+
+// What reading a packet finds: it passed its checks, or why it is refused.
+pub enum Read {
+    Located(Passed),
+    Fails(Refusal),
+}
+
 // A packet's equations agree with the state, and so many rows of working memory are kept of them; or they contradict it.
 pub enum Gathered {
     All(usize),

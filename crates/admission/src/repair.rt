@@ -1,12 +1,66 @@
-// A repair packet's equations: one for each repair symbol, which says that it is its combination of the positions' symbols.
-ghost use Rattle.words.specs.Words.{_≡_, _≤_, _+_, length, _<_, _*_};
+// A repair packet: its checks, and its equations, one for each repair symbol, which says that it is its combination of the positions' symbols.
+ghost use Rattle.words.specs.Words.{_≡_, _≤_, length, _+_, _<_, _*_};
 ghost use Rattle.table.specs.Window.{Fits};
 ghost use Rattle.table.specs.Packet.{Works};
 ghost use Rattle.admission.specs.Steps.{Admits, Gathers};
 ghost use Rattle.admission.specs.RepairSteps.{repairEquation, equationAt};
+ghost use Rattle.admission.specs.Reading.{RepairRead};
 use super::packet;
 use super::packet::Gathered;
 use super::packet::Location;
+use super::packet::LocationFound;
+use super::packet::Passed;
+use super::packet::Read;
+use coefficients::Filled;
+use holding::Found;
+use holding::front;
+use wire::Refusal;
+use wire::RepairHeader;
+
+// Reads a repair packet, where `room` bytes of working memory are lent. The lists of its coefficients go to the front of `lists`.
+pub fn read_repair(mem: &[u8], room: usize, packet: &[u8], lists: &mut [u8]) -> Read
+    requires { ⌜ 4080 ≤ length (now lists) ⌝ }
+    ensures { λ r. ⌜ RepairRead (now (packet .entry)) (now (mem .entry)) room (now (lists .exit)) r ⌝ }
+{
+    let Found::HeaderIs(header) = front::read_header(mem) else {
+        return Read::Fails(Refusal::Unopened);
+    };
+    let setting = header.setting;
+    if room < front::working_size(setting) {
+        return Read::Fails(Refusal::Short);
+    }
+    let RepairHeader::Repair(fields) = wire::read_repair(packet, setting.size) else {
+        return Read::Fails(Refusal::Form);
+    };
+    let named = fields.nss;
+    let count = fields.count;
+    if !wire::between(1, setting.width, named) {
+        return Read::Fails(Refusal::Range);
+    }
+    let based = packet::join(header, fields.first);
+    let location = match packet::locate(based, fields.first, named) {
+        LocationFound::LocationIs(at) => at,
+        LocationFound::Out(refusal) => return Read::Fails(refusal),
+    };
+    let scheme = setting.scheme;
+    let Filled::Done(draws) = coefficients::fill_lists(
+        lists,
+        named,
+        scheme,
+        fields.key,
+        fields.dt,
+        count,
+    ) else {
+        return Read::Fails(Refusal::Draws);
+    };
+    Read::Located(Passed {
+        header: based,
+        location,
+        named,
+        count,
+        draws,
+    })
+}
 
 // One more equation, in the row after those that are kept: a repair symbol, and its coefficients of the positions from the packet's first on.
 fn admit_symbol(

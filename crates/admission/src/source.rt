@@ -1,15 +1,57 @@
-// A source packet's equations: one for each symbol of its ADU, which says that the position holds it.
-ghost use Rattle.words.specs.Words.{_≡_, _≤_, _+_, length, _<_};
+// A source packet: its checks, and its equations, one for each symbol of its ADU, which says that the position holds it.
+ghost use Rattle.words.specs.Words.{_≡_, _≤_, length, _+_, _<_};
 ghost use Rattle.memory.specs.Part.{splice};
 ghost use Rattle.wire.specs.Packets.{symbolCount, symbolAt};
 ghost use Rattle.table.specs.Window.{rowOffset, Fits};
 ghost use Rattle.table.specs.Packet.{Works};
 ghost use Rattle.admission.specs.Steps.{Admits, Gathers};
 ghost use Rattle.admission.specs.SourceSteps.{equationOf};
+ghost use Rattle.admission.specs.Reading.{SourceRead};
 use super::packet;
 use super::packet::Gathered;
 use super::packet::Location;
+use super::packet::LocationFound;
+use super::packet::Passed;
+use super::packet::Read;
+use holding::Found;
+use holding::front;
 use table::Shape;
+use wire::Refusal;
+use wire::SourceHeader;
+
+// Reads a source packet, where `room` bytes of working memory are lent.
+pub fn read_source(mem: &[u8], room: usize, packet: &[u8]) -> Read
+    ensures { λ r. ⌜ SourceRead (now (packet .entry)) (now (mem .entry)) room r ⌝ }
+{
+    let Found::HeaderIs(header) = front::read_header(mem) else {
+        return Read::Fails(Refusal::Unopened);
+    };
+    let setting = header.setting;
+    if room < front::working_size(setting) {
+        return Read::Fails(Refusal::Short);
+    }
+    let SourceHeader::Source(fields) = wire::read_source(packet) else {
+        return Read::Fails(Refusal::Form);
+    };
+    if wire::LONGEST_ADU < fields.len {
+        return Read::Fails(Refusal::Long);
+    }
+    let count = wire::symbol_count(setting.size, fields.len);
+    if setting.width < count {
+        return Read::Fails(Refusal::Long);
+    }
+    let based = packet::join(header, fields.first);
+    match packet::locate(based, fields.first, count) {
+        LocationFound::Out(refusal) => Read::Fails(refusal),
+        LocationFound::LocationIs(location) => Read::Located(Passed {
+            header: based,
+            location,
+            named: count,
+            count,
+            draws: 0,
+        }),
+    }
+}
 
 // The i-th symbol of an ADU in the row `k` of working memory.
 fn write_row(work: &mut [u8], shape: Shape, k: usize, flow: u8, adu: &[u8], i: usize)

@@ -1,5 +1,5 @@
 -- From what the code reads in the memory to what the ADU call promises.
-use Rattle.words.specs.Words.{_≡_, ℕ, List, length, refl, _∙_, sym, ap, some, _%_, none, subst, _≢_, _^_, Option·none-ne-some, lt-ltb}
+use Rattle.words.specs.Words.{_≡_, ℕ, length, List, refl, _∙_, sym, ap, some, _%_, none, subst, _^_, lt-ltb, _≢_, Option·none-ne-some}
 use Rattle.wire.specs.declared.Setting.{Setting}
 use Rattle.wire.specs.declared.Refusal.{Refusal}
 use Rattle.wire.specs.Numbers.{numberOf}

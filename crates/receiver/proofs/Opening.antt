@@ -1,6 +1,6 @@
 -- Opening: what it answers, and that the memory it leaves holds a fresh receiver.
-use Rattle.words.specs.Words.{_≡_, arith, ℕ, _≤_, _+_, List, length, _<_, refl, _∙_, sym, ap, _-_, some, _%_, none, getD, false, subst, drop, ltb, mod-lt}
-use Rattle.words.specs.Words.{Option·some-injective, decLt, lt-ltb, le-ltb, ext-getD, length-replicate}
+use Rattle.words.specs.Words.{_≡_, arith, ℕ, _≤_, length, _+_, List, _<_, refl, _∙_, sym, ap, _-_, some, _%_, none, getD, false, subst, drop, le-ltb, lt-ltb}
+use Rattle.words.specs.Words.{ltb, length-replicate, ext-getD, Option·some-injective, decLt, mod-lt}
 use lib.ListN.{getD-replicate}
 use Rattle.memory.specs.Part.{part, splice}
 use Rattle.memory.specs.Number.{number}

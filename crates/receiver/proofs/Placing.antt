@@ -1,5 +1,5 @@
 -- From where a symbol was found to what the call for its place promises.
-use Rattle.words.specs.Words.{_≡_, ℕ, _≤_, _+_, List, length, refl, sym, ap, subst}
+use Rattle.words.specs.Words.{_≡_, ℕ, _≤_, length, _+_, List, refl, sym, ap, subst}
 use Rattle.memory.specs.Part.{part}
 use Rattle.wire.specs.declared.Refusal.{Refusal}
 use Rattle.wire.specs.declared.Answer.the-variants.{Done, Refused}

@@ -1,11 +1,9 @@
--- A packet call, by how it ends: no header, a check that fails, a packet that contradicts, or one that is accepted.
+-- A packet call, by how it ends: a check that fails, a packet that contradicts, or one that is accepted.
 -- Laws:
---   no header: received-unopened
---   a place: Ready, location-is, location-width, location-size, ready, accept-asks
---   a check fails: received-refused, received-short, received-stopped, received-out
---   all checks passed: reading-at, received-contradiction, received-done
-use Rattle.words.specs.Words.{_≡_, arith, ℕ, _≤_, _+_, List, length, _<_, refl, _∙_, sym, ap, _-_, some, _%_, none, subst, Option, _≢_, _^_, mod-lt}
-use Rattle.words.specs.Words.{Option·some-injective, Option·none-ne-some, lt-leb, mod-add-mod}
+--   a check fails: received-failed
+--   all checks passed: location-width, location-size, Ready, ready, accept-asks, received-contradiction, received-done
+use Rattle.words.specs.Words.{_≡_, arith, ℕ, _≤_, length, _+_, List, _<_, refl, _∙_, sym, ap, _-_, some, _%_, none, subst, Option, Option·none-ne-some}
+use Rattle.words.specs.Words.{Option·some-injective, mod-add-mod, mod-lt}
 use Rattle.wire.specs.declared.Setting.{Setting}
 use Rattle.wire.specs.declared.Refusal.{Refusal}
 use Rattle.wire.specs.Numbers.{numberOf}
@@ -18,40 +16,30 @@ use Rattle.wire.specs.declared.Answer.{Answer}
 use Rattle.wire.specs.declared.Answer.the-variants.{Done, Refused}
 use Rattle.holding.specs.declared.Header.{Header}
 use Rattle.admission.specs.declared.packet.Location.{Location}
-use Rattle.admission.specs.declared.packet.LocationFound.the-variants.{LocationIs, Out}
+use Rattle.admission.specs.declared.packet.Passed.{Passed}
 use Rattle.admission.specs.declared.packet.Gathered.{Gathered}
 use Rattle.admission.specs.declared.packet.Gathered.the-variants.{All, Contradiction}
-use Rattle.history.specs.History.{Located, source, repair, first, named, sideOf, fromSide, Call, esiOf, Reading, fails, located, check, memorySize, workingSize}
-use Rattle.history.specs.History.{reading, farthest}
-use Rattle.wire.specs.Answers.{value}
+use Rattle.history.specs.History.{Located, source, repair, first, named, Call, esiOf, Reading, located, farthest, memorySize, workingSize, reading}
+use Rattle.wire.specs.Answers.{value, refusal}
 use Rattle.history.specs.Model.{Joined, State, foundBy, Outcome, packetOf, added, responds, answering, stateAfter, naming, startsAfter, marking}
 use Rattle.holding.specs.Header.{headerIn}
 use Rattle.receiver.specs.Promises.{Follows, Received}
 use Rattle.memory.specs.Contained.{Contained}
-use Rattle.holding.specs.Layout.{headerFrom, headerOf, Stands, Holds, MarksFrom, Marks}
+use Rattle.holding.specs.Layout.{headerFrom, Stands, Holds, MarksFrom, Marks}
 use Rattle.receiver.specs.Layout.{receiverLayout}
 use Rattle.admission.specs.Joining.{headerFor, Based}
-use Rattle.admission.specs.Steps.{locationAt, locationFound, Comes, WorksOn, firsts, Lies, Gathers, LocatedBy, Accepted}
+use Rattle.admission.specs.Reading.{Failed, Passes}
+use Rattle.admission.specs.Steps.{locationAt, Comes, WorksOn, firsts, Lies, Gathers, LocatedBy, Accepted}
 use Rattle.history.proofs.Cases.{IsRefusal, numeral}
 use Rattle.holding.proofs.Headers.{header-fits, setting-held}
-use Rattle.admission.proofs.Joining.{based-fits, found-header, found-stands}
-use Rattle.admission.proofs.Locating.{distance, found-at, at-side, out-side, out-other}
+use Rattle.admission.proofs.Joining.{based, based-fits, found-header, found-stands}
+use Rattle.admission.proofs.Reading.{reads-found}
 use Rattle.admission.proofs.Gathering.{contained-none}
 use Rattle.wire.specs.declared.Refusal.the-variants as refusals
 use Rattle.decoder.specs.Model as model
 use Rattle.decoder.specs.Receiver as decoder
 use Rattle.decoder.specs.Packets as packets
 use Rattle.table.specs.Packet as packet
-
-pub received-unopened : (c : Call) (m v : List ℕ) → headerIn m ≡ none → Received receiverLayout c m m v v (Refused refusals.Unopened)
-received-unopened c m v e = record {
-  unopened = ((λ _. e), (λ _. refl));
-  untouched = λ _. refl;
-  refused = λ n q. refl;
-  contained = λ h q. absurd (Option·none-ne-some h (sym e ∙ q));
-  follows = λ s t k. absurd (Option·none-ne-some (headerOf s t) (sym e ∙ k .header));
-  starts = λ s t M k _. absurd (Option·none-ne-some (headerOf s t) (sym e ∙ k .header));
-}
 
 -- The marks after a call that finds the receiver as j, by what was read of it and what it came to.
 abbrev MarksBy : (s : Setting) (t : State s) (j : Joined s) (M : Starts) (m′ : List ℕ) → Reading → Outcome s → Type 0
@@ -65,66 +53,26 @@ found-marks m s none e M k = record {
 }
 found-marks m s (some t) e M k = k
 
--- ---- What a place asks of the memories
+-- ---- A check fails
 
-pub record Ready (at : Location) (m v : List ℕ) : Type 0 where
-  pub fits : Fits (at .shape .width) (at .shape .size) m
-  pub works : packet.Works (at .shape .width) (at .shape .size) 0 v
-  pub base : at .shape .oldest < at .shape .width
-  pub first : at .first < at .shape .width
-  pub small : at .shape .oldest < 65535
-  pub rise : at .rise ≤ farthest
-
-module _ (h : Header) (e n : ℕ) (at : Location) (q : LocationIs at ≡ locationFound h e n) where
-  pub location-is : at ≡ locationAt h (distance h e n) n
-  location-is = found-at h e n at q .at
-
-  pub location-width : at .shape .width ≡ h .setting .width
-  location-width = ap (λ p. p .shape .width) location-is
-
-  pub location-size : at .shape .size ≡ h .setting .size
-  location-size = ap (λ p. p .shape .size) location-is
-
-  module _ (m v : List ℕ) (has : Based m h) (room : workingSize (h .setting) ≤ length v) where
-    pub ready : Ready at m v
-    unfolding headerSize stride
-    ready =
-        let f = found-at h e n at q in
-        let g = based-fits m h has in
-        let d : ℕ = distance h e n in
-        let b = mod-lt (h .oldest + (d + n - h .setting .width)) (g .some-width) in
-        subst (λ x. Ready x m v) (sym (f .at))
-        (record {
-          fits = g;
-          works = record {
-            some-width = g .some-width;
-            wide = g .wide;
-            some-symbol = g .some-symbol;
-            long = g .long;
-            room = room;
-            within = omega arith;
-            columns = λ k l. absurd (omega arith);
-          };
-          base = b;
-          first = mod-lt (h .oldest + d) (g .some-width);
-          small = omega (arith, b, g .wide);
-          rise = omega (arith, f .fits);
-        })
-
-    placed-by : (own : ℕ) → own ≤ n → n ≤ h .setting .width → LocatedBy h at own
-    placed-by own l f =
-        let d : ℕ = distance h e n in
-        subst (λ x. LocatedBy h x own) (sym location-is) (record { width = refl; size = refl; base = refl; room = omega arith })
-
-    -- What accepting asks, once the equations are gathered.
-    pub accept-asks : (v′ : List ℕ) (r : Gathered) (kept own : ℕ) → r ≡ All kept
-        → WorksOn (at .shape .width) (at .shape .size) v′ r → own ≤ n → n ≤ h .setting .width
-        → Based m h × packet.Works (h .setting .width) (h .setting .size) kept v′ × (at .shape .oldest < 65535) × (at .rise ≤ farthest)
-        × LocatedBy h at own
-    accept-asks v′ r kept own z g l f =
-        let k = subst (WorksOn (at .shape .width) (at .shape .size) v′) z g in
-        let works = subst (λ (p : Location). packet.Works (p .shape .width) (p .shape .size) kept v′) location-is k in
-        (has, works, ready .small, ready .rise, placed-by own l f)
+module _ (c : Call) (m v : List ℕ) where
+  pub received-failed : (x : Refusal) → Failed c m (length v) x → Received receiverLayout c m m v v (Refused x)
+  unfolding answering
+  received-failed x f = record {
+    unopened = ((λ q. without (headerIn m) refl (ap numeral q)), (λ q. ap (λ y. refusal (numberOf y)) (f .unopened q)));
+    untouched = λ _. refl;
+    refused = λ n q. refl;
+    contained = λ h′ q. (contained-none, contained-none);
+    follows = λ s t k.
+        subst (λ y. Follows receiverLayout s (responds s (foundBy s t (esiOf c)) y) m m (Refused x)) (sym (f .told s t k)) (refl, refl);
+    starts = λ s t M k g.
+        let j = foundBy s t (esiOf c) in
+        subst (λ y. MarksBy s t j M m y (responds s j y)) (sym (f .told s t k)) g;
+  }
+    where
+      without : (o : Option Header) → headerIn m ≡ o → numberOf x ≡ 3 → headerIn m ≡ none
+      without none e z = e
+      without (some h) e z = absurd (f .opened h e z)
 
 -- ---- The model's answer
 
@@ -166,197 +114,206 @@ lies-at s t d n pos fits =
       room = omega arith;
     }
 
--- ---- A call on memory with a header
+-- What a place asks of the memories.
+pub record Ready (at : Location) (m v : List ℕ) : Type 0 where
+  pub fits : Fits (at .shape .width) (at .shape .size) m
+  pub works : packet.Works (at .shape .width) (at .shape .size) 0 v
+  pub base : at .shape .oldest < at .shape .width
+  pub first : at .first < at .shape .width
+  pub small : at .shape .oldest < 65535
+  pub rise : at .rise ≤ farthest
 
-module _ (c : Call) (m v : List ℕ) (h : Header) (has : headerIn m ≡ some h) where
-  -- A check fails, whatever state the memory holds.
-  refused-by : (r : Refusal) → numberOf r ≢ 3
-      → ((s : Setting) (t : State s) → Holds m s t → reading s (foundBy s t (esiOf c) .base) (length v) c ≡ fails (numberOf r))
-      → Received receiverLayout c m m v v (Refused r)
-  unfolding answering
-  refused-by r other says = record {
-    unopened = ((λ q. absurd (other (ap numeral q))), (λ q. absurd (Option·none-ne-some h (sym q ∙ has))));
-    untouched = λ _. refl;
-    refused = λ n q. refl;
-    contained = λ h′ q. (contained-none, contained-none);
-    follows = λ s t k.
-        subst (λ x. Follows receiverLayout s (responds s (foundBy s t (esiOf c)) x) m m (Refused r)) (sym (says s t k)) (refl, refl);
-    starts = λ s t M k g.
-        let j = foundBy s t (esiOf c) in
-        subst (λ x. MarksBy s t j M m x (responds s j x)) (sym (says s t k)) g;
-  }
+-- ---- All checks have passed: the packet is q p, where p is its first position
 
-  -- A check fails, wherever the base is.
-  pub received-refused : (r : Refusal) → numberOf r ≢ 3 → ((b : ℕ) → reading (h .setting) b (length v) c ≡ fails (numberOf r))
-      → Received receiverLayout c m m v v (Refused r)
-  received-refused r other says =
-      refused-by r other
-      (λ s t k.
-      subst (λ x. (b : ℕ) → reading x b (length v) c ≡ fails (numberOf r)) (setting-held m h s t has k) says (foundBy s t (esiOf c) .base))
+module _ (c : Call) (m v : List ℕ) (h : Header) (q : ℕ → Located) (d : ℕ) (passed : Passed) (passes : Passes c m (length v) h q d passed) where
+  -- The header for the packet, and its place.
+  abbrev g : Header
+  g = headerFor h (esiOf c)
 
-  -- Working memory is too short.
-  pub received-short : length v < workingSize (h .setting) → Received receiverLayout c m m v v (Refused refusals.Short)
-  unfolding reading check
-  received-short l = received-refused refusals.Short (λ z. omega arith) (λ b. rw (lt-leb (workingSize (h .setting)) (length v) l))
+  abbrev at : Location
+  at = passed .location
 
-  -- The packet's first ESI is e; the header for it is g.
-  module _ (e : ℕ) (begins : e ≡ esiOf c) where
-    abbrev g : Header
-    g = headerFor h e
+  abbrev n : ℕ
+  n = passed .named
 
-    -- The receiver as the packet finds it has that header.
-    header-found : (s : Setting) (t : State s) → Holds m s t → g ≡ headerFrom s (foundBy s t (esiOf c))
-    header-found s t k = subst (λ x. headerFor h e ≡ headerFrom s (foundBy s t x)) begins (found-header m h s t e has k)
+  pub location-width : at .shape .width ≡ h .setting .width
+  location-width = ap (λ p. p .shape .width) (passes .location)
 
-    -- So it has the header's setting, and a base with its ESI.
-    reads : (x : ℕ → Reading) → ((b : ℕ) → b % 2 ^ 32 ≡ g .esi .0 → reading (h .setting) b (length v) c ≡ x b)
-        → (s : Setting) (j : Joined s) → g ≡ headerFrom s j → reading s (j .base) (length v) c ≡ x (j .base)
-    reads x f s j q =
-        subst (λ (y : Header). reading (y .setting) (j .base) (length v) c ≡ x (j .base)) q (f (j .base) (sym (ap (λ (y : Header). y .esi .0) q)))
+  pub location-size : at .shape .size ≡ h .setting .size
+  location-size = ap (λ p. p .shape .size) (passes .location)
 
-    -- A check fails, by the place of the base.
-    pub received-stopped : (r : Refusal) → numberOf r ≢ 3
-        → ((b : ℕ) → b % 2 ^ 32 ≡ g .esi .0 → reading (h .setting) b (length v) c ≡ fails (numberOf r)) → Received receiverLayout c m m v v (Refused r)
-    received-stopped r other says =
-        refused-by r other (λ s t k. reads (λ b. fails (numberOf r)) says s (foundBy s t (esiOf c)) (header-found s t k))
+  -- What the place asks of the memories.
+  pub ready : Ready at m v
+  unfolding headerSize stride
+  ready =
+      let k = based-fits m g (based m h (esiOf c) (passes .has)) in
+      let b = mod-lt (g .oldest + (d + n - h .setting .width)) (k .some-width) in
+      subst (λ x. Ready x m v) (sym (passes .location))
+      (record {
+        fits = k;
+        works = record {
+          some-width = k .some-width;
+          wide = k .wide;
+          some-symbol = k .some-symbol;
+          long = k .long;
+          room = passes .lent;
+          within = omega arith;
+          columns = λ k l. absurd (omega arith);
+        };
+        base = b;
+        first = mod-lt (g .oldest + d) (k .some-width);
+        small = omega (arith, b, k .wide);
+        rise = omega (arith, passes .near);
+      })
 
-    -- The checks before the packet's place have passed.
-    module _ (n : ℕ) (next : ℕ → ℕ → Reading) (says : (b : ℕ) → reading (h .setting) b (length v) c ≡ fromSide n (sideOf b e) (next b)) where
-      pub received-out : (r : Refusal) → Out r ≡ locationFound g e n → Received receiverLayout c m m v v (Refused r)
-      received-out r q = received-stopped r (out-other g e n r q) (λ b esi. says b ∙ out-side g e n b esi (next b) r q)
+  placed-by : (own : ℕ) → own ≤ n → LocatedBy g at own
+  placed-by own l =
+      subst (λ x. LocatedBy g x own) (sym (passes .location)) (record { width = refl; size = refl; base = refl; room = omega (arith, passes .fits) })
 
-      pub reading-at : (at : Location) → LocationIs at ≡ locationFound g e n → (b : ℕ) → b % 2 ^ 32 ≡ g .esi .0
-          → reading (h .setting) b (length v) c ≡ next b (distance g e n)
-      reading-at at q b esi = says b ∙ at-side g e n b esi (next b) at (found-at g e n at q)
+  -- What accepting asks, once the equations are gathered.
+  pub accept-asks : (v′ : List ℕ) (r : Gathered) (kept own : ℕ) → r ≡ All kept → WorksOn (at .shape .width) (at .shape .size) v′ r → own ≤ n
+      → Based m (passed .header) × packet.Works (passed .header .setting .width) (passed .header .setting .size) kept v′ × (at .shape .oldest < 65535)
+      × (at .rise ≤ farthest) × LocatedBy (passed .header) at own
+  accept-asks v′ r kept own z f l =
+      let k = subst (WorksOn (at .shape .width) (at .shape .size) v′) z f in
+      let works = subst (λ (p : Location). packet.Works (p .shape .width) (p .shape .size) kept v′) (passes .location) k in
+      rw (passes .header) (based m h (esiOf c) (passes .has), works, ready .small, ready .rise, placed-by own l)
 
-    -- All checks have passed: the packet is q p, where p is its first position, and its equations `rows` have been gathered at its place.
-    module _ (n d count : ℕ) (at : Location) (is : at ≡ locationAt g d n) (pos : 0 < n) (fits : n ≤ h .setting .width) (q : ℕ → Located)
-        (from : (p : ℕ) → first (q p) ≡ p) (names : (p : ℕ) → named (q p) ≡ n)
-        (says : (b : ℕ) → b % 2 ^ 32 ≡ g .esi .0 → reading (h .setting) b (length v) c ≡ located (q (b + d)))
-        (rows : (w E : ℕ) → ℕ → ℕ → model.Row (Coded E) w)
-        (spell : (b i : ℕ) → decoder.over (Coded (h .setting .size)) (h .setting .width) b (packetOf (h .setting .size) (q (b + i)))
-        ≡ firsts (rows (h .setting .width) (h .setting .size) i) count)
-        (v′ : List ℕ) (r : Gathered) (f : Gathers at n (rows (at .shape .width) (at .shape .size)) count r m v v′) where
-      work-kept : Contained (workingSize (h .setting)) v v′
-      unfolding headerSize stride
-      work-kept = subst (λ (p : Location). Contained (rowOffset (p .shape .width) (p .shape .size) (p .shape .width + 1)) v v′) is (f .contained)
+  -- The receiver as the packet finds it has that header.
+  header-found : (s : Setting) (t : State s) → Holds m s t → g ≡ headerFrom s (foundBy s t (esiOf c))
+  header-found s t k = found-header m h s t (esiOf c) (passes .has) k
 
-      module _ (s : Setting) (t : Joined s) (is-header : g ≡ headerFrom s t) (k : Stands m s t) where
-        here : at ≡ locationAt (headerFrom s t) d n
-        here = is ∙ ap (λ x. locationAt x d n) is-header
+  -- Its equations `rows` have been gathered at its place.
+  module _ (count : ℕ) (from : (p : ℕ) → first (q p) ≡ p) (names : (p : ℕ) → named (q p) ≡ n)
+      (rows : (w E : ℕ) → ℕ → ℕ → model.Row (Coded E) w)
+      (spell : (b i : ℕ) → decoder.over (Coded (h .setting .size)) (h .setting .width) b (packetOf (h .setting .size) (q (b + i)))
+      ≡ firsts (rows (h .setting .width) (h .setting .size) i) count)
+      (v′ : List ℕ) (r : Gathered) (f : Gathers at n (rows (at .shape .width) (at .shape .size)) count r m v v′) where
+    work-kept : Contained (workingSize (h .setting)) v v′
+    unfolding headerSize stride
+    work-kept =
+        subst (λ (p : Location). Contained (rowOffset (p .shape .width) (p .shape .size) (p .shape .width + 1)) v v′) (passes .location) (f .contained)
 
-        -- The model's packet, and what its equations come to.
-        abbrev p : decoder.Packet (Coded (s .size))
-        p = packetOf (s .size) (q (t .base + d))
+    module _ (s : Setting) (t : Joined s) (is-header : g ≡ headerFrom s t) (k : Stands m s t) where
+      here : at ≡ locationAt (headerFrom s t) d n
+      here = passes .location ∙ ap (λ x. locationAt x d n) is-header
 
-        abbrev ComesAt : Location → Type 0
-        ComesAt at =
-            Comes (s .width) (s .size) (t .base + at .rise) (decoder.advance-by (at .rise) (t .window)) v′
-            (decoder.over (Coded (s .size)) (s .width) (t .base + at .rise) p) r
+      -- The model's packet, and what its equations come to.
+      abbrev p : decoder.Packet (Coded (s .size))
+      p = packetOf (s .size) (q (t .base + d))
 
-        comes : ComesAt at
-        comes =
-            let i : ℕ = d + n - s .width in
-            let b : ℕ = t .base + i in
-            let w : h .setting .width ≡ s .width = ap (λ (y : Header). y .setting .width) is-header in
-            let x : b + (d - i) ≡ t .base + d = omega (arith, w) in
-            let spelt = subst
-            (λ (y : Header). (b i : ℕ) → decoder.over (Coded (y .setting .size)) (y .setting .width) b (packetOf (y .setting .size) (q (b + i)))
-            ≡ firsts (rows (y .setting .width) (y .setting .size) i) count) is-header spell in
-            let f′ = subst (λ (y : Location). Gathers y n (rows (y .shape .width) (y .shape .size)) count r m v v′) here f in
-            subst ComesAt (sym here)
-            (subst (λ es. Comes (s .width) (s .size) b (decoder.advance-by i (t .window)) v′ es r)
-            (sym (spelt b (d - i)) ∙ ap (λ (y : ℕ). decoder.over (Coded (s .size)) (s .width) b (packetOf (s .size) (q y))) x)
-            (f′ .outcome (t .base) (d - i) (t .window) (lies-at s t d n pos (omega (arith, w))) (k .rows) (k .reduced)))
+      abbrev ComesAt : Location → Type 0
+      ComesAt at =
+          Comes (s .width) (s .size) (t .base + at .rise) (decoder.advance-by (at .rise) (t .window)) v′
+          (decoder.over (Coded (s .size)) (s .width) (t .base + at .rise) p) r
 
-        rises : decoder.rise t p ≡ at .rise
-        unfolding decoder.rise
-        rises =
-            let x : at .rise ≡ d + n - s .width = ap (λ y. y .rise) here in
-            omega (arith, x, first-of (s .size) (q (t .base + d)), named-of (s .size) (q (t .base + d)), from (t .base + d), names (t .base + d))
+      comes : ComesAt at
+      comes =
+          let i : ℕ = d + n - s .width in
+          let b : ℕ = t .base + i in
+          let w : h .setting .width ≡ s .width = ap (λ (y : Header). y .setting .width) is-header in
+          let x : b + (d - i) ≡ t .base + d = omega (arith, w, passes .fits) in
+          let spelt = subst
+          (λ (y : Header). (b i : ℕ) → decoder.over (Coded (y .setting .size)) (y .setting .width) b (packetOf (y .setting .size) (q (b + i)))
+          ≡ firsts (rows (y .setting .width) (y .setting .size) i) count) is-header spell in
+          let f′ = subst (λ (y : Location). Gathers y n (rows (y .shape .width) (y .shape .size)) count r m v v′) here f in
+          subst ComesAt (sym here)
+          (subst (λ es. Comes (s .width) (s .size) b (decoder.advance-by i (t .window)) v′ es r)
+          (sym (spelt b (d - i)) ∙ ap (λ (y : ℕ). decoder.over (Coded (s .size)) (s .width) b (packetOf (s .size) (q y))) x)
+          (f′ .outcome (t .base) (d - i) (t .window) (lies-at s t d n (passes .names) (omega (arith, w, passes .fits))) (k .rows) (k .reduced)))
 
-        -- What the call does is what the model says of the packet.
-        does-by : (m′ : List ℕ) (a : Answer) (o : Option (model.State (Coded (s .size)) (s .width)))
-            → decoder.insert-all (decoder.over (Coded (s .size)) (s .width) (t .base + at .rise) p) (decoder.advance-by (at .rise) (t .window)) ≡ o
-            → Follows receiverLayout s (added s t (decoder.and-then o (λ S. some (record { base = t .base + at .rise; window = S })))) m m′ a
-            → Follows receiverLayout s (answering s t (length v) c) m m′ a
-        unfolding answering
-        does-by m′ a o i x =
-            subst (λ y. Follows receiverLayout s (responds s t y) m m′ a) (sym (reads (λ b. located (q (b + d))) says s t is-header))
-            (subst (λ y. Follows receiverLayout s (added s t y) m m′ a) (sym (received-by s t p (at .rise) rises o i)) x)
+      rises : decoder.rise t p ≡ at .rise
+      unfolding decoder.rise
+      rises =
+          let x : at .rise ≡ d + n - s .width = ap (λ y. y .rise) here in
+          omega (arith, x, first-of (s .size) (q (t .base + d)), named-of (s .size) (q (t .base + d)), from (t .base + d), names (t .base + d))
 
-        -- And so are the marks, after the state u.
-        marks-by : (u : State s) (M : Starts) (m′ : List ℕ) (o : Option (model.State (Coded (s .size)) (s .width)))
-            → decoder.insert-all (decoder.over (Coded (s .size)) (s .width) (t .base + at .rise) p) (decoder.advance-by (at .rise) (t .window)) ≡ o
-            → MarksBy s u t M m′ (located (q (t .base + d))) (added s t (decoder.and-then o (λ S. some (record { base = t .base + at .rise; window = S }))))
-            → MarksBy s u t M m′ (reading s (t .base) (length v) c) (answering s t (length v) c)
-        unfolding answering
-        marks-by u M m′ o i x =
-            subst (λ y. MarksBy s u t M m′ y (responds s t y)) (sym (reads (λ b. located (q (b + d))) says s t is-header))
-            (subst (λ y. MarksBy s u t M m′ (located (q (t .base + d))) (added s t y)) (sym (received-by s t p (at .rise) rises o i)) x)
+      -- What the call does is what the model says of the packet.
+      does-by : (m′ : List ℕ) (a : Answer) (o : Option (model.State (Coded (s .size)) (s .width)))
+          → decoder.insert-all (decoder.over (Coded (s .size)) (s .width) (t .base + at .rise) p) (decoder.advance-by (at .rise) (t .window)) ≡ o
+          → Follows receiverLayout s (added s t (decoder.and-then o (λ S. some (record { base = t .base + at .rise; window = S })))) m m′ a
+          → Follows receiverLayout s (answering s t (length v) c) m m′ a
+      unfolding answering
+      does-by m′ a o i x =
+          subst (λ y. Follows receiverLayout s (responds s t y) m m′ a)
+          (sym (reads-found c (length v) g (λ b. located (q (b + d))) (passes .told) s t is-header))
+          (subst (λ y. Follows receiverLayout s (added s t y) m m′ a) (sym (received-by s t p (at .rise) rises o i)) x)
 
-        -- The marks that the model makes of the packet.
-        models : (M : Starts) (T : model.State (Coded (s .size)) (s .width)) (own : ℕ)
-            → ((N : Starts) → naming s (t .base + at .rise) (q (t .base + d)) N ≡ owning (at .offset) own N)
-            → pass (s .size) (seen (s .size) (s .width) T) (s .width) (owning (at .offset) own (moved (s .width) (at .rise) M))
-            ≡ startsAfter s t (record { base = t .base + at .rise; window = T }) (q (t .base + d)) M
-        unfolding startsAfter
-        models M T own owns =
-            let rose : t .base + at .rise - t .base ≡ at .rise = omega arith in
-            ap (λ N. pass (s .size) (seen (s .size) (s .width) T) (s .width) N)
-            (sym (owns (moved (s .width) (at .rise) M))
-            ∙ ap (λ x. naming s (t .base + at .rise) (q (t .base + d)) (moved (s .width) x M)) (sym rose))
+      -- And so are the marks, after the state u.
+      marks-by : (u : State s) (M : Starts) (m′ : List ℕ) (o : Option (model.State (Coded (s .size)) (s .width)))
+          → decoder.insert-all (decoder.over (Coded (s .size)) (s .width) (t .base + at .rise) p) (decoder.advance-by (at .rise) (t .window)) ≡ o
+          → MarksBy s u t M m′ (located (q (t .base + d))) (added s t (decoder.and-then o (λ S. some (record { base = t .base + at .rise; window = S }))))
+          → MarksBy s u t M m′ (reading s (t .base) (length v) c) (answering s t (length v) c)
+      unfolding answering
+      marks-by u M m′ o i x =
+          subst (λ y. MarksBy s u t M m′ y (responds s t y)) (sym (reads-found c (length v) g (λ b. located (q (b + d))) (passes .told) s t is-header))
+          (subst (λ y. MarksBy s u t M m′ (located (q (t .base + d))) (added s t y)) (sym (received-by s t p (at .rise) rises o i)) x)
 
-        row-is : at .shape .oldest ≡ (t .base + at .rise) % s .width
-        row-is = subst (λ (y : Location). y .shape .oldest ≡ (t .base + y .rise) % s .width) (sym here) (mod-add-mod (t .base) (s .width) (d + n - s .width))
+      -- The marks that the model makes of the packet.
+      models : (M : Starts) (T : model.State (Coded (s .size)) (s .width)) (own : ℕ)
+          → ((N : Starts) → naming s (t .base + at .rise) (q (t .base + d)) N ≡ owning (at .offset) own N)
+          → pass (s .size) (seen (s .size) (s .width) T) (s .width) (owning (at .offset) own (moved (s .width) (at .rise) M))
+          ≡ startsAfter s t (record { base = t .base + at .rise; window = T }) (q (t .base + d)) M
+      unfolding startsAfter
+      models M T own owns =
+          let rose : t .base + at .rise - t .base ≡ at .rise = omega arith in
+          ap (λ N. pass (s .size) (seen (s .size) (s .width) T) (s .width) N)
+          (sym (owns (moved (s .width) (at .rise) M))
+          ∙ ap (λ x. naming s (t .base + at .rise) (q (t .base + d)) (moved (s .width) x M)) (sym rose))
 
-      -- The rows of the receiver as the packet finds it.
-      stands-found : (s : Setting) (t : State s) → Holds m s t → Stands m s (foundBy s t (esiOf c))
-      stands-found s t k =
-          found-stands m s t (esiOf c)
-          (subst (λ (x : Setting). 0 < x .size) (setting-held m h s t has k) (omega (arith, header-fits m h has .some-symbol))) k
+      row-is : at .shape .oldest ≡ (t .base + at .rise) % s .width
+      row-is = subst (λ (y : Location). y .shape .oldest ≡ (t .base + y .rise) % s .width) (sym here) (mod-add-mod (t .base) (s .width) (d + n - s .width))
 
-      comes-found : (s : Setting) (t : State s) (k : Holds m s t) → ComesAt s (foundBy s t (esiOf c)) (header-found s t k) (stands-found s t k) at
-      comes-found s t k = comes s (foundBy s t (esiOf c)) (header-found s t k) (stands-found s t k)
+    -- The rows of the receiver as the packet finds it.
+    stands-found : (s : Setting) (t : State s) → Holds m s t → Stands m s (foundBy s t (esiOf c))
+    stands-found s t k =
+        found-stands m s t (esiOf c)
+        (subst (λ (x : Setting). 0 < x .size) (setting-held m h s t (passes .has) k) (omega (arith, header-fits m h (passes .has) .some-symbol))) k
 
-      pub received-contradiction : r ≡ Contradiction → Received receiverLayout c m m v v′ (Refused refusals.Contradiction)
-      received-contradiction z = record {
-        unopened = ((λ x. let y = ap numeral x in absurd (omega (arith, y))), (λ x. absurd (Option·none-ne-some h (sym x ∙ has))));
-        untouched = λ x. absurd (Option·none-ne-some h (sym x ∙ has));
-        refused = λ n x. refl;
-        contained = λ h′ x.
-            subst (λ (y : Header). Contained (memorySize (y .setting)) m m × Contained (workingSize (y .setting)) v v′)
-            (Option·some-injective h h′ (sym has ∙ x)) (contained-none, work-kept);
-        follows = λ s t k.
-            does-by s (foundBy s t (esiOf c)) (header-found s t k) (stands-found s t k) m (Refused refusals.Contradiction) none
-            (subst (Comes _ _ _ _ v′ _) z (comes-found s t k)) (refl, refl);
-        starts = λ s t M k i.
-            marks-by s (foundBy s t (esiOf c)) (header-found s t k) (stands-found s t k) t M m none
-            (subst (Comes _ _ _ _ v′ _) z (comes-found s t k)) i;
-      }
+    comes-found : (s : Setting) (t : State s) (k : Holds m s t) → ComesAt s (foundBy s t (esiOf c)) (header-found s t k) (stands-found s t k) at
+    comes-found s t k = comes s (foundBy s t (esiOf c)) (header-found s t k) (stands-found s t k)
 
-      -- It has `own` symbols of its own.
-      pub received-done : (own : ℕ) → ((s : Setting) (b : ℕ) (N : Starts) → naming s (b + at .rise) (q (b + d)) N ≡ owning (at .offset) own N)
-          → (kept known : ℕ) (m′ : List ℕ) → r ≡ All kept → Accepted g at kept own known v′ m m′ → Received receiverLayout c m m′ v v′ (Done known)
-      received-done own owns kept known m′ z done = record {
-        unopened = ((λ x. absurd (subst IsRefusal (sym x) tt)), (λ x. absurd (Option·none-ne-some h (sym x ∙ has))));
-        untouched = λ x. absurd (Option·none-ne-some h (sym x ∙ has));
-        refused = λ n x. absurd (subst IsRefusal (sym x) tt);
-        contained = λ h′ x.
-            subst (λ (y : Header). Contained (memorySize (y .setting)) m m′ × Contained (workingSize (y .setting)) v v′)
-            (Option·some-injective h h′ (sym has ∙ x)) (done .contained, work-kept);
-        follows = λ s t k.
-            let j = foundBy s t (esiOf c) in
-            let e = header-found s t k in
-            let l = stands-found s t k in
-            let (T, i, held, counted, marks) = done .outcome s j _ e l (row-is s j e l) (subst (Comes _ _ _ _ v′ _) z (comes-found s t k)) in
-            does-by s j e l m′ (Done known) (some T) i (ap value counted, held);
-        starts = λ s t M k b.
-            let j = foundBy s t (esiOf c) in
-            let e = header-found s t k in
-            let l = stands-found s t k in
-            let (T, i, held, counted, marks) = done .outcome s j _ e l (row-is s j e l) (subst (Comes _ _ _ _ v′ _) z (comes-found s t k)) in
-            marks-by s j e l t M m′ (some T) i
-            (subst (λ N. MarksFrom m′ s (record { base = j .base + at .rise; window = T }) N) (models s j e l M T own (owns s (j .base)))
-            (marks M (found-marks m s t (esiOf c) M b)));
-      }
+    pub received-contradiction : r ≡ Contradiction → Received receiverLayout c m m v v′ (Refused refusals.Contradiction)
+    received-contradiction z = record {
+      unopened = ((λ x. let y = ap numeral x in absurd (omega (arith, y))), (λ x. absurd (Option·none-ne-some h (sym x ∙ passes .has))));
+      untouched = λ x. absurd (Option·none-ne-some h (sym x ∙ passes .has));
+      refused = λ n x. refl;
+      contained = λ h′ x.
+          subst (λ (y : Header). Contained (memorySize (y .setting)) m m × Contained (workingSize (y .setting)) v v′)
+          (Option·some-injective h h′ (sym (passes .has) ∙ x)) (contained-none, work-kept);
+      follows = λ s t k.
+          does-by s (foundBy s t (esiOf c)) (header-found s t k) (stands-found s t k) m (Refused refusals.Contradiction) none
+          (subst (Comes _ _ _ _ v′ _) z (comes-found s t k)) (refl, refl);
+      starts = λ s t M k i.
+          marks-by s (foundBy s t (esiOf c)) (header-found s t k) (stands-found s t k) t M m none
+          (subst (Comes _ _ _ _ v′ _) z (comes-found s t k)) i;
+    }
+
+    -- It has `own` symbols of its own.
+    pub received-done : (own : ℕ) → ((s : Setting) (b : ℕ) (N : Starts) → naming s (b + at .rise) (q (b + d)) N ≡ owning (at .offset) own N)
+        → (kept known : ℕ) (m′ : List ℕ) → r ≡ All kept → Accepted (passed .header) at kept own known v′ m m′
+        → Received receiverLayout c m m′ v v′ (Done known)
+    received-done own owns kept known m′ z accepted =
+        let done = subst (λ (y : Header). Accepted y at kept own known v′ m m′) (passes .header) accepted in
+        record {
+          unopened = ((λ x. absurd (subst IsRefusal (sym x) tt)), (λ x. absurd (Option·none-ne-some h (sym x ∙ passes .has))));
+          untouched = λ x. absurd (Option·none-ne-some h (sym x ∙ passes .has));
+          refused = λ n x. absurd (subst IsRefusal (sym x) tt);
+          contained = λ h′ x.
+              subst (λ (y : Header). Contained (memorySize (y .setting)) m m′ × Contained (workingSize (y .setting)) v v′)
+              (Option·some-injective h h′ (sym (passes .has) ∙ x)) (done .contained, work-kept);
+          follows = λ s t k.
+              let j = foundBy s t (esiOf c) in
+              let e = header-found s t k in
+              let l = stands-found s t k in
+              let (T, i, held, counted, marks) = done .outcome s j _ e l (row-is s j e l) (subst (Comes _ _ _ _ v′ _) z (comes-found s t k)) in
+              does-by s j e l m′ (Done known) (some T) i (ap value counted, held);
+          starts = λ s t M k b.
+              let j = foundBy s t (esiOf c) in
+              let e = header-found s t k in
+              let l = stands-found s t k in
+              let (T, i, held, counted, marks) = done .outcome s j _ e l (row-is s j e l) (subst (Comes _ _ _ _ v′ _) z (comes-found s t k)) in
+              marks-by s j e l t M m′ (some T) i
+              (subst (λ N. MarksFrom m′ s (record { base = j .base + at .rise; window = T }) N) (models s j e l M T own (owns s (j .base)))
+              (marks M (found-marks m s t (esiOf c) M b)));
+        }

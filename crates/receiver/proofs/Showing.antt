@@ -1,5 +1,5 @@
 -- From what is found in the memory to what the symbol calls promise.
-use Rattle.words.specs.Words.{_≡_, ℕ, List, refl, _∙_, sym, ap, [], none, subst, inr, inl, now, RefT}
+use Rattle.words.specs.Words.{_≡_, ℕ, List, refl, _∙_, sym, ap, [], none, subst, RefT, now, inl, inr}
 use Rattle.memory.specs.Part.{LiesAt}
 use Rattle.wire.specs.declared.Refusal.{Refusal}
 use Rattle.wire.specs.Numbers.{numberOf}

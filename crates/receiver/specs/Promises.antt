@@ -1,6 +1,6 @@
 -- What the receiver's public calls promise, in whatever way `Layout` a memory holds a state.
 -- m and v are the receiver's memory and the working memory, m′ and v′ these afterwards; a is the answer.
-use Rattle.words.specs.Words.{_≡_, ℕ, _≤_, _+_, List, length, [], some, none, _*_, Option, cond, ltb, _↔_, _⊎_, now, RefT}
+use Rattle.words.specs.Words.{_≡_, ℕ, _≤_, length, _+_, List, [], some, none, _*_, Option, RefT, now, ltb, cond, _↔_, _⊎_}
 use Rattle.memory.specs.Part.{part, LiesAt}
 use Rattle.wire.specs.declared.Setting.{Setting}
 use Rattle.wire.specs.Numbers.{numberOf}

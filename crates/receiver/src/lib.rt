@@ -4,11 +4,9 @@ ghost use Rattle.history.specs.History.{source-call, repair-call};
 ghost use Rattle.receiver.specs.Layout.{receiverLayout};
 use admission::packet;
 use admission::packet::Gathered;
-use admission::packet::LocationFound;
+use admission::packet::Read;
 use admission::repair;
 use admission::source;
-use coefficients::Filled;
-use holding::Found;
 use holding::Spot;
 use holding::Stand;
 use holding::find;
@@ -19,9 +17,7 @@ use starts::Handed;
 use wire::Checked;
 use wire::Esi;
 use wire::Refusal;
-use wire::RepairHeader;
 use wire::Setting;
-use wire::SourceHeader;
 
 // What a call answers: a number (opening and the symbol call: 0; the call for a symbol's place: where it starts), or a refusal.
 pub use wire::Answer;
@@ -92,33 +88,18 @@ pub fn receive_source(mem: &mut [u8], work: &mut [u8], flow: u8, packet: &[u8]) 
     ensures { λ r. ⌜ PacketAnswered receiverLayout (source-call flow (now (packet .entry)))
         (now (mem .entry)) (now (mem .exit)) (now (work .entry)) (now (work .exit)) r ⌝ }
 {
-    let Found::HeaderIs(header) = front::read_header(mem) else {
-        return PacketAnswer::NotAccepted(Refusal::Unopened);
+    let passed = match source::read_source(mem, work.len(), packet) {
+        Read::Located(passed) => passed,
+        Read::Fails(refusal) => return PacketAnswer::NotAccepted(refusal),
     };
-    let setting = header.setting;
-    if work.len() < front::working_size(setting) {
-        return PacketAnswer::NotAccepted(Refusal::Short);
-    }
-    let SourceHeader::Source(fields) = wire::read_source(packet) else {
-        return PacketAnswer::NotAccepted(Refusal::Form);
-    };
-    if wire::LONGEST_ADU < fields.len {
-        return PacketAnswer::NotAccepted(Refusal::Long);
-    }
-    let count = wire::symbol_count(setting.size, fields.len);
-    if setting.width < count {
-        return PacketAnswer::NotAccepted(Refusal::Long);
-    }
-    let based = packet::join(header, fields.first);
-    let location = match packet::locate(based, fields.first, count) {
-        LocationFound::LocationIs(at) => at,
-        LocationFound::Out(refusal) => return PacketAnswer::NotAccepted(refusal),
-    };
-    let adu = memory::part(packet, 0, fields.len);
+    let header = passed.header;
+    let location = passed.location;
+    let count = passed.count;
+    let adu = memory::part(packet, 0, packet.len() - 4);
     let Gathered::All(kept) = source::gather_source(mem, work, location, flow, adu, count) else {
         return PacketAnswer::NotAccepted(Refusal::Contradiction);
     };
-    PacketAnswer::Accepted(packet::accept(mem, work, based, location, kept, count), 0)
+    PacketAnswer::Accepted(packet::accept(mem, work, header, location, kept, count), 0)
 }
 
 // Receives a repair packet. The state is only read until all its symbols are known to agree with it. Gives how many positions of the window
@@ -127,41 +108,19 @@ pub fn receive_repair(mem: &mut [u8], work: &mut [u8], packet: &[u8]) -> PacketA
     ensures { λ r. ⌜ PacketAnswered receiverLayout (repair-call (now (packet .entry)))
         (now (mem .entry)) (now (mem .exit)) (now (work .entry)) (now (work .exit)) r ⌝ }
 {
-    let Found::HeaderIs(header) = front::read_header(mem) else {
-        return PacketAnswer::NotAccepted(Refusal::Unopened);
-    };
-    let setting = header.setting;
-    if work.len() < front::working_size(setting) {
-        return PacketAnswer::NotAccepted(Refusal::Short);
-    }
-    let RepairHeader::Repair(fields) = wire::read_repair(packet, setting.size) else {
-        return PacketAnswer::NotAccepted(Refusal::Form);
-    };
-    let n = fields.nss;
-    let count = fields.count;
-    if !wire::between(1, setting.width, n) {
-        return PacketAnswer::NotAccepted(Refusal::Range);
-    }
-    let based = packet::join(header, fields.first);
-    let location = match packet::locate(based, fields.first, n) {
-        LocationFound::LocationIs(at) => at,
-        LocationFound::Out(refusal) => return PacketAnswer::NotAccepted(refusal),
-    };
     let mut lists = coefficients::room_for_lists();
-    let scheme = setting.scheme;
-    let Filled::Done(draws) = coefficients::fill_lists(
-        &mut lists,
-        n,
-        scheme,
-        fields.key,
-        fields.dt,
-        count,
-    ) else {
-        return PacketAnswer::NotAccepted(Refusal::Draws);
+    let passed = match repair::read_repair(mem, work.len(), packet, &mut lists) {
+        Read::Located(passed) => passed,
+        Read::Fails(refusal) => return PacketAnswer::NotAccepted(refusal),
     };
+    let header = passed.header;
+    let location = passed.location;
+    let n = passed.named;
+    let count = passed.count;
+    let draws = passed.draws;
     let Gathered::All(kept) = repair::gather_repair(mem, work, &lists, packet, location, n, count)
     else {
         return PacketAnswer::NotAccepted(Refusal::Contradiction);
     };
-    PacketAnswer::Accepted(packet::accept(mem, work, based, location, kept, 0), draws)
+    PacketAnswer::Accepted(packet::accept(mem, work, header, location, kept, 0), draws)
 }

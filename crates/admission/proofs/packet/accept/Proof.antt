@@ -1,5 +1,5 @@
 -- `admission::packet::accept` meets its contract.
-use Rattle.words.specs.Words.{arith, needs, _∙_, eqb, not-false, eqb-true, not}
+use Rattle.words.specs.Words.{arith, needs, _∙_, eqb-true, not-false, eqb, not}
 use Rattle.history.proofs.Sides.{limits}
 use Rattle.admission.proofs.Marking.{count-asks, count-again, update-asks, accepted}
 use Rattle.admission.proofs.packet.accept.Statement.{statement}

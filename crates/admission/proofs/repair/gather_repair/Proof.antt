@@ -1,5 +1,5 @@
 -- `admission::repair::gather_repair` meets its contract. The loop: working memory keeps `kept` rows of the first i equations.
-use Rattle.words.specs.Words.{arith, _≤_, _+_, length, needs, _∙_, _-_, _*_}
+use Rattle.words.specs.Words.{arith, _≤_, length, _+_, needs, _∙_, _-_, _*_}
 use Rattle.memory.proofs.Parts.{cut, length-part, row-fits}
 use Rattle.admission.specs.declared.packet.Gathered.the-variants.{All}
 use Rattle.admission.specs.Steps.{Admits, Gathers}

@@ -1,5 +1,5 @@
 -- `admission::source::write_row` meets its contract.
-use Rattle.words.specs.Words.{_≡_, arith, ℕ, _≤_, _+_, List, length, needs, _∙_, ap, _-_, drop, take}
+use Rattle.words.specs.Words.{_≡_, arith, ℕ, _≤_, length, _+_, needs, List, _∙_, ap, _-_, drop, take}
 use Rattle.memory.specs.Part.{splice}
 use Rattle.memory.proofs.Parts.{cut, put, length-part}
 use Rattle.wire.specs.Packets.{symbolAt}
