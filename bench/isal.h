@@ -1,6 +1,6 @@
 // Intel's ISA-L, where bench/run finds it (ISAL): rows[k], of n bytes, times coefficients[k], summed up; by the functions that it picks for the
 // machine, with its tables made beforehand or in the call, by its SSE4.1 functions and by its base functions, which are plain C.
-#define ISAL_NAMES "ISA-L", "ISA-L with its tables", "ISA-L, SSE4.1", "ISA-L, base"
+#define ISAL_NAMES "ISA-L", "ISA-L, tables", "its SSE4.1", "its C"
 #ifdef ISAL
 #include <isa-l.h>
 

@@ -103,9 +103,9 @@ static void check_others(void) {
 
 int main(void) {
   static struct table operation = {"Row operation: a row of width + E bytes += c × another",
-    {"", "plain Rust", "a product from the two tables for each byte", ISAL_NAMES, "memcpy"}};
+    {"", "plain Rust", "products", ISAL_NAMES, "memcpy"}};
   static struct table sum = {"Repair symbol: the sum of `width` rows of E bytes, each times a coefficient",
-    {"", "plain Rust", "`width` row operations", ISAL_NAMES, "memcpy"}};
+    {"", "plain Rust", "rows", ISAL_NAMES, "memcpy"}};
   srand(8681);
   check_others();
   make(&operation, fill_operation);
