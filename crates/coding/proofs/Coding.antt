@@ -13,13 +13,12 @@ use Rattle.wire.specs.declared.Checked.{Checked}
 use Rattle.wire.specs.declared.Checked.the-variants.{Good, Bad}
 use Rattle.wire.specs.Numbers.{numberOf}
 use Rattle.wire.specs.Settings.{Valid, settingOf, checkedOf}
-use Rattle.wire.proofs.Settings.{setting-names}
+use Rattle.wire.proofs.Settings.{setting-names, setting-good, setting-bad}
 use Rattle.latency.specs.declared.WindowAnswer.{WindowAnswer}
 use Rattle.latency.specs.declared.WindowAnswer.the-variants.{Divided, NotDivided}
 use Rattle.latency.specs.Window.{dividend, divisor}
 use Rattle.latency.specs.Promises.{Division, WindowAnswered}
 use Rattle.wire.specs.Answers.{Said, value, refusal}
-use Rattle.holding.proofs.Headers.{setting-good, setting-bad}
 use Rattle.coding.specs.Coding.{largest, coded, windowSaid, remainderAfter, asked, Readable}
 
 -- A value below the largest number is itself; from there on it stands as that one.

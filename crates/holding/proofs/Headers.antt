@@ -1,6 +1,6 @@
 -- The header of a receiver: what reading it finds, what refusal 3 stands for, and what opening leaves.
 -- Laws:
---   answers told apart: setting-good, setting-bad, header-is, header-none
+--   answers told apart: header-is, header-none
 --   reading: area, working-area, numbers, found, found-joined, none-short, none-row, none-setting, Headed, headed, header-room, setting-fits, header-fits
 --   a held state: header-held, setting-of, setting-held, of-header, of-joined
 --   refusal 3: zeros-unopened, other-unopened, short-unopened
@@ -11,10 +11,8 @@ use lib.Seq.{take-take}
 use Rattle.memory.specs.Part.{part}
 use Rattle.memory.specs.Number.{number}
 use Rattle.wire.specs.declared.Setting.{Setting}
-use Rattle.wire.specs.declared.Checked.{Checked}
-use Rattle.wire.specs.declared.Checked.the-variants.{Good, Bad}
 use Rattle.wire.specs.Packets.{zeros}
-use Rattle.wire.specs.Settings.{settingIn, Valid, checkedOf}
+use Rattle.wire.specs.Settings.{settingIn, Valid}
 use Rattle.wire.proofs.Settings.{both, setting-found, setting-kept, zeros-none, one-kind}
 use Rattle.table.specs.Window.{headerSize, stride, Fits}
 use Rattle.holding.specs.declared.Header.{Header}
@@ -27,14 +25,6 @@ use Rattle.holding.specs.Layout.{headerOf, Stands, Holds}
 use Rattle.holding.specs.Inner.{foundOf}
 
 -- ---- What an answer that was told apart says
-
-pub setting-good : (o : Option Setting) (t : Setting) {r : Checked} → r ≡ checkedOf o → r ≡ Good t → o ≡ some t
-setting-good none t e f = cc
-setting-good (some x) t e f = cc
-
-pub setting-bad : (o : Option Setting) {r : Checked} → r ≡ checkedOf o → r ≡ Bad → o ≡ none
-setting-bad none e f = refl
-setting-bad (some x) e f = cc
 
 pub header-is : (o : Option Header) (h : Header) {r : Found} → r ≡ foundOf o → r ≡ HeaderIs h → o ≡ some h
 header-is none h e f = cc

@@ -1,5 +1,5 @@
 -- The header of a sender: what reading it finds, what refusal 3 stands for, and what writing it leaves.
--- answers told apart: setting-good, setting-bad, header-is, header-none; sizes: header-room, area
+-- answers told apart: header-is, header-none; sizes: header-room, area
 -- reading: found, none-short, none-held, none-next, none-setting; opened (record Opened)
 -- refusal 3: holds-header, zeros-unopened, other-unopened, short-unopened
 -- writing: part-head, header-kept; counts-chain, counts-held, counts-next, counts-esi, counts-written
@@ -13,9 +13,7 @@ use Rattle.memory.proofs.Number.{number-bytes}
 use Rattle.memory.proofs.Parts.{length-splice, take-splice, part-within, part-part, splice-next}
 use Rattle.wire.specs.declared.Setting.{Setting}
 use Rattle.wire.specs.Packets.{zeros}
-use Rattle.wire.specs.declared.Checked.{Checked}
-use Rattle.wire.specs.declared.Checked.the-variants.{Good, Bad}
-use Rattle.wire.specs.Settings.{settingIn, Valid, checkedOf}
+use Rattle.wire.specs.Settings.{settingIn, Valid}
 use Rattle.wire.proofs.Settings.{both, setting-found, setting-kept, zeros-none, one-kind}
 use Rattle.sender.specs.declared.Header.{Header}
 use Rattle.sender.specs.State.{Sender, headerSize, memorySize, headerWith, headerIn, headerOf, Holds}
@@ -24,14 +22,6 @@ use Rattle.sender.specs.declared.Found.the-variants.{HeaderIs, NoHeader}
 use Rattle.sender.specs.Inner.{foundOf, countBytes}
 
 -- ---- what an answer that was told apart says
-
-pub setting-good : (o : Option Setting) (t : Setting) {r : Checked} → r ≡ checkedOf o → r ≡ Good t → o ≡ some t
-setting-good none t e f = cc
-setting-good (some x) t e f = cc
-
-pub setting-bad : (o : Option Setting) {r : Checked} → r ≡ checkedOf o → r ≡ Bad → o ≡ none
-setting-bad none e f = refl
-setting-bad (some x) e f = cc
 
 pub header-is : (o : Option Header) (h : Header) {r : Found} → r ≡ foundOf o → r ≡ HeaderIs h → o ≡ some h
 header-is none h e f = cc

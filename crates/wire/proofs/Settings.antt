@@ -1,20 +1,23 @@
 -- What refusals 1 and 3 stand for: which numbers name a setting, and in which memory a header keeps one.
 -- three numbers: within-true, within-bounds, both; setting-named, setting-names (record Named)
 -- the header: short-none, other-none, header-read; zeros-none, one-kind; setting-found (record Headed); setting-written, setting-kept
+-- answers told apart: setting-good, setting-bad
 use Rattle.words.specs.Words.{_≡_, arith, ℕ, _≤_, List, length, _<_, refl, _∙_, sym, ap, some, suc, true, zero, none, _*_, false, Bool, subst, _^_, take, leb}
 use Rattle.words.specs.Words.{eqb, le-leb, _&&_, Option·some-injective, Option·none-ne-some, lt-leb, ne-eqb, zero-add, eq-eqb, leb-true, lit<, eqb-true}
-use Rattle.words.specs.Words.{length-take, eqb-false}
+use Rattle.words.specs.Words.{length-take, eqb-false, Option}
 use borrow.Author.Tests.{leb-false}
 use Rattle.memory.specs.Part.{part, splice}
 use Rattle.memory.specs.Number.{number}
 use Rattle.memory.proofs.Parts.{part-part}
 use Rattle.memory.proofs.Number.{number-bytes}
 use Rattle.wire.specs.declared.Scheme.{Scheme}
+use Rattle.wire.specs.declared.Checked.{Checked}
+use Rattle.wire.specs.declared.Checked.the-variants.{Good, Bad}
 use Rattle.wire.specs.declared.Scheme.the-variants.{Gf2, Gf256}
 use Rattle.wire.specs.declared.Setting.{Setting}
 use Rattle.wire.specs.Numbers.{within}
 use Rattle.wire.specs.Packets.{zeros}
-use Rattle.wire.specs.Settings.{schemeNumber, schemeOf, inRange, settingOf, Valid, field, settingIn, settingBytes}
+use Rattle.wire.specs.Settings.{schemeNumber, schemeOf, inRange, settingOf, Valid, field, settingIn, settingBytes, checkedOf}
 
 -- ---- three numbers
 
@@ -160,3 +163,13 @@ front kind m =
 
 pub setting-kept : (kind : ℕ) (m m′ : List ℕ) → take 8 m ≡ take 8 m′ → settingIn kind m ≡ settingIn kind m′
 setting-kept kind m m′ e = sym (front kind m) ∙ ap (settingIn kind) e ∙ front kind m′
+
+-- ---- what an answer that was told apart says
+
+pub setting-good : (o : Option Setting) (t : Setting) {r : Checked} → r ≡ checkedOf o → r ≡ Good t → o ≡ some t
+setting-good none t e f = cc
+setting-good (some x) t e f = cc
+
+pub setting-bad : (o : Option Setting) {r : Checked} → r ≡ checkedOf o → r ≡ Bad → o ≡ none
+setting-bad none e f = refl
+setting-bad (some x) e f = cc

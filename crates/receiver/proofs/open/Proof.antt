@@ -2,8 +2,7 @@
 use Rattle.words.specs.Words.{_≡_, needs, some}
 use Rattle.wire.specs.declared.Setting.{Setting}
 use Rattle.wire.specs.Settings.{Valid, settingOf}
-use Rattle.wire.proofs.Settings.{setting-names}
-use Rattle.holding.proofs.Headers.{setting-good, setting-bad}
+use Rattle.wire.proofs.Settings.{setting-names, setting-good, setting-bad}
 use Rattle.receiver.proofs.Opening.{opening-values, opening-short, opening-done}
 use Rattle.receiver.proofs.open.Statement.{statement}
 use Rattle.receiver.proofs.open.Tie as tie

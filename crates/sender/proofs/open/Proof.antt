@@ -3,10 +3,10 @@ use Rattle.words.specs.Words.{_≡_, arith, _≤_, length, needs, _∙_, ap, so
 use Rattle.memory.specs.Part.{splice}
 use Rattle.wire.specs.declared.Setting.{Setting}
 use Rattle.wire.specs.Settings.{Valid, settingOf}
-use Rattle.wire.proofs.Settings.{setting-names}
+use Rattle.wire.proofs.Settings.{setting-names, setting-good, setting-bad}
 use Rattle.sender.specs.State.{memorySize}
 use Rattle.sender.specs.Inner.{countBytes}
-use Rattle.sender.proofs.Heads.{setting-good, setting-bad, header-room}
+use Rattle.sender.proofs.Heads.{header-room}
 use Rattle.sender.proofs.Promising.{kept, opening-values, opening-short, opening-done}
 use Rattle.sender.proofs.Taking.{opens}
 use Rattle.sender.proofs.open.Statement.{statement}

@@ -2,8 +2,8 @@
 use Rattle.words.specs.Words.{_≡_, needs, some}
 use Rattle.wire.specs.declared.Setting.{Setting}
 use Rattle.wire.specs.Settings.{Valid, settingIn}
-use Rattle.wire.proofs.Settings.{setting-found}
-use Rattle.holding.proofs.Headers.{setting-good, setting-bad, found, none-setting, none-short, none-row}
+use Rattle.wire.proofs.Settings.{setting-found, setting-good, setting-bad}
+use Rattle.holding.proofs.Headers.{found, none-setting, none-short, none-row}
 use Rattle.holding.proofs.front.read_header.Statement.{statement}
 use Rattle.holding.proofs.front.read_header.Tie as tie
 

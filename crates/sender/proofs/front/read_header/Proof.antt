@@ -2,9 +2,9 @@
 use Rattle.words.specs.Words.{_≡_, arith, _≤_, length, needs, some}
 use Rattle.wire.specs.declared.Setting.{Setting}
 use Rattle.wire.specs.Settings.{Valid, settingIn}
-use Rattle.wire.proofs.Settings.{setting-found}
+use Rattle.wire.proofs.Settings.{setting-found, setting-good, setting-bad}
 use Rattle.sender.specs.State.{memorySize}
-use Rattle.sender.proofs.Heads.{setting-good, setting-bad, header-room, found, none-setting, none-short, none-held, none-next}
+use Rattle.sender.proofs.Heads.{header-room, found, none-setting, none-short, none-held, none-next}
 use Rattle.sender.proofs.front.read_header.Statement.{statement}
 use Rattle.sender.proofs.front.read_header.Tie as tie
 
