@@ -4,6 +4,7 @@ ghost use Rattle.wire.specs.Answers.{said};
 ghost use Rattle.receiver.specs.Promises.{answerOf};
 ghost use Rattle.records.specs.Replay.{recordOf};
 ghost use Rattle.answering.specs.Inner.{KeptMore, OpenedBy, Answered};
+use holding::front;
 use lines::First;
 use lines::Spoken;
 use receiver::Answer;
@@ -68,7 +69,7 @@ pub fn open_by(line: &[u8], have: usize, mem: &mut [u8]) -> bool
         return false;
     };
     // the receiver's own memory is the smaller, and opening tests it
-    if ROOM < receiver::working_size(setting) {
+    if ROOM < front::working_size(setting) {
         return false;
     }
     let Answer::Done(_) = receiver::open(mem, scheme, size, width) else {

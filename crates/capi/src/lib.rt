@@ -1,48 +1,35 @@
 // The calls of sender and receiver, and that for the window, under C names (include/rlc8681.h): each takes numbers and slices, that one a number to
 // write, and answers one signed number. What a function promises is the promise of the call that it wraps, of the answer that its number codes.
-ghost use Rattle.words.specs.Words.{_≡_};
-ghost use Rattle.wire.specs.Settings.{settingOf};
+ghost use Rattle.words.specs.Words.{_≡_, _+_, _*_};
 ghost use Rattle.latency.specs.Promises.{WindowAnswered};
 ghost use Rattle.sender.specs.Promises.{Opens, Adds, RepairMade};
-ghost use Rattle.history.specs.History.{memorySize, workingSize, source-call, repair-call};
-ghost use Rattle.wire.specs.Answers.{said};
+ghost use Rattle.history.specs.History.{source-call, repair-call};
+ghost use Rattle.wire.specs.Answers.{said, SizeAnswered};
 ghost use Rattle.receiver.specs.Promises.{Opened, PacketAnswered, SymbolAnswered, PlaceAnswered, AduAnswered, handedSaid};
 ghost use Rattle.receiver.specs.Layout.{receiverLayout};
-ghost use Rattle.coding.specs.Coding.{coded, packetSaid, repairSaid, windowSaid, remainderAfter, Codes, asked};
-ghost use Rattle.sender.specs.State as sender;
-use wire::Checked;
+ghost use Rattle.coding.specs.Coding.{packetSaid, repairSaid, windowSaid, remainderAfter, Codes};
 use wire::Esi;
-use wire::Refusal;
 use wire::RepairKey;
 
 #[no_mangle]
 pub extern "C" fn rlc_sender_memory(size: u32, width: u32) -> i64
-    ensures { λ r. ⌜ r ≡ coded (asked sender.memorySize (settingOf 10 size width)) ⌝ }
+    ensures { λ r. ⌜ Codes said (SizeAnswered (32 + width * size) size width) r ⌝ }
 {
-    let Checked::Good(setting) = wire::setting_of(10, size as usize, width as usize) else {
-        return coding::coded_refusal(Refusal::Values);
-    };
-    coding::coded_value(sender::memory_size(setting))
+    coding::coded_answer(sender::memory_size(size as usize, width as usize))
 }
 
 #[no_mangle]
 pub extern "C" fn rlc_receiver_memory(size: u32, width: u32) -> i64
-    ensures { λ r. ⌜ r ≡ coded (asked memorySize (settingOf 10 size width)) ⌝ }
+    ensures { λ r. ⌜ Codes said (SizeAnswered (64 + width * (width + size + 4)) size width) r ⌝ }
 {
-    let Checked::Good(setting) = wire::setting_of(10, size as usize, width as usize) else {
-        return coding::coded_refusal(Refusal::Values);
-    };
-    coding::coded_value(receiver::memory_size(setting))
+    coding::coded_answer(receiver::memory_size(size as usize, width as usize))
 }
 
 #[no_mangle]
 pub extern "C" fn rlc_working_memory(size: u32, width: u32) -> i64
-    ensures { λ r. ⌜ r ≡ coded (asked workingSize (settingOf 10 size width)) ⌝ }
+    ensures { λ r. ⌜ Codes said (SizeAnswered (64 + (width + 1) * (width + size + 4)) size width) r ⌝ }
 {
-    let Checked::Good(setting) = wire::setting_of(10, size as usize, width as usize) else {
-        return coding::coded_refusal(Refusal::Values);
-    };
-    coding::coded_value(receiver::working_size(setting))
+    coding::coded_answer(receiver::working_size(size as usize, width as usize))
 }
 
 #[no_mangle]

@@ -1,4 +1,4 @@
--- Laws of the coding: of a value, of a refusal, of an answer whose case is known, and of the sizes.
+-- Laws of the coding: of a value, of a refusal, and of an answer whose case is known.
 use Rattle.words.specs.Words.{_≡_, arith, ℕ, _≤_, _+_, _<_, refl, _∙_, sym, ap, suc, zero, _*_, subst, _≢_, _^_, ap₂, lit<, min}
 use lib.IntN.{ℤ, pos, negsuc, negℤ, natAbs, _-ℤ_, +ℤ-idl}
 use mir.Syntax.{w64}
@@ -8,18 +8,13 @@ use mir.Facts.{toZ-pos, toZ-ofZ}
 use Rattle.wire.specs.declared.Refusal.{Refusal}
 use Rattle.wire.specs.declared.Refusal.the-variants.{Values, Short, Unopened, Long, Form, Range, Empty, Behind, Ahead, Draws, Contradiction, Unknown, NoStart}
 use Rattle.wire.specs.declared.Refusal.the-variants.{Padding}
-use Rattle.wire.specs.declared.Setting.{Setting}
-use Rattle.wire.specs.declared.Checked.{Checked}
-use Rattle.wire.specs.declared.Checked.the-variants.{Good, Bad}
 use Rattle.wire.specs.Numbers.{numberOf}
-use Rattle.wire.specs.Settings.{Valid, settingOf, checkedOf}
-use Rattle.wire.proofs.Settings.{setting-names, setting-good, setting-bad}
 use Rattle.latency.specs.declared.WindowAnswer.{WindowAnswer}
 use Rattle.latency.specs.declared.WindowAnswer.the-variants.{Divided, NotDivided}
 use Rattle.latency.specs.Window.{dividend, divisor}
 use Rattle.latency.specs.Promises.{Division, WindowAnswered}
 use Rattle.wire.specs.Answers.{Said, value, refusal}
-use Rattle.coding.specs.Coding.{largest, coded, windowSaid, remainderAfter, asked, Readable}
+use Rattle.coding.specs.Coding.{largest, coded, windowSaid, remainderAfter, Readable}
 
 -- A value below the largest number is itself; from there on it stands as that one.
 pub value-small : (n : ℕ) → n < largest → toZ w64 n ≡ coded (value n)
@@ -106,18 +101,3 @@ readable = record {
     kept : (a : WindowAnswer) (k before : ℕ) → 1 ≤ k → coded (windowSaid a) ≡ coded (refusal k) → remainderAfter a before ≡ before
     kept (Divided q r) k before l e = absurd (apart q k l e)
     kept (NotDivided why) k before l e = refl
-
--- ---- the sizes
-
--- The numbers named a setting, whose E and width have their values.
-pub asked-valid : (size width : ℕ) {r : Checked} → r ≡ checkedOf (settingOf 10 size width) → (s : Setting) → r ≡ Good s → Valid s
-asked-valid size width e s good = setting-names _ _ _ s (setting-good _ s e good) .valid
-
-module _ (size width : ℕ) {r : Checked} (e : r ≡ checkedOf (settingOf 10 size width)) (f : Setting → ℕ) {z : ℤ} (fits : mag z < 2 ^ 63) where
-  -- The numbers named no setting.
-  pub asked-none : r ≡ Bad → z ≡ coded (refusal 1) → toZ w64 (ofZ w64 z) ≡ coded (asked f (settingOf 10 size width))
-  asked-none bad h = rw (setting-bad (settingOf 10 size width) e bad) (handed fits h)
-
-  -- They named this one.
-  pub asked-some : (s : Setting) → r ≡ Good s → (n : ℕ) → n ≡ f s → z ≡ coded (value n) → toZ w64 (ofZ w64 z) ≡ coded (asked f (settingOf 10 size width))
-  asked-some s good n is h = rw (setting-good (settingOf 10 size width) s e good) (handed fits (rw is at h))

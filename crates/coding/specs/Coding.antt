@@ -1,7 +1,6 @@
 -- How the exported functions code what a call says as one signed number: a value is itself, 0 or more, and a refusal is minus its number.
-use Rattle.words.specs.Words.{_≡_, ℕ, _≤_, _+_, _<_, some, _%_, none, _*_, Option, _≢_, _/_, min}
+use Rattle.words.specs.Words.{_≡_, ℕ, _≤_, _+_, _<_, _%_, _*_, _≢_, _/_, min}
 use lib.IntN.{ℤ, pos, negℤ}
-use Rattle.wire.specs.declared.Setting.{Setting}
 use Rattle.wire.specs.Numbers.{numberOf}
 use Rattle.wire.specs.Packets.{longestAdu}
 use Rattle.latency.specs.declared.WindowAnswer.{WindowAnswer}
@@ -66,8 +65,3 @@ pub record Codes {A : Type 0} (said : A → Said) (Promise : A → Type 0) (r : 
   pub answer : A
   pub number : r ≡ coded (said answer)
   pub promise : Promise answer
-
--- The bytes of memory that are asked with a setting: refusal 1 where E or width is outside its values. No size depends on the scheme.
-abbrev pub asked : (Setting → ℕ) → Option Setting → Said
-asked size none = refusal 1
-asked size (some s) = value (size s)

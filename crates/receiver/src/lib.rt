@@ -1,4 +1,6 @@
-// The receiver: opening, the two packet calls, the calls that show a symbol, and the ADU call (RFC 8681, section 3.4; document 01).
+// The receiver: its sizes, opening, the two packet calls, the calls that show a symbol, and the ADU call (RFC 8681, section 3.4; document 01).
+ghost use Rattle.words.specs.Words.{_+_, _*_};
+ghost use Rattle.wire.specs.Answers.{SizeAnswered};
 ghost use Rattle.receiver.specs.Promises.{Opened, PacketAnswered, SymbolAnswered, PartShown, PlaceAnswered, AduAnswered};
 ghost use Rattle.history.specs.History.{source-call, repair-call};
 ghost use Rattle.receiver.specs.Layout.{receiverLayout};
@@ -11,21 +13,39 @@ use holding::Spot;
 use holding::Stand;
 use holding::find;
 use holding::front;
-pub use holding::front::memory_size;
-pub use holding::front::working_size;
 use starts::Handed;
 use wire::Checked;
 use wire::Esi;
 use wire::Refusal;
 use wire::Setting;
 
-// What a call answers: a number (opening and the symbol call: 0; the call for a symbol's place: where it starts), or a refusal.
+// What a call answers: a number (of bytes that are needed; opening and the symbol call: 0; the call for a symbol's place: where it starts), or a refusal.
 pub use wire::Answer;
 
 // What a packet call answers: how many positions of the window became known and the draws that the packet's coefficients took, or a refusal.
 pub enum PacketAnswer {
     Accepted(usize, u32),
     NotAccepted(Refusal),
+}
+
+// How many bytes of memory a receiver of symbols of `size` bytes with a window of `width` symbols needs.
+pub fn memory_size(size: usize, width: usize) -> Answer
+    ensures { λ r. ⌜ SizeAnswered (64 + width * (width + size + 4)) size width r ⌝ }
+{
+    let Checked::Good(setting) = wire::setting_of(10, size, width) else {
+        return Answer::Refused(Refusal::Values);
+    };
+    Answer::Done(front::memory_size(setting))
+}
+
+// How many bytes of working memory a packet call borrows.
+pub fn working_size(size: usize, width: usize) -> Answer
+    ensures { λ r. ⌜ SizeAnswered (64 + (width + 1) * (width + size + 4)) size width r ⌝ }
+{
+    let Checked::Good(setting) = wire::setting_of(10, size, width) else {
+        return Answer::Refused(Refusal::Values);
+    };
+    Answer::Done(front::working_size(setting))
 }
 
 // Opens a receiver in the memory.

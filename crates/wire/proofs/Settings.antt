@@ -2,9 +2,10 @@
 -- three numbers: within-true, within-bounds, both; setting-named, setting-names (record Named)
 -- the header: short-none, other-none, header-read; zeros-none, one-kind; setting-found (record Headed); setting-written, setting-kept
 -- answers told apart: setting-good, setting-bad
+-- the calls for sizes of memory: size-valid, size-given, size-refused
 use Rattle.words.specs.Words.{_≡_, arith, ℕ, _≤_, List, length, _<_, refl, _∙_, sym, ap, some, suc, true, zero, none, _*_, false, Bool, subst, _^_, take, leb}
 use Rattle.words.specs.Words.{eqb, le-leb, _&&_, Option·some-injective, Option·none-ne-some, lt-leb, ne-eqb, zero-add, eq-eqb, leb-true, lit<, eqb-true}
-use Rattle.words.specs.Words.{length-take, eqb-false, Option}
+use Rattle.words.specs.Words.{length-take, eqb-false, Option, ap₂}
 use borrow.Author.Tests.{leb-false}
 use Rattle.memory.specs.Part.{part, splice}
 use Rattle.memory.specs.Number.{number}
@@ -15,7 +16,10 @@ use Rattle.wire.specs.declared.Checked.{Checked}
 use Rattle.wire.specs.declared.Checked.the-variants.{Good, Bad}
 use Rattle.wire.specs.declared.Scheme.the-variants.{Gf2, Gf256}
 use Rattle.wire.specs.declared.Setting.{Setting}
+use Rattle.wire.specs.declared.Answer.the-variants.{Done, Refused}
+use Rattle.wire.specs.declared.Refusal.the-variants.{Values}
 use Rattle.wire.specs.Numbers.{within}
+use Rattle.wire.specs.Answers.{value, HaveValues, SizeAnswered}
 use Rattle.wire.specs.Packets.{zeros}
 use Rattle.wire.specs.Settings.{schemeNumber, schemeOf, inRange, settingOf, Valid, field, settingIn, settingBytes, checkedOf}
 
@@ -173,3 +177,31 @@ setting-good (some x) t e f = cc
 pub setting-bad : (o : Option Setting) {r : Checked} → r ≡ checkedOf o → r ≡ Bad → o ≡ none
 setting-bad none e f = refl
 setting-bad (some x) e f = cc
+
+-- ---- the calls for sizes of memory, which ask for a setting of scheme 10
+
+module _ (E width : ℕ) {r : Checked} (e : r ≡ checkedOf (settingOf 10 E width)) where
+  asked : (s : Setting) → r ≡ Good s → Named 10 E width s
+  asked s g = setting-names 10 E width s (setting-good _ s e g)
+
+  pub size-valid : (s : Setting) → r ≡ Good s → Valid s
+  size-valid s g = asked s g .valid
+
+  pub size-given : (bytes : (size width : ℕ) → ℕ) (s : Setting) → r ≡ Good s → (n : ℕ) → n ≡ bytes (s .size) (s .width)
+      → SizeAnswered (bytes E width) E width (Done n)
+  size-given bytes s g n b =
+      let a = asked s g in
+      let v = a .valid in
+      record {
+        given = λ h. ap value (b ∙ ap₂ bytes (a .size) (a .width));
+        refused = λ h. absurd (h (omega (arith, a .size, a .width)));
+      }
+
+  pub size-refused : (bytes : ℕ) → r ≡ Bad → SizeAnswered bytes E width (Refused Values)
+  size-refused bytes b = record {
+    given = λ h.
+        let s : Setting = record { scheme = Gf256; size = E; width = width } in
+        let v : Valid s = record { size-least = omega arith; size-most = omega arith; width-least = omega arith; width-most = omega arith } in
+        absurd (Option·none-ne-some s (sym (setting-bad _ e b) ∙ setting-named s v));
+    refused = λ h. refl;
+  }
