@@ -1,13 +1,12 @@
 -- The definition's answer is that of the division.
-use Rattle.words.specs.Words.{_≡_, arith, ℕ, _≤_, _<_, refl, _∙_, sym, _%_, true, _*_, false, Bool, mod-lt, _/_, _↔_, add-zero, mod-eq-of-lt, true≢false}
+use Rattle.words.specs.Words.{_≡_, arith, ℕ, _≤_, _<_, refl, _∙_, sym, ap, _%_, true, _*_, false, Bool, mod-lt, _/_, _↔_, add-zero, mod-eq-of-lt, true≢false}
 use Rattle.words.specs.Words.{mul-le-mul}
 use native.Mathlib.Nat.{mul-le-mul-left, mul-add-div-right, mul-add-mod-self-right, div-add-mod', div-eq-of-lt, le-div-iff-mul-le}
 use Rattle.wire.specs.Numbers.{within}
 use Rattle.wire.proofs.Settings.{both, within-bounds}
-use Rattle.wire.specs.declared.Refusal.the-variants.{Values}
 use Rattle.latency.specs.declared.WindowAnswer.{WindowAnswer}
 use Rattle.latency.specs.declared.WindowAnswer.the-variants.{Divided, NotDivided}
-use Rattle.latency.specs.Window.{dividend, divisor, allowed, windowOf}
+use Rattle.latency.specs.Window.{dividend, divisor, allowed, divided, refused, windowIn, windowOf}
 use Rattle.latency.specs.Inner.{Bounds}
 use Rattle.latency.specs.Promises.{Division, WindowAnswered}
 
@@ -36,7 +35,15 @@ bounds budget bitrate E a =
 
 -- ---- the promise
 
-module _ (budget bitrate E : ℕ) (answer : WindowAnswer) (outright : answer ≡ windowOf budget bitrate E) where
+-- An answer that says two numbers is these.
+only-divided : (answer : WindowAnswer) (q r : ℕ) → windowIn answer ≡ divided q r → answer ≡ Divided q r
+only-divided (Divided q′ r′) q r e =
+    let i : q′ ≡ q = cc in
+    let j : r′ ≡ r = cc in
+    rw (i, j)
+only-divided (NotDivided why) q r e = let z : _≡_ {A = ℕ} 0 1 = cc in absurd (omega arith)
+
+module _ (budget bitrate E : ℕ) (answer : WindowAnswer) (outright : windowIn answer ≡ windowOf budget bitrate E) where
   abbrev n : ℕ
   n = dividend budget bitrate
 
@@ -49,19 +56,19 @@ module _ (budget bitrate E : ℕ) (answer : WindowAnswer) (outright : answer ≡
       go : (b : Bool) → allowed budget bitrate E ≡ b → (allowed budget bitrate E ≡ true) × Division n d q r
       go true a =
           let b = bounds budget bitrate E a in
-          let f : Divided (n / d) (n % d) ≡ Divided q r = rw a at (sym outright ∙ e) in
+          let f : divided (n / d) (n % d) ≡ divided q r = rw a at (sym outright ∙ ap windowIn e) in
           let i : n / d ≡ q = cc in
           let j : n % d ≡ r = cc in
           (a, rw (← i, ← j) (division n (omega arith)))
       go false a =
-          let f : NotDivided Values ≡ Divided q r = rw a at (sym outright ∙ e) in
+          let f : refused 1 ≡ divided q r = rw a at (sym outright ∙ ap windowIn e) in
           let i : true ≡ false = cc in
           absurd (true≢false i)
 
   back : (q r : ℕ) → (allowed budget bitrate E ≡ true) × Division n d q r → answer ≡ Divided q r
   back q r h =
       let (i, j) = division-only (h .1) in
-      rw (outright, h .0, i, j)
+      only-divided answer q r (outright ∙ rw (h .0, i, j))
 
   most : (q r w : ℕ) → answer ≡ Divided q r → (w ≤ q) ↔ (w * d ≤ n)
   most q r w e =

@@ -2,7 +2,7 @@
 use Rattle.words.specs.Words.{_≡_, ℕ, _≤_, _+_, _<_, true, _*_, _↔_}
 use Rattle.latency.specs.declared.WindowAnswer.{WindowAnswer}
 use Rattle.latency.specs.declared.WindowAnswer.the-variants.{Divided}
-use Rattle.latency.specs.Window.{dividend, divisor, allowed, windowOf}
+use Rattle.latency.specs.Window.{dividend, divisor, allowed, windowIn, windowOf}
 
 -- n divided by d is q, and r is left over
 pub record Division (n d q r : ℕ) : Type 0 where
@@ -10,8 +10,8 @@ pub record Division (n d q r : ℕ) : Type 0 where
   pub rest : r < d
 
 pub record WindowAnswered (budget bitrate E : ℕ) (answer : WindowAnswer) : Type 0 where
-  -- the answer, outright
-  pub outright : answer ≡ windowOf budget bitrate E
+  -- what the answer says, outright
+  pub outright : windowIn answer ≡ windowOf budget bitrate E
   -- Two numbers are given exactly where the three values are allowed and they are those of the division.
   pub divided : (q r : ℕ)
       → (answer ≡ Divided q r) ↔ ((allowed budget bitrate E ≡ true) × Division (dividend budget bitrate) (divisor E) q r)
