@@ -106,7 +106,7 @@ module _ (h : Header) (m : List ℕ) (count : ℕ) (lists : List ℕ) where
 
 -- ---- the packet
 
-symbols-of : (scheme : Scheme) (dt size : ℕ) (window : List (List ℕ)) (n : ℕ) → length window ≡ n → (ks : List ℕ)
+pub symbols-of : (scheme : Scheme) (dt size : ℕ) (window : List (List ℕ)) (n : ℕ) → length window ≡ n → (ks : List ℕ)
     → map (λ (cs : List ℕ). combination size cs window) (listsOf scheme dt n ks) ≡ map (repairSymbol scheme dt size window) ks
 unfolding repairSymbol
 symbols-of scheme dt size window n e [] = refl

@@ -70,6 +70,11 @@ abbrev pub answerOf : RepairAnswer → Answer
 answerOf (Made n draws) = Done n
 answerOf (NotMade n) = Refused n
 
+-- the draws; a refusal has none
+abbrev pub drawsIn : RepairAnswer → ℕ
+drawsIn (Made n draws) = draws
+drawsIn (NotMade n) = 0
+
 -- d are the draws of the lists from the key written on, over the symbols that the window has, and those that the packet of n bytes at the front of the
 -- output takes; both numbers are small, whatever the memory
 pub record Drew (key dt count : ℕ) (m out′ : List ℕ) (n d : ℕ) : Type 0 where
