@@ -5,7 +5,7 @@ use lib.Seq.{drop-at, getD-append-seam}
 use Rattle.history.specs.Symbol.{bytesOf, symbolOf}
 use Rattle.history.specs.History.{Filling, symbolsAt}
 use Rattle.history.proofs.Says.{bytes-symbol, length-at, getD-at}
-use Rattle.claims.specs.SenderRun.{AreSymbols}
+use Rattle.sender.specs.Claims.{AreSymbols}
 use Rattle.claims.specs.Carrying.{Carries}
 
 -- The bytes of a stretch of positions are the stretch of symbols that lies there.

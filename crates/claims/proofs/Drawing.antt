@@ -9,10 +9,10 @@ use Rattle.receiver.specs.Promises.{drawsFor}
 use Rattle.holding.specs.Layout.{headerOf}
 use Rattle.receiver.specs.Layout.{receiverLayout}
 use Rattle.holding.proofs.Headers.{setting-of}
-use Rattle.claims.specs.SenderRun.{symbolsOf}
+use Rattle.sender.specs.Run.{symbolsOf}
+use Rattle.sender.proofs.Running.{run-held}
 use Rattle.claims.specs.Drawing.{Accepted-draws, Made-draws}
 use Rattle.claims.proofs.Demand.{opened-stands, stands, had-setting}
-use Rattle.claims.proofs.Sending.{run-held}
 use Rattle.sender.specs.State as sender
 
 pub accepted-draws : Accepted-draws

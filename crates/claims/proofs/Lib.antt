@@ -1,5 +1,5 @@
 -- The modules of the proofs.
-pub mod Symbols
+pub mod Unopened
 pub mod Sending
 pub mod Adus
 pub mod Carrying

@@ -21,7 +21,10 @@ use Rattle.coefficients.specs.Coefficients.{coefficientsOf, keys, listsOf}
 use Rattle.coefficients.proofs.Lists.{length-keys}
 use Rattle.rows.specs.Combination.{combination}
 use Rattle.rows.proofs.Combinations.{length-combination}
-use Rattle.sender.specs.Repair.{repairSymbol}
+use Rattle.sender.specs.Run.{SenderCall, symbolsOf}
+use Rattle.sender.specs.Claims.{AreSymbols}
+use Rattle.sender.proofs.Running.{run-valid}
+use Rattle.sender.proofs.Symbols.{sender-symbols}
 use Rattle.history.specs.History.{Filling, Located, source, repair, first, Satisfied, All, Call, source-call, repair-call, esiOf, Reading, fails, located}
 use Rattle.history.specs.History.{workingSize, readPacket, reading, baseFor, joinedAt, Log, fresh, IsValue, readAfter, baseOf, logged, Judged, halfway}
 use Rattle.history.specs.History.{farthest}
@@ -29,12 +32,11 @@ use Rattle.wire.specs.Answers.{Said, value, refusal, said}
 use Rattle.receiver.specs.Promises.{Layout}
 use Rattle.history.proofs.Readings.{source-read, repair-read, reading-passed}
 use Rattle.history.proofs.Sides.{limits}
-use Rattle.claims.specs.SenderRun.{SenderCall, symbolsOf, AreSymbols, Packet, Wrote, wrote-source, wrote-repair}
+use Rattle.claims.specs.Written.{Packet, Wrote, wrote-source, wrote-repair}
 use Rattle.claims.specs.Run.{Step, read, goes-on, history}
 use Rattle.claims.specs.Carrying.{Carries}
 use Rattle.claims.specs.Reading.{ReadBy}
 use Rattle.claims.specs.Sent.{callOf, named, Near, Arrives, AsWritten, InReach, Peers, Sender-fills, Sent-accepted, Sent-behind, Sent-shown}
-use Rattle.claims.proofs.Sending.{run-size, sender-symbols}
 use Rattle.claims.proofs.Carrying.{stretch, filler, filler-carries}
 use Rattle.claims.proofs.Reading.{reads}
 
@@ -74,17 +76,10 @@ module _ (s : Setting) (z : 0 < s .size) (all : List (List ℕ)) where
   -- ---- The repair symbols of a window
 
   abbrev repairs : (window : List (List ℕ)) (key dt count : ℕ) → List (List ℕ)
-  repairs window key dt count = map (repairSymbol scheme dt E window) (keys key count)
+  repairs window key dt count = map (λ (c : List ℕ). combination E c window) (listsOf scheme dt (length window) (keys key count))
 
-  repairs-combine : (window : List (List ℕ)) (dt : ℕ) (ks : List ℕ)
-      → map (λ (c : List ℕ). combination E c window) (listsOf scheme dt (length window) ks) ≡ map (repairSymbol scheme dt E window) ks
-  unfolding repairSymbol
-  repairs-combine window dt [] = refl
-  repairs-combine window dt (k ∷ ks) =
-      ap (λ (l : List (List ℕ)). combination E (coefficientsOf scheme k dt (length window) .list) window ∷ l) (repairs-combine window dt ks)
-
-  keys-sized : (window : List (List ℕ)) (dt : ℕ) (ks : List ℕ) → Sized E (map (repairSymbol scheme dt E window) ks)
-  unfolding repairSymbol
+  keys-sized : (window : List (List ℕ)) (dt : ℕ) (ks : List ℕ)
+      → Sized E (map (λ (c : List ℕ). combination E c window) (listsOf scheme dt (length window) ks))
   keys-sized window dt [] = tt
   keys-sized window dt (k ∷ ks) = (length-combination E (coefficientsOf scheme k dt (length window) .list) window, keys-sized window dt ks)
 
@@ -92,7 +87,8 @@ module _ (s : Setting) (z : 0 < s .size) (all : List (List ℕ)) where
   repairs-sized window key dt count = keys-sized window dt (keys key count)
 
   repairs-count : (window : List (List ℕ)) (key dt count : ℕ) → length (repairs window key dt count) ≡ count
-  repairs-count window key dt count = length-map (keys key count) (repairSymbol scheme dt E window) ∙ length-keys key count
+  repairs-count window key dt count =
+      length-map (listsOf scheme dt (length window) (keys key count)) _ ∙ length-map (keys key count) _ ∙ length-keys key count
 
   -- ---- A packet near the base is satisfied by the sender's symbols
 
@@ -134,8 +130,7 @@ module _ (s : Setting) (z : 0 < s .size) (all : List (List ℕ)) where
           repairs-count window key dt count,
         )
         (ap (λ (x : List (List ℕ)). map (λ (l : List ℕ). combination E l x) (listsOf scheme dt m (keys key count)))
-        (stretch E join offset f before window after all e c (base + d) at here)
-        ∙ repairs-combine window dt (keys key count)))
+        (stretch E join offset f before window after all e c (base + d) at here)))
 
     pub written-satisfied : (x : Packet) (p : ℕ) → Wrote scheme E all x p → Near p (base + offset) → (q : Located) → readPacket s base (callOf x) ≡ located q
         → (join : ℕ) → join ≤ first q → (f : Filling E) → Carries E join offset all f → Satisfied E q f
@@ -273,7 +268,7 @@ module _ (t s : Setting) (l : List SenderCall) (k : Peers t s l) where
   all = symbolsOf (s .size) l
 
   pub peer-size : 4 ≤ s .size
-  peer-size = subst (λ n. 4 ≤ n) (k .size) (run-size t l (k .run))
+  peer-size = subst (λ n. 4 ≤ n) (k .size) (run-valid t l (k .run) .size-least)
 
   some-bytes : 0 < s .size
   some-bytes = omega (arith, peer-size)

@@ -20,14 +20,16 @@ use Rattle.wire.specs.Answers.{Said, value, refusal, said}
 use Rattle.starts.proofs.Chaining.{symbols-some}
 use Rattle.history.proofs.Says.{symbol-bytes, getD-at}
 use Rattle.history.proofs.Readings.{source-read, repair-read}
-use Rattle.claims.specs.SenderRun.{SenderCall, added, repaired, symbolsOf, Packet, Wrote}
+use Rattle.sender.specs.Run.{SenderCall, added, repaired, symbolsOf}
+use Rattle.sender.proofs.Running.{symbols-append}
+use Rattle.claims.specs.Written.{Packet, Wrote}
 use Rattle.claims.specs.Run.{Step, read, goes-on, history}
 use Rattle.claims.specs.Carrying.{Carries}
 use Rattle.claims.specs.Handing.{HoldsAdu}
 use Rattle.claims.specs.Sent.{callOf, Near, AsWritten, Peers}
 use Rattle.claims.specs.SentAdus.{Begins, Boundary, Sent, sent-source, sent-repair, AsSent, Start-gives, Junk-gives, Sent-written, Sent-starts}
 use Rattle.claims.specs.SentAdus.{Sent-handed}
-use Rattle.claims.proofs.Sending.{symbols-append, begun, begun-symbols, sent-wrote}
+use Rattle.claims.proofs.Sending.{begun, begun-symbols, sent-wrote}
 use Rattle.claims.proofs.Adus.{length-first, same-adu}
 use Rattle.claims.proofs.Carrying.{carried-stretch, stretch, Differ, differ}
 use Rattle.claims.proofs.Sent.{found-again, Rounds, arrived-satisfied, written-satisfied, peer-size, peer-symbols}

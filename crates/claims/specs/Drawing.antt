@@ -11,7 +11,7 @@ use Rattle.history.specs.History.{Call, repair-call}
 use Rattle.receiver.specs.Promises.{drawsFor, Opened, PacketAnswered}
 use Rattle.receiver.specs.Layout.{receiverLayout}
 use Rattle.claims.specs.Run.{Step, Run, final}
-use Rattle.claims.specs.SenderRun.{SenderCall, memoryAfter}
+use Rattle.sender.specs.Run.{SenderCall, memoryAfter}
 use Rattle.claims.specs.Sent.{Peers}
 
 -- After every list of packet calls from a fresh receiver, a packet call that accepts gives the draws that its packet takes with the scheme and E of the

@@ -1,4 +1,4 @@
-pub mod SenderRun
+pub mod Written
 pub mod Unopened
 pub mod Run
 pub mod Carrying

@@ -8,7 +8,8 @@ use Rattle.wire.specs.Answers.{Said, value, refusal, said}
 use Rattle.history.specs.History.{Filling, All, Call, source-call, repair-call, workingSize, Log, fresh, IsValue, readAfter, baseOf, logged, Judged, joinedAt}
 use Rattle.history.specs.History.{halfway, farthest}
 use Rattle.receiver.specs.Promises.{Layout, SymbolAnswered, PartShown}
-use Rattle.claims.specs.SenderRun.{SenderCall, SenderRun, symbolsOf, Packet, source, repair, Wrote}
+use Rattle.sender.specs.Run.{SenderCall, SenderRun, symbolsOf}
+use Rattle.claims.specs.Written.{Packet, source, repair, Wrote}
 use Rattle.claims.specs.Run.{Step, read, history}
 use Rattle.claims.specs.Carrying.{Carries}
 use Rattle.claims.specs.Demand.{esi, Demand-3}

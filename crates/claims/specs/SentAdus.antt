@@ -6,7 +6,8 @@ use Rattle.wire.specs.Packets.{symbolCount, sourceSymbols, sourcePacket}
 use Rattle.wire.specs.declared.Answer.the-variants.{Done}
 use Rattle.history.specs.History.{Filling, Located, All, Log, fresh, IsValue, baseOf, logged, Start}
 use Rattle.wire.specs.Answers.{said}
-use Rattle.claims.specs.SenderRun.{SenderCall, added, SenderRun, symbolsOf, Packet, source, repair, packetsOf, Wrote}
+use Rattle.sender.specs.Run.{SenderCall, added, SenderRun, symbolsOf}
+use Rattle.claims.specs.Written.{Packet, source, repair, packetsOf, Wrote}
 use Rattle.claims.specs.Run.{Step, read, history}
 use Rattle.claims.specs.Carrying.{Carries}
 use Rattle.claims.specs.Sent.{callOf, Arrives, AsWritten, Peers}
