@@ -34,7 +34,7 @@ use Rattle.sender.specs.Repair.{repairSymbol, writtenKey}
 use Rattle.sender.specs.Inner.{firstSlot, windowIn, Laid, symbolsFrom, packetFrom, PacketOr10, Packed}
 use Rattle.sender.proofs.Heads.{Opened, opened}
 use Rattle.sender.proofs.Promising.{promise-refused, promise-done}
-use Rattle.sender.proofs.Repairing.{length-stored, getD-stored, packet-of, written-small, repairing-draws, repairing-done}
+use Rattle.sender.proofs.Repairing.{in-range, length-stored, getD-stored, packet-of, written-small, repairing-draws, repairing-done}
 use Rattle.wire.specs.declared.Refusal.the-variants as refusals
 
 -- ---- one repair symbol
@@ -171,6 +171,9 @@ module _ (h : Header) (key dt count : ℕ) (m out : List ℕ) (o : headerIn m �
   abbrev written : ℕ
   written = writtenKey (h .setting .scheme) key dt
 
+  ranged : (dt ≤ 15) × (1 ≤ count) × (count ≤ 16)
+  ranged = in-range dt count g
+
   pub repairs : (h .held ≡ 0 → ⊥) → 8 + count * h .setting .size ≤ length out → (r : RepairAnswer) (out′ : List ℕ) → Packed h key dt count m out r out′
       → Repairs key dt count m out (answerOf r) out′
   repairs n room r out′ p = go (allOk (h .setting .scheme) dt (h .held) (keys written count)) refl p
@@ -193,9 +196,9 @@ module _ (h : Header) (key dt count : ℕ) (m out : List ℕ) (o : headerIn m �
           )))
 
   -- and the draws
-  pub repair-made : key < 2 ^ 16 → dt ≤ 15 → count ≤ 16 → (h .held ≡ 0 → ⊥) → 8 + count * h .setting .size ≤ length out
+  pub repair-made : key < 2 ^ 16 → (h .held ≡ 0 → ⊥) → 8 + count * h .setting .size ≤ length out
       → (r : RepairAnswer) (out′ : List ℕ) → Packed h key dt count m out r out′ → RepairMade key dt count m out r out′
-  repair-made k d c n room r out′ p =
+  repair-made k n room r out′ p =
       record { repairs = repairs n room r out′ p; draws = go (allOk (h .setting .scheme) dt (h .held) (keys written count)) p }
     where
       says : Opened m h
@@ -205,10 +208,10 @@ module _ (h : Header) (key dt count : ℕ) (m out : List ℕ) (o : headerIn m �
       held = omega (arith, says .held, says .valid .width-most)
 
       few : drawsOf (h .setting .scheme) dt (h .held) (keys written count) ≤ 69360
-      few = packet-draws-most (h .setting .scheme) dt (h .held) held (keys written count) (rw (length-keys written count) c)
+      few = packet-draws-most (h .setting .scheme) dt (h .held) held (keys written count) (rw (length-keys written count) (ranged .2))
 
       short : 8 + count * h .setting .size ≤ 24008
-      short = omega (arith, mul-le-mul c (says .valid .size-most))
+      short = omega (arith, mul-le-mul (ranged .2) (says .valid .size-most))
 
       go : (b : Bool) → PacketOr10 b h written dt count m out r out′ → Draws key dt count m out′ r
       go false q = rw (q .0) tt
@@ -221,7 +224,7 @@ module _ (h : Header) (key dt count : ℕ) (m out : List ℕ) (o : headerIn m �
             lists = λ h′ e. rw (← same h′ e);
             packet = λ h′ e.
                 rw (← same h′ e, q .1, t)
-                (sym (draws-packet h m written dt count z (written-small (h .setting .scheme) key dt k) (omega arith) (omega (arith, held))));
+                (sym (draws-packet h m written dt count z (written-small (h .setting .scheme) key dt k) (omega (arith, ranged .0)) (omega (arith, held))));
             small = (short, few);
           })
 

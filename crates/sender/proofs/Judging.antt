@@ -12,7 +12,7 @@ use Rattle.wire.specs.declared.Scheme.the-variants.{Gf2, Gf256}
 use Rattle.wire.specs.declared.Setting.{Setting}
 use Rattle.wire.specs.Numbers.{within}
 use Rattle.wire.specs.Settings.{schemeNumber, schemeOf, inRange, settingOf, Valid}
-use Rattle.wire.specs.Packets.{longestAdu, symbolCount}
+use Rattle.wire.specs.Packets.{symbolCount}
 use Rattle.wire.proofs.Adui.{room, least}
 use Rattle.wire.proofs.Settings.{within-true, within-bounds, setting-names}
 use Rattle.wire.specs.declared.Answer.{Answer}
@@ -52,11 +52,11 @@ not-so true n = absurd (n refl)
 not-so false n = refl
 
 -- DT and count
-in-range : (dt count : ℕ) → Ranged dt count → (ltb 15 dt || not (within 1 16 count)) ≡ false
-in-range dt count k = rw (le-ltb 15 dt (k .0), within-true 1 16 count (k .1) (k .2))
+passes-range : (dt count : ℕ) → Ranged dt count → (ltb 15 dt || not (within 1 16 count)) ≡ false
+passes-range dt count k = rw (le-ltb 15 dt (k .0), within-true 1 16 count (k .1) (k .2))
 
-out-of-range : (dt count : ℕ) → ¬ Ranged dt count → (ltb 15 dt || not (within 1 16 count)) ≡ true
-out-of-range dt count n =
+fails-range : (dt count : ℕ) → ¬ Ranged dt count → (ltb 15 dt || not (within 1 16 count)) ≡ true
+fails-range dt count n =
     below 15 dt (λ l. rw (lt-ltb 15 dt l))
     (λ l. let w : within 1 16 count ≡ false = not-so _ (λ e. let b = within-bounds 1 16 count e in n (l, b .0, b .1)) in rw (le-ltb 15 dt l, w))
 
@@ -87,9 +87,11 @@ module _ (t : Setting) (v : Valid t) (xs : List (List ℕ)) where
       let f = p .follows holding h in
       record {
         long = λ n. refuses 4 o m m′ out out′ r (too-long n) f;
-        short = λ k l. refuses 2 o m m′ out out′ r (adding-short flow adu (length out) holding (headerOf holding) refl (omega (arith, k .0)) (few k) l) f;
+        short = λ k l.
+            refuses 2 o m m′ out out′ r
+            (adding-short flow adu (length out) holding (headerOf holding) refl (omega (arith, k .0)) (omega (arith, few k)) l) f;
         takes = λ k l.
-            let e = adding-done flow adu (length out) holding (headerOf holding) refl (omega (arith, k .0)) (few k) l in
+            let e = adding-done flow adu (length out) holding (headerOf holding) refl (omega (arith, k .0)) (omega (arith, few k)) l in
             let g = subst (λ x. Follows x m out r m′ out′) e f in
             (writes _ _ m m′ out out′ r g, record { same = g .length; past = g .past });
       }
@@ -102,10 +104,10 @@ module _ (t : Setting) (v : Valid t) (xs : List (List ℕ)) where
 
       too-long : ¬ Takeable t adu → adding holding flow adu (length out) ≡ refused 4
       too-long n =
-          below longestAdu (length adu) (λ l. adding-long flow adu (length out) holding l)
+          below 65535 (length adu) (λ l. adding-long flow adu (length out) holding (omega arith))
           (λ l. below (t .width) (symbolCount (t .size) (length adu))
-          (λ k. adding-many flow adu (length out) holding (headerOf holding) refl l k)
-          (λ k. absurd (n (omega arith, few-fits (t .size) (t .width) (length adu) z k))))
+          (λ k. adding-many flow adu (length out) holding (headerOf holding) refl (omega arith) (omega arith))
+          (λ k. absurd (n (l, few-fits (t .size) (t .width) (length adu) z k))))
 
   -- ---- making repair
 
@@ -150,10 +152,10 @@ module _ (t : Setting) (v : Valid t) (xs : List (List ℕ)) where
   repairs-judged key dt count m out r out′ h p =
       let o = repairing holding key dt count (length out) in
       let f = p .repairs .follows holding h in
-      let g = in-range dt count in
+      let g = passes-range dt count in
       let i = headerOf holding in
       record {
-        range = λ n. refuses 6 o m m out out′ (answerOf r) (repairing-range key dt count (length out) holding (out-of-range dt count n)) f;
+        range = λ n. refuses 6 o m m out out′ (answerOf r) (repairing-range key dt count (length out) holding (fails-range dt count n)) f;
         empty = λ k e. refuses 7 o m m out out′ (answerOf r) (repairing-empty key dt count (length out) holding (g k) i refl (window-empty e)) f;
         short = λ k e l. refuses 2 o m m out out′ (answerOf r) (repairing-short key dt count (length out) holding (g k) i refl (window-some e) l) f;
         zeros = λ k e l d. refuses 10 o m m out out′ (answerOf r)

@@ -2,12 +2,13 @@
 -- comes to.
 use Rattle.words.specs.Words.{_≡_, arith, ℕ, _≤_, _+_, List, length, _<_, refl, _∙_, sym, ap, _-_, [], _%_, suc, true, zero, _*_, getD, false, Bool, _^_, cond}
 use Rattle.words.specs.Words.{ltb, eqb, add-zero, ne-eqb, lt-ltb, mod-eq-of-lt, not-suc-le-zero, mod-add-mod, eq-eqb, le-of-suc-le-suc, lit<, le-ltb, _||_, not}
-use Rattle.words.specs.Words.{min, getD-drop, add-mod-right, ext-getD}
+use Rattle.words.specs.Words.{min, getD-drop, add-mod-right, ext-getD, ltb-false, not-false}
 use native.Mathlib.Nat.{add-mod-left}
 use Rattle.memory.specs.Part.{part}
 use Rattle.wire.specs.declared.Scheme.{Scheme}
 use Rattle.wire.specs.declared.Scheme.the-variants.{Gf2, Gf256}
 use Rattle.wire.specs.Numbers.{within, esiBefore}
+use Rattle.wire.proofs.Settings.{within-bounds}
 use Rattle.coefficients.specs.Coefficients.{keys, allOk}
 use Rattle.sender.specs.declared.Header.{Header}
 use Rattle.sender.specs.State.{Sender, window, windowStart, headerSize, headerOf, Holds}
@@ -74,15 +75,26 @@ module _ (m : List ℕ) (s : Sender) (h : Holds m s) where
 -- ---- the key that is written
 
 -- it has 16 bits too
+zero-or : (b : Bool) (key : ℕ) → key < 2 ^ 16 → cond b 0 key < 2 ^ 16
+zero-or true key h = lit< tt
+zero-or false key h = h
+
 pub written-small : (scheme : Scheme) (key dt : ℕ) → key < 2 ^ 16 → writtenKey scheme key dt < 2 ^ 16
-written-small Gf2 key dt h = go (eqb dt 15)
-  where
-    go : (b : Bool) → cond b 0 key < 2 ^ 16
-    go true = lit< tt
-    go false = h
+written-small Gf2 key dt h = zero-or (eqb dt 15) key h
 written-small Gf256 key dt h = h
 
 -- ---- the outcome, by what the header says
+
+-- DT and count passed their test
+pub in-range : (dt count : ℕ) → (ltb 15 dt || not (within 1 16 count)) ≡ false → (dt ≤ 15) × (1 ≤ count) × (count ≤ 16)
+in-range dt count e =
+    let r = neither (ltb 15 dt) (not (within 1 16 count)) e in
+    let w = within-bounds 1 16 count (not-false (within 1 16 count) (r .1)) in
+    (ltb-false 15 dt (r .0), w .0, w .1)
+  where
+    neither : (a b : Bool) → (a || b) ≡ false → (a ≡ false) × (b ≡ false)
+    neither true b e = (e, cc)
+    neither false b e = (refl, e)
 
 module _ (key dt count room : ℕ) (s : Sender) where
   pub repairing-range : (ltb 15 dt || not (within 1 16 count)) ≡ true → repairing s key dt count room ≡ refused 6
@@ -109,11 +121,9 @@ module _ (key dt count room : ℕ) (s : Sender) where
         pub repairing-draws : allOk (h .setting .scheme) dt (h .held) (keys (writtenKey (h .setting .scheme) key dt) count) ≡ false
             → repairing s key dt count room ≡ refused 10
         unfolding repairing
-        repairing-draws d =
-            rw (g, ne-eqb (length (window s)) 0 some-held, le-ltb room (8 + count * s .setting .size) (rw q at l), rw q at d)
+        repairing-draws d = rw (g, ne-eqb (length (window s)) 0 some-held, le-ltb room (8 + count * s .setting .size) (rw q at l), rw q at d)
 
         pub repairing-done : allOk (h .setting .scheme) dt (h .held) (keys (writtenKey (h .setting .scheme) key dt) count) ≡ true
             → repairing s key dt count room ≡ done (repairOf s (writtenKey (h .setting .scheme) key dt) dt count) s
         unfolding repairing
-        repairing-done d =
-            rw (g, ne-eqb (length (window s)) 0 some-held, le-ltb room (8 + count * s .setting .size) (rw q at l), rw q at d) (rw q)
+        repairing-done d = rw (g, ne-eqb (length (window s)) 0 some-held, le-ltb room (8 + count * s .setting .size) (rw q at l), rw q at d) (rw q)

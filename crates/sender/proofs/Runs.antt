@@ -14,7 +14,7 @@ use Rattle.wire.specs.Settings.{schemeNumber, Valid, settingBytes}
 use Rattle.wire.specs.Packets.{longestAdu, symbolCount, sourceSymbols, sourcePacket}
 use Rattle.wire.proofs.Adui.{symbols-count, symbol-length}
 use Rattle.wire.proofs.Reading.{source-length}
-use Rattle.wire.proofs.Settings.{within-bounds, setting-named}
+use Rattle.wire.proofs.Settings.{setting-named}
 use Rattle.wire.specs.declared.Answer.{Answer}
 use Rattle.wire.specs.declared.Answer.the-variants.{Done, Refused}
 use Rattle.coefficients.specs.Coefficients.{keys, allOk, drawsOf}
@@ -112,17 +112,17 @@ module _ (m : List ℕ) (s : Sender) (held : Holds m s) where
           → ((u : Sender) → Holds m u → h ≡ headerOf u → calls.repairing u key dt count (length out) ≡ calls.refused (numberOf n)) → Repaired key dt count out
       refused n z g = record { answer = NotMade n; output = out; made = refused-made key dt count m out n (promise-refused _ m out h o n z g) }
 
-      drawn : (g : (ltb 15 dt || not (within 1 16 count)) ≡ false) → dt ≤ 15 → count ≤ 16 → (h .held ≡ 0 → ⊥) → 8 + count * h .setting .size ≤ length out
+      drawn : (g : (ltb 15 dt || not (within 1 16 count)) ≡ false) → (h .held ≡ 0 → ⊥) → 8 + count * h .setting .size ≤ length out
           → (b : Bool) → allOk (h .setting .scheme) dt (h .held) (keys (writtenKey (h .setting .scheme) key dt) count) ≡ b → Repaired key dt count out
-      drawn g l c n r true e = record {
+      drawn g n r true e = record {
         answer = Made (8 + count * h .setting .size) (drawsOf (h .setting .scheme) dt (h .held) (keys (writtenKey (h .setting .scheme) key dt) count));
         output = splice 0 (packetFrom h m (writtenKey (h .setting .scheme) key dt) dt count) out;
-        made = repair-made h key dt count m out o g small l c n r _ _ (rw e (refl, refl));
+        made = repair-made h key dt count m out o g small n r _ _ (rw e (refl, refl));
       }
-      drawn g l c n r false e = record {
+      drawn g n r false e = record {
         answer = NotMade refusals.Draws;
         output = out;
-        made = repair-made h key dt count m out o g small l c n r _ _ (rw e (refl, refl));
+        made = repair-made h key dt count m out o g small n r _ _ (rw e (refl, refl));
       }
 
       go : (b : Bool) → within 1 16 count ≡ b → dt ≤ 15 → Repaired key dt count out
@@ -132,7 +132,7 @@ module _ (m : List ℕ) (s : Sender) (held : Holds m s) where
           below 0 (h .held)
           (λ i. below (length out) (8 + count * h .setting .size)
           (λ r. refused refusals.Short (λ z. omega arith) (λ u k q. repairing-short key dt count (length out) u g h q (λ z. omega arith) r))
-          (λ r. drawn g l (within-bounds 1 16 count e .1) (λ z. omega arith) r _ refl))
+          (λ r. drawn g (λ z. omega arith) r _ refl))
           (λ i. refused refusals.Empty (λ z. omega arith) (λ u k q. repairing-empty key dt count (length out) u g h q (omega arith)))
 
 runs : (gs : List Given) → OfBytes gs → (m : List ℕ) (s : Sender) → Holds m s → (l : List SenderCall) × Calls m l × (map given l ≡ gs)

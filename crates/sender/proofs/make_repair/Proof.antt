@@ -103,7 +103,7 @@ returns-6 c =
     let p = read r in
     let a = start r .args in
     repair-made (header p) (a .key .0) (a .dt) (a .count) (a .mem .now) (a .out .now) (has p) (ranged r) (keyed (start r))
-    (r .before .before .if1 .left) (few r) (some .if3 .left) (roomy .if4 .left) _ _ (c .before .before .write-packet .ensures)
+    (some .if3 .left) (roomy .if4 .left) _ _ (c .before .before .write-packet .ensures)
 
 pub make-repair-spec : {M : Type 1} → statement M
 make-repair-spec =
