@@ -11,9 +11,9 @@
 --   at-base: what the two calls find at the ESI of the position b + d
 --   symbol, found, here, exactly, value-is, opened-stands
 --   had-setting: an opening that answers 0 had a setting
---   demand-3, no-choice
-use Rattle.words.specs.Words.{_≡_, arith, ℕ, _≤_, _+_, List, length, _<_, refl, _∙_, sym, ap, [], some, _%_, _∷_, none, _++_, subst, Option, _^_, ap₂, _↔_}
-use Rattle.words.specs.Words.{Option·some-injective, Option·none-ne-some, map, decLt, _⊎_, inr, inl, now, RefT}
+--   demand-3
+use Rattle.words.specs.Words.{_≡_, arith, ℕ, _≤_, _+_, List, length, _<_, refl, _∙_, sym, ap, [], some, _%_, _∷_, none, _++_, subst, Option, _^_, _↔_}
+use Rattle.words.specs.Words.{Option·some-injective, Option·none-ne-some, decLt, _⊎_, inr, inl, now, RefT}
 use mathlib.Core.Logic.{Iff·trans}
 use Rattle.wire.specs.declared.Setting.{Setting}
 use Rattle.wire.specs.Settings.{settingOf, Valid}
@@ -21,18 +21,17 @@ use Rattle.wire.proofs.Settings.{setting-names}
 use Rattle.decoder.specs.Model.{known}
 use Rattle.wire.specs.declared.Answer.{Answer}
 use Rattle.history.specs.Symbol.{Symbol, bytesOf}
-use Rattle.history.specs.History.{IsValue, Located, Filling, All, Known, located, reading, Log, fresh, OfBytes, esiOf, baseOf, readAfter, logged, Judged}
+use Rattle.history.specs.History.{IsValue, Located, Filling, All, Known, located, reading, Log, fresh, OfBytes, esiOf, baseOf, logged, Judged}
 use Rattle.history.specs.History.{halfway}
 use Rattle.wire.specs.Answers.{value, refusal, said}
 use Rattle.history.specs.Model.{Joined, State, opened, foundBy, Outcome, refused, done, saidOf, stateAfter, responds, answering, receiving, Finding, shows}
 use Rattle.history.specs.Model.{hides, shown, finding}
 use Rattle.receiver.specs.Promises.{Layout, opening, Opened, Follows, Received, Finds, SymbolAnswered, Shows, PartShown}
 use Rattle.history.proofs.Answers.{Tracks, TracksFrom, Passes, baseIn, base-found, judged, known-exactly, known-value, tracks-consistent, fresh-tracks}
-use Rattle.history.proofs.Counting.{judged-once}
 use Rattle.history.proofs.Readings.{reading-passes}
 use Rattle.history.proofs.Sides.{limits, found-inside, found-past, found-behind}
 use Rattle.claims.specs.Run.{Step, Run, final, read, goes-on, history}
-use Rattle.claims.specs.Demand.{esi, ShownExactly, HiddenBefore, HiddenOutside, Demand-3, Every-list, Alike, No-choice}
+use Rattle.claims.specs.Demand.{esi, ShownExactly, HiddenBefore, HiddenOutside, Demand-3, Every-list}
 use Rattle.decoder.specs.Receiver as decoder
 
 module _ (L : Layout) (s : Setting) (v : Valid s) where
@@ -225,30 +224,3 @@ demand-3 L scheme E w m₀ m a p e ts r =
     let (s, h) = had-setting (settingOf scheme E w) (length m₀) (sym (p .answer) ∙ e) in
     let v = setting-names scheme E w s h .valid in
     (s, h, demand L s v m (opened-stands L s v scheme E w m₀ m a p e h) ts r)
-
--- ---- No choice
-
-judged-from : Setting → Log → List Step → Type 0
-judged-from s l ts =
-    (before : List Step) (t : Step) (after : List Step) → ts ≡ before ++ (t ∷ after)
-    → Judged s (goes-on s l before) (read s (goes-on s l before) t) (said (t .answer))
-
-alike : (s : Setting) (ts us : List Step) (l : Log) → Alike ts us → judged-from s l ts → judged-from s l us
-    → map (λ t. said (t .answer)) ts ≡ map (λ u. said (u .answer)) us
-unfolding judged-from
-alike s [] [] l e f g = refl
-alike s [] (u ∷ us) l e f g = absurd e
-alike s (t ∷ ts) [] l e f g = absurd e
-alike s (t ∷ ts) (u ∷ us) l e f g =
-    let same : read s l t ≡ read s l u = ap₂ (λ c n. readAfter s l n c) (e .0) (e .1) in
-    let one : said (t .answer) ≡ said (u .answer) =
-    judged-once s l (read s l u) _ _ (subst (λ r. Judged s l r (said (t .answer))) same (f [] t ts refl)) (g [] u us refl) in
-    let on : logged s l (read s l t) (said (t .answer)) ≡ logged s l (read s l u) (said (u .answer)) = ap₂ (λ r a. logged s l r a) same one in
-    let rest = alike s ts us (logged s l (read s l u) (said (u .answer))) (e .2)
-    (subst (λ x. judged-from s x ts) on (λ before v after p. f (t ∷ before) v after (ap (λ x. t ∷ x) p)))
-    (λ before v after p. g (u ∷ before) v after (ap (λ x. u ∷ x) p)) in
-    ap₂ (λ a as′. a ∷ as′) one rest
-
-pub no-choice : No-choice
-unfolding judged-from
-no-choice s ts us e f g = alike s ts us fresh e f g

@@ -19,7 +19,8 @@ use Rattle.history.proofs.Readings.{check-passed, source-read, reading-passed}
 use Rattle.history.proofs.Starting.{start-spanned}
 use Rattle.claims.specs.Run.{Step, read, goes-on, history}
 use Rattle.claims.specs.Demand.{esi}
-use Rattle.claims.specs.Handing.{HoldsAdu, Handed-out, Goes-on, Heard, Heard-handed}
+use Rattle.claims.specs.Handing.{HoldsAdu, Handed-out}
+use Rattle.claims.specs.Heard.{Goes-on, Heard, Heard-handed}
 use Rattle.claims.proofs.SentAdus.{first-here, length-here}
 
 module _ (s : Setting) where

@@ -4,6 +4,7 @@ pub mod Sending
 pub mod Adus
 pub mod Carrying
 pub mod Demand
+pub mod NoChoice
 pub mod Placing
 pub mod Handing
 pub mod Reading
@@ -15,3 +16,4 @@ pub mod NotEmpty
 pub mod Drawing
 pub mod ReceiverUnopened
 pub mod Receiver
+pub mod Consequences

@@ -1,5 +1,5 @@
 -- Demand 3: what is claimed of every list of packet calls from a fresh receiver.
-use Rattle.words.specs.Words.{_≡_, ℕ, _≤_, _+_, List, length, _<_, [], some, _%_, _∷_, none, getD, _++_, _^_, _↔_, map, _⊎_, now, RefT}
+use Rattle.words.specs.Words.{_≡_, ℕ, _≤_, _+_, List, length, _<_, [], some, _%_, _∷_, none, getD, _++_, _^_, _↔_, _⊎_, now, RefT}
 use Rattle.wire.specs.declared.Setting.{Setting}
 use Rattle.wire.specs.Settings.{settingOf}
 use Rattle.wire.specs.declared.Answer.{Answer}
@@ -69,16 +69,3 @@ Every-list L =
     (scheme E w : ℕ) (m₀ m : List ℕ) (a : Answer) → Opened L scheme E w m₀ m a → said a ≡ value 0
     → (ts : List Step) → Run L m ts
     → (s : Setting) × (settingOf scheme E w ≡ some s) × Demand-3 L s ts (final m ts)
-
--- The same calls: packets, flows, and as much working memory.
-abbrev pub Alike : List Step → List Step → Type 0
-Alike [] [] = Unit {0}
-Alike [] (u ∷ us) = ⊥
-Alike (t ∷ ts) [] = ⊥
-Alike (t ∷ ts) (u ∷ us) = (t .call ≡ u .call) × (length (t .working) ≡ length (u .working)) × Alike ts us
-
--- Demand 3 leaves a receiver no choice: two that meet it answer the same calls alike.
-abbrev pub No-choice : Type 0
-No-choice =
-    (s : Setting) (ts us : List Step) → Alike ts us → Answered s ts → Answered s us
-    → map (λ t. said (t .answer)) ts ≡ map (λ u. said (u .answer)) us

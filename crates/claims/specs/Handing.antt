@@ -1,18 +1,17 @@
--- Handing out an ADU: what is claimed of the ADU call after every list of packet calls from a fresh receiver, and that positions become starts.
-use Rattle.words.specs.Words.{_≡_, ℕ, _≤_, _+_, List, length, _<_, some, _∷_, true, none, _++_, Bool, drop, _^_, _↔_}
+-- Handing out an ADU: what is claimed of the ADU call after every list of packet calls from a fresh receiver.
+use Rattle.words.specs.Words.{_≡_, ℕ, _≤_, _+_, List, length, _<_, some, true, none, _++_, Bool, drop, _^_, _↔_}
 use Rattle.wire.specs.declared.Setting.{Setting}
-use Rattle.wire.specs.Settings.{settingOf, Valid}
-use Rattle.wire.specs.Packets.{longestAdu, symbolCount, sourceSymbols, sourceAdu}
+use Rattle.wire.specs.Settings.{settingOf}
+use Rattle.wire.specs.Packets.{longestAdu, symbolCount, sourceSymbols}
 use Rattle.starts.specs.declared.Handed.{Handed}
 use Rattle.starts.specs.declared.Handed.the-variants.{Adu}
 use Rattle.starts.specs.Adu.{View, withholds, handing, HandedAs}
 use Rattle.wire.specs.declared.Answer.{Answer}
 use Rattle.history.specs.Symbol.{bytesOf}
 use Rattle.wire.specs.Answers.{value, said}
-use Rattle.history.specs.History.{Filling, symbolsAt, Located, first, All, Consistent, Known, source-call, located, Log, IsValue, baseOf, MarkedBy, Start}
-use Rattle.history.specs.History.{halfway}
+use Rattle.history.specs.History.{Filling, symbolsAt, Located, All, Known, Log, baseOf, Start, halfway}
 use Rattle.receiver.specs.Promises.{Layout, Opened, AduAnswered}
-use Rattle.claims.specs.Run.{Step, Run, final, read, history}
+use Rattle.claims.specs.Run.{Step, Run, final, history}
 use Rattle.claims.specs.Demand.{esi}
 
 module _ (s : Setting) where
@@ -66,33 +65,3 @@ Hands-out L =
     (scheme E w : ℕ) (m₀ m : List ℕ) (a : Answer) → Opened L scheme E w m₀ m a → said a ≡ value 0
     → (ts : List Step) → Run L m ts
     → (s : Setting) × (settingOf scheme E w ≡ some s) × Handing-told L s (final m ts) (history s ts)
-
--- ---- Positions become starts
-
--- Where a start has an ADU's symbols in every filling, inside the window, the position after its last symbol is a start too. Some filling satisfies the
--- accepted packets by demand 3.
-abbrev pub Goes-on : Type 0
-Goes-on =
-    (s : Setting) → Valid s → (ts : List Step) → Consistent (s .size) (history s ts) → (b : ℕ) → baseOf s (history s ts) ≡ some b
-    → (p flow : ℕ) (adu : List ℕ) → Start s (history s ts) p → HoldsAdu s (history s ts) b p flow adu
-    → Start s (history s ts) (p + symbolCount (s .size) (length adu))
-
--- The first position of an accepted source packet, and the one after its last, are starts as long as the base has not passed them, whatever packets
--- are accepted later.
-abbrev pub Heard : Type 0
-Heard =
-    (s : Setting) (ts : List Step) (later earlier : List Located) (q : Located) → history s ts ≡ later ++ (q ∷ earlier)
-    → (p : ℕ) → MarkedBy s q p → (b : ℕ) → baseOf s (history s ts) ≡ some b → b ≤ p → Start s (history s ts) p
-
--- So where a source packet's call answered a count, the ADU call at its first position hands out its ADU with its flow, where output has room: as long
--- as the base has not passed that position, whatever calls come after.
-abbrev pub Heard-handed : Layout → Type 0
-Heard-handed L =
-    (s : Setting) → Valid s → (before : List Step) (t : Step) (after : List Step) (m : List ℕ)
-    → let l = history s (before ++ (t ∷ after)) in
-    (b : ℕ) → baseOf s l ≡ some b → Handed-out L s m l b
-    → (flow : ℕ) (packet : List ℕ) (q : Located) → t .call ≡ source-call flow packet → read s (history s before) t ≡ located q → IsValue (said (t .answer))
-    → b ≤ first q
-    → (out out′ : List ℕ) (a : Handed) → AduAnswered L m (esi (first q)) out out′ a
-    → let adu = sourceAdu packet in
-    length adu ≤ length out → (a ≡ Adu flow (length adu)) × (out′ ≡ adu ++ drop (length adu) out)

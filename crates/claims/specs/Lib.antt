@@ -3,13 +3,16 @@ pub mod Unopened
 pub mod Run
 pub mod Carrying
 pub mod Demand
+pub mod NoChoice
 pub mod Placing
 pub mod Sent
 pub mod Reading
 pub mod NotEmpty
 pub mod ReceiverUnopened
 pub mod Receiver
+pub mod Consequences
 pub mod Handing
+pub mod Heard
 pub mod SentAdus
 pub mod Drawing
 pub mod Joining

@@ -1,0 +1,36 @@
+-- And so does what is proved of it besides.
+use Rattle.receiver.specs.Layout.{receiverLayout}
+use Rattle.claims.specs.Consequences.{Receiver-consequences}
+use Rattle.claims.proofs.NoChoice.{no-choice}
+use Rattle.claims.proofs.Joining.{joins, unmarked}
+use Rattle.claims.proofs.Placing.{every-place}
+use Rattle.claims.proofs.Sent.{sender-fills, sent-accepted, sent-behind, sent-shown}
+use Rattle.claims.proofs.Sending.{sender-sends}
+use Rattle.claims.proofs.SentAdus.{start-gives, junk-gives, sent-written, sent-starts, sent-handed}
+use Rattle.claims.proofs.Heard.{chain-goes-on, heard, heard-handed}
+use Rattle.claims.proofs.NotEmpty.{runs-exist}
+use Rattle.claims.proofs.Drawing.{accepted-draws, made-draws}
+
+pub receiver-consequences : Receiver-consequences
+receiver-consequences = record {
+  no-choice = no-choice;
+  runs-exist = runs-exist;
+  joins = joins receiverLayout;
+  unmarked = unmarked;
+  places = every-place receiverLayout;
+  goes-on = chain-goes-on;
+  heard = heard;
+  heard-handed = heard-handed receiverLayout;
+  sender-fills = sender-fills;
+  sent-accepted = sent-accepted;
+  sent-behind = sent-behind;
+  sent-shown = sent-shown receiverLayout;
+  sender-sends = sender-sends;
+  start-gives = start-gives;
+  junk-gives = junk-gives;
+  sent-written = sent-written;
+  sent-starts = sent-starts;
+  sent-handed = sent-handed;
+  accepted-draws = accepted-draws;
+  made-draws = made-draws;
+}
