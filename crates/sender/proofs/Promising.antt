@@ -44,7 +44,13 @@ module _ (f : Sender → Outcome) (m out : List ℕ) where
     pub promise-refused : (n : Refusal) → (numberOf n ≡ 3 → ⊥) → ((s : Sender) → Holds m s → h ≡ headerOf s → f s ≡ refused (numberOf n))
         → Promise f m out (Refused n) m out
     promise-refused n z g =
-        promise-opened (Refused n) m out (record { memory = record { same = refl; past = refl }; output = refl; leaves = (z, refl, refl) })
+        promise-opened (Refused n) m out
+        (record {
+          memory = record { same = refl; past = refl };
+          output = refl;
+          leaves = (z, refl, refl);
+          fits = λ x e. absurd (let i : _≡_ {A = ℕ} 0 1 = cc in omega arith);
+        })
         (λ s k q. rw (g s k q) (kept n m out))
 
     -- a packet of n bytes was written
@@ -58,6 +64,7 @@ module _ (f : Sender → Outcome) (m out : List ℕ) where
           memory = record { same = same; past = past };
           output = rw o (length-splice 0 packet out (omega arith));
           leaves = rw o (past-splice n 0 packet out (omega arith) (omega arith));
+          fits = λ x e. let i : n ≡ x = cc in omega arith;
         })
         (λ s c q.
         let (s′, d, holds, t) = g s c q in

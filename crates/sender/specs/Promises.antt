@@ -39,11 +39,13 @@ abbrev pub Leaves : Said → (m out m′ out′ : List ℕ) → Type 0
 Leaves (value n) m out m′ out′ = drop n out′ ≡ drop n out
 Leaves (refusal n) m out m′ out′ = (n ≡ 3 → ⊥) × (m′ ≡ m) × (out′ ≡ out)
 
--- memory and output keep their lengths, memory past the size that the header's setting needs is as it was, and so is what the answer leaves
+-- memory and output keep their lengths, memory past the size that the header's setting needs is as it was, and so is what the answer leaves; output has
+-- room for the bytes written
 pub record Kept (h : Header) (m out : List ℕ) (r : Answer) (m′ out′ : List ℕ) : Type 0 where
   pub memory : Contained (memorySize (h .setting)) m m′
   pub output : length out′ ≡ length out
   pub leaves : Leaves (said r) m out m′ out′
+  pub fits : (n : ℕ) → said r ≡ value n → n ≤ length out
 
 -- a call that comes to f of the sender, on any memory: refusal 3 where it has no sender's header; kept where it has one; and f where it holds a sender
 pub record Promise (f : Sender → Outcome) (m out : List ℕ) (r : Answer) (m′ out′ : List ℕ) : Type 0 where
