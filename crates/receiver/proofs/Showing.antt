@@ -1,6 +1,7 @@
 -- From what is found in the memory to what the symbol calls promise.
-use Rattle.words.specs.Words.{_≡_, ℕ, List, refl, _∙_, sym, ap, [], none, subst, RefT, now, inl, inr}
+use Rattle.words.specs.Words.{_≡_, arith, ℕ, List, length, refl, _∙_, sym, ap, [], none, subst, RefT, now, inl, inr}
 use Rattle.memory.specs.Part.{LiesAt}
+use Rattle.memory.proofs.Parts.{length-part}
 use Rattle.wire.specs.declared.Refusal.{Refusal}
 use Rattle.wire.specs.Numbers.{numberOf}
 use Rattle.wire.specs.declared.Answer.the-variants.{Done, Refused}
@@ -22,6 +23,7 @@ module _ (m : List ℕ) (e : ℕ) where
   found-answers : (a n : ℕ) → Spotted m e (At a n) → SymbolAnswered receiverLayout m e (Done 0)
   found-answers a n f = record {
     unopened = ((λ z. absurd (subst IsValue z tt)), (λ z. absurd (subst IsNowhere (sym (f .unopened z)) tt)));
+    zero = λ x z. let i : 0 ≡ x = cc in omega arith;
     finds = λ s t k. let (p, v, x, c, y, z) = f .told s t k in subst (λ o. Finds receiverLayout o (Done 0)) (sym x) refl;
   }
 
@@ -31,6 +33,7 @@ module _ (m : List ℕ) (e : ℕ) where
       (λ z. by-header m (headerIn m ≡ none) (λ h k. absurd (f .lies h k (ap number z))) (λ k. k)),
       (λ z. ap (λ (y : Spot). refusal (reason y)) (f .unopened z)),
     );
+    zero = λ y z. absurd (subst IsValue (sym z) tt);
     finds = λ s t k. subst (λ o. Finds receiverLayout o (Refused x)) (sym (f .told s t k)) refl;
   }
     where
@@ -51,6 +54,7 @@ module _ (mem r : RefT (List ℕ)) (e : ℕ) where
       record {
         unopened = λ z. absurd (subst IsNowhere (sym (h .unopened z)) tt);
         within = λ x k. inr (a, subst (LiesAt r mem a) (h .lies x k .0) l);
+        whole = λ x k. inr (ap length (l .bytes) ∙ length-part a n (now mem) (h .lies x k .1) ∙ h .lies x k .0);
         shows = λ s t k.
             let (p, v, x, c, y, z) = h .told s t k in
             subst (λ o. Shows receiverLayout s o mem r) (sym x) (l .bytes ∙ sym c, subst (λ j. LiesAt r mem j (s .size)) y (subst (LiesAt r mem a) z l));
@@ -62,5 +66,6 @@ module _ (mem r : RefT (List ℕ)) (e : ℕ) where
       record {
         unopened = λ _. l;
         within = λ y k. inl l;
+        whole = λ y k. inl l;
         shows = λ s t k. subst (λ o. Shows receiverLayout s o mem r) (sym (h .told s t k)) l;
       }

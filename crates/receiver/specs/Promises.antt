@@ -102,9 +102,10 @@ module _ (L : Layout) where
   Finds (shows p v) a = said a ≡ value 0
   Finds (hides n) a = said a ≡ refusal n
 
-  -- The symbol call for the ESI e, which changes nothing.
+  -- The symbol call for the ESI e, which changes nothing: on any memory its only number is 0.
   pub record SymbolAnswered (m : List ℕ) (e : ℕ) (a : Answer) : Type 0 where
     pub unopened : (said a ≡ refusal 3) ↔ (headerIn m ≡ none)
+    pub zero : (n : ℕ) → said a ≡ value n → n ≡ 0
     pub finds : (s : Setting) (t : State s) → Holds m s t → Finds (finding s t e) a
 
   -- A known symbol is shown as the part of the memory that holds it; else the part is empty.
@@ -112,10 +113,11 @@ module _ (L : Layout) where
   Shows s (shows p v) m part = (now part ≡ bytesOf (s .size) v) × LiesAt part m (symbolStart s p) (s .size)
   Shows s (hides n) m part = now part ≡ []
 
-  -- The call for the part, for the ESI e: on any memory the part is empty, or lies in it; it is empty where the symbol call says 3.
+  -- The call for the part, for the ESI e: on any memory the part is empty, or E bytes that lie in it; it is empty where the symbol call says 3.
   pub record PartShown (m part : RefT (List ℕ)) (e : ℕ) : Type 0 where
     pub unopened : headerIn (now m) ≡ none → now part ≡ []
     pub within : (h : Header) → headerIn (now m) ≡ some h → (now part ≡ []) ⊎ ((at : ℕ) × LiesAt part m at (h .setting .size))
+    pub whole : (h : Header) → headerIn (now m) ≡ some h → (now part ≡ []) ⊎ (length (now part) ≡ h .setting .size)
     pub shows : (s : Setting) (t : State s) → Holds (now m) s t → Shows s (finding s t e) m part
 
   -- The call for the place found this: a known symbol's bytes start at its place; else it is the symbol call's refusal.
