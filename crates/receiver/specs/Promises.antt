@@ -1,17 +1,14 @@
 -- What the receiver's public calls promise, in whatever way `Layout` a memory holds a state.
 -- m and v are the receiver's memory and the working memory, m′ and v′ these afterwards; a is the answer.
-use Rattle.words.specs.Words.{_≡_, ℕ, _≤_, length, _+_, List, [], some, none, _*_, Option, RefT, now, ltb, cond, _↔_, _⊎_}
+use Rattle.words.specs.Words.{_≡_, ℕ, _≤_, length, _+_, List, [], some, none, Option, RefT, now, ltb, cond, _↔_, _⊎_}
 use Rattle.memory.specs.Part.{part, LiesAt}
 use Rattle.wire.specs.declared.Setting.{Setting}
-use Rattle.wire.specs.Numbers.{numberOf}
 use Rattle.wire.specs.Settings.{settingOf}
 use Rattle.coefficients.specs.Coefficients.{packetDraws}
 use Rattle.starts.specs.declared.Handed.{Handed}
-use Rattle.starts.specs.declared.Handed.the-variants.{Adu, Withheld}
 use Rattle.starts.specs.Adu.{HandedAs, Leaves}
 use Rattle.starts.specs.Starts.{Starts, nowhere}
 use Rattle.wire.specs.declared.Answer.{Answer}
-use Rattle.wire.specs.declared.Answer.the-variants.{Done, Refused}
 use Rattle.receiver.specs.declared.PacketAnswer.{PacketAnswer}
 use Rattle.receiver.specs.declared.PacketAnswer.the-variants.{Accepted, NotAccepted}
 use Rattle.holding.specs.declared.Header.{Header}
@@ -21,16 +18,7 @@ use Rattle.history.specs.History.{Call, source-call, repair-call, esiOf, readin
 use Rattle.history.specs.Model.{State, opened, foundBy, Outcome, refused, done, stateAfter, receiving, marking, Finding, shows, hides, finding, aduAt}
 use Rattle.holding.specs.Header.{headerIn}
 use Rattle.memory.specs.Contained.{Contained}
-
--- The answer to a packet call, without the draws.
-abbrev pub answerOf : PacketAnswer → Answer
-answerOf (Accepted n draws) = Done n
-answerOf (NotAccepted r) = Refused r
-
--- Flow and length of an ADU as one number, or the number of a refusal.
-abbrev pub handedSaid : Handed → Said
-handedSaid (Adu flow L) = value (flow * 65536 + L)
-handedSaid (Withheld r) = refusal (numberOf r)
+pub use Rattle.receiver.specs.Answers.{answerOf, handedSaid}
 
 -- How a memory holds a state.
 pub record Layout : Type 1 where

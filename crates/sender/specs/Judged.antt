@@ -9,7 +9,7 @@ use Rattle.wire.specs.Packets.{sourcePacket, repairPacket}
 use Rattle.wire.specs.Answers.{Said, value, refusal, said}
 use Rattle.coefficients.specs.Coefficients.{keys, listsOf, allOk, drawsOf}
 use Rattle.rows.specs.Combination.{combination}
-use Rattle.sender.specs.Promises.{answerOf, drawsIn}
+use Rattle.sender.specs.Answers.{answerOf, drawsIn}
 use Rattle.sender.specs.Run.{SenderCall, added, repaired, memoryAfter, symbolsOf}
 
 -- the call answers the refusal n; memory and output are as they were, byte for byte

@@ -6,13 +6,13 @@ use Rattle.memory.specs.Contained.{Contained}
 use Rattle.wire.specs.Answers.{Said, value, refusal, said}
 use Rattle.coefficients.specs.Coefficients.{keys, drawsOf, packetDraws}
 use Rattle.wire.specs.declared.Answer.{Answer}
-use Rattle.wire.specs.declared.Answer.the-variants.{Done, Refused}
 use Rattle.sender.specs.declared.RepairAnswer.{RepairAnswer}
 use Rattle.sender.specs.declared.RepairAnswer.the-variants.{Made, NotMade}
 use Rattle.sender.specs.declared.Header.{Header}
 use Rattle.sender.specs.State.{Sender, memorySize, headerIn, Holds}
 use Rattle.sender.specs.Repair.{writtenKey}
 use Rattle.sender.specs.Calls.{Outcome, refused, done, opening, adding, repairing}
+pub use Rattle.sender.specs.Answers.{answerOf, drawsIn}
 
 -- the refusal n: memory and output are as they were
 pub record RefusedWith (n : ℕ) (m out : List ℕ) (r : Answer) (m′ out′ : List ℕ) : Type 0 where
@@ -66,16 +66,6 @@ Adds flow adu m out r m′ out′ = Promise (λ s. adding s flow adu (length out
 -- making repair, which leaves the memory
 abbrev pub Repairs : (key dt count : ℕ) (m out : List ℕ) (r : Answer) (out′ : List ℕ) → Type 0
 Repairs key dt count m out r out′ = Promise (λ s. repairing s key dt count (length out)) m out r m out′
-
--- the answer to making repair, without the draws
-abbrev pub answerOf : RepairAnswer → Answer
-answerOf (Made n draws) = Done n
-answerOf (NotMade n) = Refused n
-
--- the draws; a refusal has none
-abbrev pub drawsIn : RepairAnswer → ℕ
-drawsIn (Made n draws) = draws
-drawsIn (NotMade n) = 0
 
 -- d are the draws of the lists from the key written on, over the symbols that the window has, and those that the packet of n bytes at the front of the
 -- output takes; both numbers are small, whatever the memory
