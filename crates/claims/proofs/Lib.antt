@@ -1,5 +1,4 @@
 -- The modules of the proofs.
-pub mod Unopened
 pub mod Sending
 pub mod Adus
 pub mod Carrying
@@ -14,6 +13,8 @@ pub mod Heard
 pub mod Joining
 pub mod NotEmpty
 pub mod Drawing
-pub mod ReceiverUnopened
+pub mod Left
+pub mod AnyMemory
+pub mod Unopened
 pub mod Receiver
 pub mod Consequences

@@ -1,6 +1,8 @@
 pub mod Written
-pub mod Unopened
 pub mod Run
+pub mod Left
+pub mod AnyMemory
+pub mod Unopened
 pub mod Carrying
 pub mod Demand
 pub mod NoChoice
@@ -8,7 +10,6 @@ pub mod Placing
 pub mod Sent
 pub mod Reading
 pub mod NotEmpty
-pub mod ReceiverUnopened
 pub mod Receiver
 pub mod Consequences
 pub mod Handing

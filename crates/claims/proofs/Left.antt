@@ -1,0 +1,54 @@
+-- Memory that an end has opened and only its calls have changed since has its header, with the setting of the opening.
+use Rattle.words.specs.Words.{_≡_, ℕ, _+_, List, length, _∙_, sym, ap, some, _*_, subst, ap₂}
+use Rattle.memory.specs.Contained.{Contained}
+use Rattle.wire.specs.declared.Setting.{Setting}
+use Rattle.wire.specs.Settings.{settingOf}
+use Rattle.wire.proofs.Settings.{setting-names}
+use Rattle.history.specs.History.{fresh}
+use Rattle.holding.specs.declared.Header.{Header}
+use Rattle.holding.specs.Header.{headerIn}
+use Rattle.holding.specs.Layout.{headerOf}
+use Rattle.holding.proofs.Headers.{setting-of}
+use Rattle.receiver.specs.Layout.{receiverLayout}
+use Rattle.sender.specs.Run.{symbolsOf}
+use Rattle.claims.specs.Left.{OfSender, OfReceiver, Within-sizes}
+use Rattle.claims.proofs.Demand.{had-setting, stands, opened-stands}
+use Rattle.sender.proofs.Running.{run-held}
+use Rattle.sender.specs.State as sender
+
+-- The sender that such a memory holds.
+abbrev pub senderIn : {t : Setting} {m : List ℕ} → OfSender t m → sender.Sender
+senderIn {t} s = record { setting = t; symbols = symbolsOf (t .size) (s .calls) }
+
+pub sender-held : (t : Setting) (m : List ℕ) (s : OfSender t m) → sender.Holds m (senderIn s)
+sender-held t m s = subst (λ x. sender.Holds x (senderIn s)) (sym (s .left)) (run-held t (s .calls) (s .run))
+
+-- The header that such a memory of a receiver has.
+pub record Has (E width : ℕ) (m : List ℕ) : Type 0 where
+  pub header : Header
+  pub here : headerIn m ≡ some header
+  pub size : header .setting .size ≡ E
+  pub wide : header .setting .width ≡ width
+
+pub receiver-has : (E width : ℕ) (m : List ℕ) → OfReceiver E width m → Has E width m
+receiver-has E width m r =
+    let (s, h) = had-setting (settingOf (r .scheme) E width) (length (r .before)) (sym (r .opened .answer) ∙ r .answered) in
+    let n = setting-names (r .scheme) E width s h in
+    let v = n .valid in
+    let g = stands receiverLayout s v (r .calls) (r .after) fresh
+    (opened-stands receiverLayout s v (r .scheme) E width (r .before) (r .after) (r .answer) (r .opened) (r .answered) h) (r .run) in
+    let i = setting-of s (g .state) in
+    record {
+      header = headerOf s (g .state);
+      here = ap headerIn (r .left) ∙ g .held .header;
+      size = ap (λ (x : Setting). x .size) i ∙ n .size;
+      wide = ap (λ (x : Setting). x .width) i ∙ n .width;
+    }
+
+pub within-sizes : Within-sizes
+within-sizes E width m r c m′ v v′ a p =
+    let h = receiver-has E width m r in
+    let (k, j) = p .received .contained (h .header) (h .here) in (
+      subst (λ n. Contained n m m′) (ap₂ (λ (x y : ℕ). 64 + x * (x + y + 4)) (h .wide) (h .size)) k,
+      subst (λ n. Contained n v v′) (ap₂ (λ (x y : ℕ). 64 + (x + 1) * (x + y + 4)) (h .wide) (h .size)) j,
+    )

@@ -1,0 +1,69 @@
+-- On any memory, one that no call has left too: what each call of either end leaves as it was, and where what it shows lies, by its promise alone.
+-- m, out and v are memory, output and working memory, m′, out′ and v′ these afterwards; a is the answer. The calls that show change no memory.
+use Rattle.words.specs.Words.{_≡_, ℕ, _≤_, _+_, List, length, [], _*_, _≢_, _⊎_, now, RefT}
+use Rattle.memory.specs.Part.{LiesAt}
+use Rattle.memory.specs.Contained.{Contained}
+use Rattle.wire.specs.declared.Setting.{Setting}
+use Rattle.wire.specs.Settings.{Valid}
+use Rattle.wire.specs.declared.Refusal.{Refusal}
+use Rattle.wire.specs.declared.Answer.{Answer}
+use Rattle.wire.specs.Answers.{Said, value, refusal, said}
+use Rattle.sender.specs.declared.RepairAnswer.{RepairAnswer}
+use Rattle.sender.specs.declared.RepairAnswer.the-variants.{Made}
+use Rattle.sender.specs.Promises.{Adds, RepairMade}
+use Rattle.starts.specs.declared.Handed.{Handed}
+use Rattle.starts.specs.declared.Handed.the-variants.{Adu, Withheld}
+use Rattle.history.specs.History.{Call}
+use Rattle.receiver.specs.declared.PacketAnswer.{PacketAnswer}
+use Rattle.receiver.specs.declared.PacketAnswer.the-variants.{Accepted}
+use Rattle.receiver.specs.Answers.{answerOf}
+use Rattle.receiver.specs.Promises.{Layout, PacketAnswered, SymbolAnswered, PartShown, PlaceAnswered, AduAnswered}
+use Rattle.sender.specs.Answers as sender
+
+-- A memory of n bytes is long enough for a sender, or a receiver, of a setting within its values.
+pub record SenderFits (s : Setting) (n : ℕ) : Type 0 where
+  pub values : Valid s
+  pub room : 32 + s .width * s .size ≤ n
+
+pub record ReceiverFits (s : Setting) (n : ℕ) : Type 0 where
+  pub values : Valid s
+  pub room : 64 + s .width * (s .width + s .size + 4) ≤ n
+
+-- A call of a sender. A refusal leaves memory and output; else output past the n bytes written, for which it has room, and memory past the size of
+-- some sender that it is long enough for are as they were.
+pub record SenderKeeps (a : Said) (m out m′ out′ : List ℕ) : Type 0 where
+  pub refused : (n : ℕ) → a ≡ refusal n → (m′ ≡ m) × (out′ ≡ out)
+  pub output : (n : ℕ) → a ≡ value n → (n ≤ length out) × Contained n out out′
+  pub memory : (n : ℕ) → a ≡ value n → (s : Setting) × SenderFits s (length m) × Contained (32 + s .width * s .size) m m′
+
+-- A packet call. A refusal leaves memory, and 3 working memory too; else both are as they were past the sizes of some receiver that memory is long
+-- enough for. Count and draws are small.
+pub record PacketKeeps (a : PacketAnswer) (m v m′ v′ : List ℕ) : Type 0 where
+  pub refused : (n : ℕ) → said (answerOf a) ≡ refusal n → m′ ≡ m
+  pub unopened : said (answerOf a) ≡ refusal 3 → v′ ≡ v
+  pub within : said (answerOf a) ≢ refusal 3
+      → (s : Setting) × ReceiverFits s (length m)
+      × Contained (64 + s .width * (s .width + s .size + 4)) m m′ × Contained (64 + (s .width + 1) * (s .width + s .size + 4)) v v′
+  pub small : (n d : ℕ) → a ≡ Accepted n d → (n ≤ 65535) × (d ≤ 69360)
+
+-- The ADU call. A refusal leaves output; else output past the L bytes of the ADU, for which it has room, is as it was.
+pub record AduKeeps (a : Handed) (out out′ : List ℕ) : Type 0 where
+  pub refused : (r : Refusal) → a ≡ Withheld r → out′ ≡ out
+  pub output : (flow L : ℕ) → a ≡ Adu flow L → (L ≤ 65535) × (L ≤ length out) × Contained L out out′
+
+-- E bytes from `at` on lie in a memory of n bytes, for the E of some receiver that it is long enough for.
+pub record Lies (at : ℕ) (s : Setting) (n : ℕ) : Type 0 where
+  pub fits : ReceiverFits s n
+  pub inside : at + s .size ≤ n
+
+pub record Any-memory (L : Layout) : Type 0 where
+  pub adding : (flow : ℕ) (adu m out : List ℕ) (a : Answer) (m′ out′ : List ℕ) → Adds flow adu m out a m′ out′ → SenderKeeps (said a) m out m′ out′
+  pub repairing : (key dt count : ℕ) (m out : List ℕ) (a : RepairAnswer) (out′ : List ℕ) → RepairMade key dt count m out a out′
+      → SenderKeeps (said (sender.answerOf a)) m out m out′ × ((n d : ℕ) → a ≡ Made n d → (n ≤ 24008) × (d ≤ 69360))
+  pub receiving : (c : Call) (m m′ v v′ : List ℕ) (a : PacketAnswer) → PacketAnswered L c m m′ v v′ a → PacketKeeps a m v m′ v′
+  -- The symbol call answers 0 or a refusal; the part is empty or lies in the memory; a place lies in it.
+  pub symbol : (m : List ℕ) (e : ℕ) (a : Answer) → SymbolAnswered L m e a → (n : ℕ) → said a ≡ value n → n ≡ 0
+  pub part : (m part : RefT (List ℕ)) (e : ℕ) → PartShown L m part e
+      → (now part ≡ []) ⊎ ((at : ℕ) × (s : Setting) × Lies at s (length (now m)) × LiesAt part m at (s .size))
+  pub place : (m : List ℕ) (e : ℕ) (a : Answer) → PlaceAnswered L m e a → (at : ℕ) → said a ≡ value at → (s : Setting) × Lies at s (length m)
+  pub adu : (m : List ℕ) (e : ℕ) (out out′ : List ℕ) (a : Handed) → AduAnswered L m e out out′ a → AduKeeps a out out′
