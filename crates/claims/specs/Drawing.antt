@@ -8,7 +8,8 @@ use Rattle.wire.specs.declared.Answer.{Answer}
 use Rattle.receiver.specs.declared.PacketAnswer.the-variants.{Accepted}
 use Rattle.wire.specs.Answers.{value, said}
 use Rattle.history.specs.History.{Call, repair-call}
-use Rattle.receiver.specs.Promises.{drawsFor, Opened, PacketAnswered}
+use Rattle.receiver.specs.Answers.{drawsFor}
+use Rattle.receiver.specs.Promises.{Opened, PacketAnswered}
 use Rattle.receiver.specs.Layout.{receiverLayout}
 use Rattle.claims.specs.Run.{Step, Run, final}
 use Rattle.sender.specs.Run.{SenderCall, memoryAfter}

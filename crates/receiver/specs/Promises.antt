@@ -4,7 +4,6 @@ use Rattle.words.specs.Words.{_≡_, ℕ, _≤_, length, _+_, List, [], some, n
 use Rattle.memory.specs.Part.{part, LiesAt}
 use Rattle.wire.specs.declared.Setting.{Setting}
 use Rattle.wire.specs.Settings.{settingOf}
-use Rattle.coefficients.specs.Coefficients.{packetDraws}
 use Rattle.starts.specs.declared.Handed.{Handed}
 use Rattle.starts.specs.Adu.{HandedAs, Leaves}
 use Rattle.starts.specs.Starts.{Starts, nowhere}
@@ -14,11 +13,11 @@ use Rattle.receiver.specs.declared.PacketAnswer.the-variants.{Accepted, 
 use Rattle.holding.specs.declared.Header.{Header}
 use Rattle.history.specs.Symbol.{bytesOf}
 use Rattle.wire.specs.Answers.{Said, value, refusal, said}
-use Rattle.history.specs.History.{Call, source-call, repair-call, esiOf, reading, memorySize, workingSize}
+use Rattle.history.specs.History.{Call, esiOf, reading, memorySize, workingSize}
 use Rattle.history.specs.Model.{State, opened, foundBy, Outcome, refused, done, stateAfter, receiving, marking, Finding, shows, hides, finding, aduAt}
 use Rattle.holding.specs.Header.{headerIn}
 use Rattle.memory.specs.Contained.{Contained}
-pub use Rattle.receiver.specs.Answers.{answerOf, handedSaid}
+pub use Rattle.receiver.specs.Answers.{answerOf, handedSaid, drawsFor}
 
 -- How a memory holds a state.
 pub record Layout : Type 1 where
@@ -33,11 +32,6 @@ pub record Layout : Type 1 where
 abbrev pub opening : Option Setting → (room : ℕ) → Said
 opening none room = refusal 1
 opening (some s) room = cond (ltb room (memorySize s)) (refusal 2) (value 0)
-
--- The draws that a packet's coefficients take at a receiver of the setting; a source packet has none.
-abbrev pub drawsFor : Setting → Call → ℕ
-drawsFor s (source-call flow p) = 0
-drawsFor s (repair-call p) = packetDraws (s .scheme) (s .size) p
 
 -- d are the draws that the packet takes; both numbers are small, whatever the memory.
 pub record Drew (c : Call) (m : List ℕ) (n d : ℕ) : Type 0 where
