@@ -3,7 +3,7 @@ use Rattle.receiver.specs.Layout.{receiverLayout}
 use Rattle.claims.specs.Consequences.{Receiver-consequences}
 use Rattle.claims.proofs.NoChoice.{no-choice}
 use Rattle.claims.proofs.Joining.{joins, unmarked}
-use Rattle.claims.proofs.Placing.{every-place}
+use Rattle.claims.proofs.Placing.{every-place, part-placed}
 use Rattle.claims.proofs.Sent.{sender-fills, sent-accepted, sent-behind, sent-shown}
 use Rattle.claims.proofs.Sending.{sender-sends}
 use Rattle.claims.proofs.SentAdus.{start-gives, junk-gives, sent-written, sent-starts, sent-handed}
@@ -18,6 +18,7 @@ receiver-consequences = record {
   joins = joins receiverLayout;
   unmarked = unmarked;
   places = every-place receiverLayout;
+  part-placed = part-placed;
   goes-on = chain-goes-on;
   heard = heard;
   heard-handed = heard-handed receiverLayout;

@@ -5,9 +5,10 @@ use Rattle.wire.specs.declared.Setting.{Setting}
 use Rattle.wire.specs.Settings.{settingOf}
 use Rattle.wire.proofs.Settings.{setting-names}
 use Rattle.history.specs.History.{fresh}
+use Rattle.history.specs.Model.{State}
 use Rattle.holding.specs.declared.Header.{Header}
 use Rattle.holding.specs.Header.{headerIn}
-use Rattle.holding.specs.Layout.{headerOf}
+use Rattle.holding.specs.Layout.{headerOf, Holds}
 use Rattle.holding.proofs.Headers.{setting-of}
 use Rattle.receiver.specs.Layout.{receiverLayout}
 use Rattle.sender.specs.Run.{symbolsOf}
@@ -23,7 +24,23 @@ senderIn {t} s = record { setting = t; symbols = symbolsOf (t .size) (s .calls) 
 pub sender-held : (t : Setting) (m : List ℕ) (s : OfSender t m) → sender.Holds m (senderIn s)
 sender-held t m s = subst (λ x. sender.Holds x (senderIn s)) (sym (s .left)) (run-held t (s .calls) (s .run))
 
--- The header that such a memory of a receiver has.
+-- The state that such a memory of a receiver holds, and its header.
+pub record Had (E width : ℕ) (m : List ℕ) : Type 0 where
+  pub setting : Setting
+  pub state : State setting
+  pub held : Holds m setting state
+  pub size : setting .size ≡ E
+  pub wide : setting .width ≡ width
+
+pub receiver-held : (E width : ℕ) (m : List ℕ) → OfReceiver E width m → Had E width m
+receiver-held E width m r =
+    let (s, h) = had-setting (settingOf (r .scheme) E width) (length (r .before)) (sym (r .opened .answer) ∙ r .answered) in
+    let n = setting-names (r .scheme) E width s h in
+    let v = n .valid in
+    let g = stands receiverLayout s v (r .calls) (r .after) fresh
+    (opened-stands receiverLayout s v (r .scheme) E width (r .before) (r .after) (r .answer) (r .opened) (r .answered) h) (r .run) in
+    record { setting = s; state = g .state; held = subst (λ x. Holds x s (g .state)) (sym (r .left)) (g .held); size = n .size; wide = n .width }
+
 pub record Has (E width : ℕ) (m : List ℕ) : Type 0 where
   pub header : Header
   pub here : headerIn m ≡ some header
@@ -32,17 +49,13 @@ pub record Has (E width : ℕ) (m : List ℕ) : Type 0 where
 
 pub receiver-has : (E width : ℕ) (m : List ℕ) → OfReceiver E width m → Has E width m
 receiver-has E width m r =
-    let (s, h) = had-setting (settingOf (r .scheme) E width) (length (r .before)) (sym (r .opened .answer) ∙ r .answered) in
-    let n = setting-names (r .scheme) E width s h in
-    let v = n .valid in
-    let g = stands receiverLayout s v (r .calls) (r .after) fresh
-    (opened-stands receiverLayout s v (r .scheme) E width (r .before) (r .after) (r .answer) (r .opened) (r .answered) h) (r .run) in
-    let i = setting-of s (g .state) in
+    let h = receiver-held E width m r in
+    let i = setting-of (h .setting) (h .state) in
     record {
-      header = headerOf s (g .state);
-      here = ap headerIn (r .left) ∙ g .held .header;
-      size = ap (λ (x : Setting). x .size) i ∙ n .size;
-      wide = ap (λ (x : Setting). x .width) i ∙ n .width;
+      header = headerOf (h .setting) (h .state);
+      here = h .held .header;
+      size = ap (λ (x : Setting). x .size) i ∙ h .size;
+      wide = ap (λ (x : Setting). x .width) i ∙ h .wide;
     }
 
 pub within-sizes : Within-sizes

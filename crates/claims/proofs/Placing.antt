@@ -1,20 +1,22 @@
 -- The place of a symbol holds what the history says, after every list of calls that the promises allow.
-use Rattle.words.specs.Words.{_≡_, arith, ℕ, _+_, List, length, _<_, refl, _∙_, sym, ap, some, none, subst, Option}
-use Rattle.memory.specs.Part.{part}
+use Rattle.words.specs.Words.{_≡_, arith, ℕ, _+_, List, length, _<_, refl, _∙_, sym, ap, some, none, subst, Option, now, RefT}
+use Rattle.memory.specs.Part.{part, LiesAt}
 use Rattle.wire.specs.declared.Setting.{Setting}
 use Rattle.wire.specs.Settings.{settingOf, Valid}
 use Rattle.wire.proofs.Settings.{setting-names}
 use Rattle.wire.specs.declared.Answer.{Answer}
 use Rattle.history.specs.Symbol.{Symbol, bytesOf}
 use Rattle.wire.specs.Answers.{value, refusal, said}
-use Rattle.history.specs.History.{Filling, Located, All, fresh}
-use Rattle.history.specs.Model.{Finding, hides, finding}
-use Rattle.receiver.specs.Promises.{Layout, Places, PlaceAnswered}
+use Rattle.history.specs.History.{IsValue, Filling, Located, All, fresh}
+use Rattle.history.specs.Model.{Finding, shows, hides, finding}
+use Rattle.receiver.specs.Promises.{Layout, Shows, Places, PlaceAnswered}
+use Rattle.receiver.specs.Layout.{receiverLayout}
 use Rattle.history.proofs.Sides.{found-past, found-behind, limits}
 use Rattle.claims.specs.Run.{final, history}
 use Rattle.claims.specs.Demand.{esi}
-use Rattle.claims.specs.Placing.{PlacedExactly, Placed, Every-place}
+use Rattle.claims.specs.Placing.{PlacedExactly, Placed, Every-place, Part-placed}
 use Rattle.claims.proofs.Demand.{stands, From, held-fresh, held-from, at-base, symbol, found, here, exactly, value-is, opened-stands, had-setting}
+use Rattle.claims.proofs.Left.{receiver-held}
 use Rattle.decoder.specs.Receiver as decoder
 
 module _ (L : Layout) (s : Setting) (v : Valid s) (m : List ℕ) where
@@ -74,3 +76,18 @@ every-place L scheme E w m₀ m a p e ts r =
         after = λ b n. placed L s v (final m ts) l b (held-from L s v (final m ts) l g b n);
       },
     )
+
+-- What was found at once tells the part and its place.
+placed-part : (s : Setting) (o : Finding (s .size)) (m r : RefT (List ℕ)) (a : Answer) (at : ℕ) → said a ≡ value at
+    → Shows receiverLayout s o m r → Places receiverLayout s o (now m) a → LiesAt r m at (s .size)
+placed-part s (shows p v) m r a at z (b, l) (x, y) =
+    let i : receiverLayout .symbolStart s p ≡ at = cc in
+    subst (λ n. LiesAt r m n (s .size)) i l
+placed-part s (hides n) m r a at z l x = absurd (subst IsValue (sym z ∙ x) tt)
+
+pub part-placed : Part-placed
+part-placed E width m r k e p a q at z =
+    let h = receiver-held E width (now m) k in
+    let s = h .setting in
+    subst (LiesAt r m at) (h .size)
+    (placed-part s (finding s (h .state) e) m r a at z (p .shows s (h .state) (h .held)) (q .places s (h .state) (h .held)))

@@ -3,7 +3,7 @@
 use Rattle.receiver.specs.Layout.{receiverLayout}
 use Rattle.claims.specs.NoChoice.{No-choice}
 use Rattle.claims.specs.Joining.{Joins, Unmarked}
-use Rattle.claims.specs.Placing.{Every-place}
+use Rattle.claims.specs.Placing.{Every-place, Part-placed}
 use Rattle.claims.specs.Heard.{Goes-on, Heard, Heard-handed}
 use Rattle.claims.specs.Sent.{Sender-fills, Sent-accepted, Sent-behind, Sent-shown}
 use Rattle.claims.specs.SentAdus.{Sender-sends, Start-gives, Junk-gives, Sent-written, Sent-starts, Sent-handed}
@@ -16,6 +16,7 @@ pub record Receiver-consequences : Type 0 where
   pub joins : Joins receiverLayout
   pub unmarked : Unmarked
   pub places : Every-place receiverLayout
+  pub part-placed : Part-placed
   pub goes-on : Goes-on
   pub heard : Heard
   pub heard-handed : Heard-handed receiverLayout

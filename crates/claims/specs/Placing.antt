@@ -1,14 +1,16 @@
 -- The place of a symbol: what is claimed of the call for it after every list of packet calls from a fresh receiver.
-use Rattle.words.specs.Words.{_≡_, ℕ, _≤_, _+_, List, _<_, some, none, _^_}
-use Rattle.memory.specs.Part.{part}
+use Rattle.words.specs.Words.{_≡_, ℕ, _≤_, _+_, List, _<_, some, none, _^_, now, RefT}
+use Rattle.memory.specs.Part.{part, LiesAt}
 use Rattle.wire.specs.declared.Setting.{Setting}
 use Rattle.wire.specs.Settings.{settingOf}
 use Rattle.wire.specs.declared.Answer.{Answer}
 use Rattle.history.specs.Symbol.{bytesOf}
 use Rattle.wire.specs.Answers.{value, refusal, said}
 use Rattle.history.specs.History.{Filling, Located, All, Known, Log, baseOf, halfway}
-use Rattle.receiver.specs.Promises.{Layout, Opened, PlaceAnswered}
+use Rattle.receiver.specs.Promises.{Layout, Opened, PartShown, PlaceAnswered}
+use Rattle.receiver.specs.Layout.{receiverLayout}
 use Rattle.claims.specs.Run.{Step, Run, final, history}
+use Rattle.claims.specs.Left.{OfReceiver}
 use Rattle.claims.specs.Demand.{esi}
 
 -- After the packets `qs` were accepted, when the receiver's memory is m: of whatever the call may answer by its promise.
@@ -38,3 +40,9 @@ Every-place L =
     (scheme E w : ℕ) (m₀ m : List ℕ) (a : Answer) → Opened L scheme E w m₀ m a → said a ≡ value 0
     → (ts : List Step) → Run L m ts
     → (s : Setting) × (settingOf scheme E w ≡ some s) × Place-told L s (final m ts) (history s ts)
+
+-- On a receiver's memory the part that shows a symbol is the E bytes at that place.
+abbrev pub Part-placed : Type 0
+Part-placed =
+    (E width : ℕ) (m part : RefT (List ℕ)) → OfReceiver E width (now m) → (e : ℕ) → PartShown receiverLayout m part e
+    → (a : Answer) → PlaceAnswered receiverLayout (now m) e a → (at : ℕ) → said a ≡ value at → LiesAt part m at E
