@@ -56,6 +56,7 @@ pub record Lies (at : ℕ) (s : Setting) (n : ℕ) : Type 0 where
   pub fits : ReceiverFits s n
   pub inside : at + s .size ≤ n
 
+-- Every call but opening, whatever it is given.
 pub record Any-memory (L : Layout) : Type 0 where
   pub adding : (flow : ℕ) (adu m out : List ℕ) (a : Answer) (m′ out′ : List ℕ) → Adds flow adu m out a m′ out′ → SenderKeeps (said a) m out m′ out′
   pub repairing : (key dt count : ℕ) (m out : List ℕ) (a : RepairAnswer) (out′ : List ℕ) → RepairMade key dt count m out a out′

@@ -40,6 +40,7 @@ pub data SenderSays (m : List ℕ) : Said → Type 0 where
   by-repair : (key dt count : ℕ) (out : List ℕ) (a : RepairAnswer) (out′ : List ℕ) → RepairMade key dt count m out a out′
       → SenderSays m (said (sender.answerOf a))
 
+-- Where the calls of an end say 3, and where they never do.
 pub record Unopened : Type 0 where
   -- On memory that is not of its end every call says 3, and the part is empty.
   pub no-receiver : (m : List ℕ) → NoReceiver m → (x : Said) → ReceiverSays m x → x ≡ refusal 3
