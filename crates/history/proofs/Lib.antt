@@ -6,3 +6,6 @@ pub mod Starting
 pub mod Naming
 pub mod Sides
 pub mod Readings
+pub mod Checking
+pub mod Rising
+pub mod Laws

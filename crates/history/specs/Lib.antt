@@ -1,3 +1,6 @@
 pub mod Symbol
 pub mod History
 pub mod Model
+pub mod Checking
+pub mod Rising
+pub mod Laws

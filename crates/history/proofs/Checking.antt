@@ -1,0 +1,174 @@
+-- What the checks before 11 make of a call is the number of the first that fails, or the packet at its place.
+-- Index
+--   adu-length
+--   formOf, sizeOf, countOf, lastOf: the tests of form and number of symbols, the symbols named, and what comes after the place
+--   in-order: the checks, one after the other
+--   lent, well-formed, few, near: what is left to check once some have passed
+--   checked, reading-checked
+use Rattle.words.specs.Words.{_≡_, arith, ℕ, _≤_, _+_, List, length, _<_, refl, _∙_, _-_, true, _*_, false, Bool, _^_, leb, le-leb, lt-ltb, le-ltb, _&&_}
+use Rattle.words.specs.Words.{leb-true, eqb-true, eq-eqb, length-take, mul-le-mul-right, suc-mul, decLt}
+use native.Mathlib.Nat.{mul-div-cancel}
+use Rattle.wire.specs.declared.Setting.{Setting}
+use Rattle.wire.specs.Numbers.{within}
+use Rattle.wire.specs.Packets.{symbolCount, sourceForm, sourceAdu, repairForm, repairCount, densityThreshold, protectedCount}
+use Rattle.wire.proofs.Settings.{both, within-true, within-bounds}
+use Rattle.wire.proofs.Adui.{room, least}
+use Rattle.coefficients.specs.Coefficients.{allOk}
+use Rattle.history.specs.History.{sideOf, Call, source-call, repair-call, esiOf, Reading, fails, located, check, fromSide, readSource, readRepair}
+use Rattle.history.specs.History.{reading, workingSize, halfway, farthest}
+use Rattle.history.specs.Checking.{distance, Lent, Formed, Few, fourOrSix, namedBy, keysIn, Drawn, saysAt, Checked, Reading-checked}
+
+-- A check that fails, and one that passes.
+stops : (t : Bool) (n : ℕ) (r : Reading) → ¬ (t ≡ true) → check t n r ≡ fails n
+unfolding check
+stops true n r e = absurd (e refl)
+stops false n r e = refl
+
+goes : (t : Bool) (n : ℕ) (r : Reading) → t ≡ true → check t n r ≡ r
+unfolding check
+goes t n r e = rw e
+
+-- An ADU fits so many symbols exactly where it takes no more.
+fits-few : (E w L : ℕ) → 0 < E → 3 + L ≤ w * E → symbolCount E L ≤ w
+fits-few E w L z h = go (decLt w (symbolCount E L))
+  where
+    go : Dec (w < symbolCount E L) → symbolCount E L ≤ w
+    go (yes g) = absurd (omega (arith, least E L, mul-le-mul-right E g, suc-mul w E))
+    go (no g) = omega (arith, g)
+
+few-fits : (E w L : ℕ) → 0 < E → symbolCount E L ≤ w → 3 + L ≤ w * E
+few-fits E w L z h = omega (arith, room E L z, mul-le-mul-right E h)
+
+pub adu-length : (p : List ℕ) → length (sourceAdu p) ≡ length p - 4
+unfolding sourceAdu
+adu-length p = length-take (length p - 4) p ∙ omega arith
+
+module _ (s : Setting) (z : 0 < s .size) where
+  open Setting s using (scheme, size as E, width)
+
+  -- Form and number of symbols, as tests.
+  formOf : Call → Bool
+  formOf (source-call flow p) = sourceForm p
+  formOf (repair-call p) = repairForm E p
+
+  sizeOf : Call → Bool
+  sizeOf (source-call flow p) = leb (length (sourceAdu p)) 65535 && leb (symbolCount E (length (sourceAdu p))) width
+  sizeOf (repair-call p) = within 1 width (protectedCount p)
+
+  count-is : (p : List ℕ) (k : ℕ) → length p ≡ 8 + k * E → repairCount E p ≡ k
+  unfolding repairCount
+  count-is p k e = let h : length p - 8 ≡ k * E = omega (arith, e) in rw h (mul-div-cancel k z)
+
+  form-true : (c : Call) → Formed s c → formOf c ≡ true
+  unfolding formOf sourceForm repairForm
+  form-true (source-call flow p) h = le-leb 4 (length p) h
+  form-true (repair-call p) (k, l, h, e) = rw (count-is p k e, within-true 1 16 k l h) (eq-eqb (length p) (8 + k * E) e)
+
+  form-is : (c : Call) → formOf c ≡ true → Formed s c
+  unfolding formOf sourceForm repairForm
+  form-is (source-call flow p) h = leb-true 4 (length p) h
+  form-is (repair-call p) h =
+      let (a, b) = both (within 1 16 (repairCount E p)) _ h in
+      let w = within-bounds 1 16 (repairCount E p) a in
+      (repairCount E p, w .0, w .1, eqb-true (length p) (8 + repairCount E p * E) b)
+
+  few-true : (c : Call) → Few s c → sizeOf c ≡ true
+  unfolding sizeOf
+  few-true (source-call flow p) (h, k) =
+      rw (adu-length p, le-leb (length p - 4) 65535 (omega (arith, h)))
+      (le-leb (symbolCount E (length p - 4)) width (fits-few E width (length p - 4) z k))
+  few-true (repair-call p) (h, k) = within-true 1 width (protectedCount p) h k
+
+  few-is : (c : Call) → sizeOf c ≡ true → Few s c
+  unfolding sizeOf
+  few-is (source-call flow p) e =
+      let (a, b) = both (leb (length p - 4) 65535) (leb (symbolCount E (length p - 4)) width) (rw (adu-length p) at e) in
+      (omega (arith, leb-true (length p - 4) 65535 a), few-fits E width (length p - 4) z (leb-true (symbolCount E (length p - 4)) width b))
+  few-is (repair-call p) e = within-bounds 1 width (protectedCount p) e
+
+  -- The symbols named, as the reading counts them.
+  countOf : Call → ℕ
+  countOf (source-call flow p) = symbolCount E (length (sourceAdu p))
+  countOf (repair-call p) = protectedCount p
+
+  count-named : (c : Call) → countOf c ≡ namedBy s c
+  unfolding countOf symbolCount
+  count-named (source-call flow p) = rw (adu-length p)
+  count-named (repair-call p) = refl
+
+  module _ (b room : ℕ) where
+    -- What comes after the place.
+    lastOf : Call → (d : ℕ) → Reading
+    lastOf (source-call flow p) d = located (saysAt s (b + d) (source-call flow p))
+    lastOf (repair-call p) d =
+        check (allOk scheme (densityThreshold p) (protectedCount p) (keysIn s p)) 10 (located (saysAt s (b + d) (repair-call p)))
+
+    -- The checks, one after the other.
+    in-order : (c : Call)
+        → reading s b room c
+        ≡ check (leb (workingSize s) room) 2
+        (check (formOf c) 5 (check (sizeOf c) (fourOrSix s c) (fromSide (countOf c) (sideOf b (esiOf c)) (lastOf c))))
+    unfolding reading readSource readRepair formOf sizeOf countOf lastOf sourceAdu
+    in-order (source-call flow p) = refl
+    in-order (repair-call p) = refl
+
+    module _ (c : Call) where
+      abbrev d : ℕ
+      d = distance b c
+
+      abbrev n : ℕ
+      n = namedBy s c
+
+      abbrev placed : Reading
+      placed = fromSide (countOf c) (sideOf b (esiOf c)) (lastOf c)
+
+      abbrev sized : Reading
+      sized = check (sizeOf c) (fourOrSix s c) placed
+
+      abbrev formed : Reading
+      formed = check (formOf c) 5 sized
+
+      side-behind : 2 ^ 31 ≤ d → placed ≡ fails 8
+      unfolding fromSide sideOf halfway
+      side-behind h = rw (le-ltb d (2 ^ 31) h)
+
+      side-ahead : d < 2 ^ 31 → placed ≡ check (leb (d + n) 65536) 9 (lastOf c d)
+      unfolding fromSide sideOf halfway farthest
+      side-ahead h = rw (lt-ltb d (2 ^ 31) h, count-named c)
+
+      lent : Lent s room → reading s b room c ≡ formed
+      lent h = in-order c ∙ goes (leb (workingSize s) room) 2 formed (le-leb (workingSize s) room (omega (arith, h)))
+
+      well-formed : Lent s room → Formed s c → reading s b room c ≡ sized
+      well-formed h f = lent h ∙ goes (formOf c) 5 sized (form-true c f)
+
+      few : Lent s room → Formed s c → Few s c → reading s b room c ≡ placed
+      few h f k = well-formed h f ∙ goes (sizeOf c) (fourOrSix s c) placed (few-true c k)
+
+      near : Lent s room → Formed s c → Few s c → d < 2 ^ 31 → d + n ≤ 65536 → reading s b room c ≡ lastOf c d
+      near h f k l g = few h f k ∙ side-ahead l ∙ goes (leb (d + n) 65536) 9 (lastOf c d) (le-leb (d + n) 65536 g)
+
+    last-stops : (c : Call) (d : ℕ) → ¬ Drawn s c → lastOf c d ≡ fails 10
+    unfolding lastOf
+    last-stops (source-call flow p) d n = absurd (n tt)
+    last-stops (repair-call p) d n = stops _ 10 _ n
+
+    last-goes : (c : Call) (d : ℕ) → Drawn s c → lastOf c d ≡ located (saysAt s (b + d) c)
+    unfolding lastOf
+    last-goes (source-call flow p) d k = refl
+    last-goes (repair-call p) d k = goes _ 10 _ k
+
+    pub checked : (c : Call) → Checked s b room c (reading s b room c)
+    checked c = record {
+      short = λ n. in-order c ∙ stops (leb (workingSize s) room) 2 (formed c) (λ e. n (omega (arith, leb-true (workingSize s) room e)));
+      form = λ h n. lent c h ∙ stops (formOf c) 5 (sized c) (λ e. n (form-is c e));
+      many = λ h f n. well-formed c h f ∙ stops (sizeOf c) (fourOrSix s c) (placed c) (λ e. n (few-is c e));
+      behind = λ h f k l. few c h f k ∙ side-behind c l;
+      far = λ h f k l g. few c h f k ∙ side-ahead c l
+          ∙ stops (leb (d c + n c) 65536) 9 (lastOf c (d c)) (λ e. omega (arith, g, leb-true (d c + n c) 65536 e));
+      zeros = λ h f k l g x. near c h f k l g ∙ last-stops c (d c) x;
+      passes = λ h f k l g x. near c h f k l g ∙ last-goes c (d c) x;
+    }
+
+pub reading-checked : Reading-checked
+reading-checked s v b room c = checked s (omega (arith, v .size-least)) b room c
