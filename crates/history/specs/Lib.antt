@@ -4,3 +4,4 @@ pub mod Model
 pub mod Checking
 pub mod Rising
 pub mod Laws
+pub mod Facts

@@ -1,0 +1,210 @@
+-- Computed from the definitions, from the packets' bytes on: the sizes; the order of the checks, and their limits; every DT, and keys over 65,535; and where
+-- calls bring the base, the count and the marks in cases that are easy to take otherwise.
+use Rattle.words.specs.Words.{_≡_, ℕ, _+_, List, refl, [], some, _∷_, suc, true, zero, none, _*_, false, _++_, Bool, Option, cond, map}
+use Rattle.tinymt.specs.Generator.{computing}
+use Rattle.field.specs.Gf256.{product, inverse, inverse-below}
+use Rattle.memory.specs.Part.{part}
+use Rattle.wire.specs.declared.Scheme.the-variants.{Gf2, Gf256}
+use Rattle.wire.specs.declared.Setting.{Setting}
+use Rattle.wire.specs.Answers.{Said, value, refusal}
+use Rattle.wire.specs.Packets.{zeros, symbolCount, adui, sourceSymbols, sourceForm, sourceAdu, sourceEsi, repairCount, repairForm, repairKey, densityThreshold}
+use Rattle.wire.specs.Packets.{protectedCount, firstEsi, repairSymbols}
+use Rattle.coefficients.specs.Coefficients.{nonzeroFrom, bitOf, byteOf, extend, coefficientsOf}
+use Rattle.starts.specs.Starts.{Starts, nowhere, pass}
+use Rattle.history.specs.History.{Located, source, repair, Call, source-call, repair-call, esiOf, sideOf, Reading, fails, located, check, fromSide}
+use Rattle.history.specs.History.{readSource, readRepair, reading, memorySize, workingSize, halfway, farthest}
+use Rattle.history.specs.Model.{State, opened, foundBy, saidOf, stateAfter, answering, receiving, startsAfter, marking}
+use Rattle.decoder.specs.Model as model
+use Rattle.decoder.specs.Receiver as decoder
+use Rattle.decoder.specs.Packets as packets
+
+-- ---- Calls
+
+-- What calls have come to: what they answered, the state, and the marks.
+pub record Progress (s : Setting) : Type 0 where
+  pub answers : List Said
+  pub state : State s
+  pub marks : Starts
+
+-- A fresh receiver.
+abbrev pub begun : (s : Setting) → Progress s
+begun s = record { answers = []; state = opened s; marks = nowhere }
+
+-- One more call, with working memory enough; and the calls of a list.
+abbrev pub call : (s : Setting) → Progress s → Call → Progress s
+call s a c =
+    let j = foundBy s (a .state) (esiOf c) in
+    let r = reading s (j .base) (workingSize s) c in
+    let o = receiving s (a .state) (workingSize s) c in
+    let M = marking s j (a .marks) r o in
+    record { answers = a .answers ++ saidOf o ∷ []; state = stateAfter (a .state) o; marks = M }
+
+abbrev pub called : (s : Setting) → Progress s → List Call → Progress s
+called s a [] = a
+called s a (c ∷ cs) = called s (call s a c) cs
+
+-- What calls have answered, the base after them, and which positions of the window are known and which are marked, by their distance from the base.
+pub data Standing : Type 0 where
+  stands : (answers : List Said) (base : Option ℕ) (known marked : List ℕ) → Standing
+
+-- The numbers below n that pass a test.
+abbrev those : (ℕ → Bool) → (n : ℕ) → List ℕ
+those t zero = []
+those t (suc n) = those t n ++ cond (t n) (n ∷ []) []
+
+abbrev isSome : {A : Type 0} → Option A → Bool
+isSome none = false
+isSome (some x) = true
+
+module _ (s : Setting) where
+  abbrev standing : (answers : List Said) → State s → Starts → Standing
+  standing l none M = stands l none [] []
+  standing l (some t) M = stands l (some (t .base)) (those (λ i. isSome (model.known (t .window) i)) (s .width)) (those M (s .width + 1))
+
+  -- The calls of a list from a fresh receiver.
+  abbrev after : List Call → Standing
+  after cs = let a = called s (begun s) cs in standing (a .answers) (a .state) (a .marks)
+
+-- The coefficients that a reading has for a packet's symbols.
+abbrev coefficientsIn : Reading → List (List ℕ)
+coefficientsIn (fails n) = []
+coefficientsIn (located (source p vs)) = []
+coefficientsIn (located (repair p n cs vs)) = cs
+
+-- Their sum: how many of them are 1.
+abbrev sum : List ℕ → ℕ
+sum [] = 0
+sum (x ∷ l) = x + sum l
+
+abbrev total : List (List ℕ) → ℕ
+total [] = 0
+total (l ∷ ls) = sum l + total ls
+
+-- ---- Settings and packets
+
+-- Scheme 9 and scheme 10 with E 4; and the largest E and width.
+abbrev gf2 : ℕ → Setting
+gf2 w = record { scheme = Gf2; size = 4; width = w }
+
+abbrev gf256 : ℕ → Setting
+gf256 w = record { scheme = Gf256; size = 4; width = w }
+
+abbrev largest : Setting
+largest = record { scheme = Gf256; size = 1500; width = 255 }
+
+-- With F 1: the source packet of an ADU of n zero bytes, with the ESI of these bytes.
+abbrev adu : (n a b c d : ℕ) → Call
+adu n a b c d = source-call 1 (zeros n ++ a ∷ b ∷ c ∷ d ∷ [])
+
+-- With DT 15, NSS of these bytes, and the ESI of these: a repair packet whose n bytes of repair symbols are zero.
+abbrev over : (x y : ℕ) (a b c d : ℕ) (n : ℕ) → Call
+over x y a b c d n = repair-call (0 ∷ 0 ∷ (0xF0 + x) ∷ y ∷ a ∷ b ∷ c ∷ d ∷ zeros n)
+
+-- Over the n symbols from a small ESI on, with a key and a DT: a repair packet of one repair symbol, which is these bytes.
+abbrev combines : (key dt n esi : ℕ) (symbol : List ℕ) → Call
+combines key dt n e v = repair-call (0 ∷ key ∷ dt * 16 ∷ n ∷ 0 ∷ 0 ∷ 0 ∷ e ∷ v)
+
+-- The reading of an ADU of no byte at a position.
+abbrev empty-at : ℕ → Reading
+empty-at p = located (source p ((1 ∷ zeros 3) ∷ []))
+
+-- ---- The facts
+
+-- The bytes that a receiver needs and borrows: at E 4 and width 1, at E 4 and width 2, at the largest.
+pub sizes :
+    memorySize (gf2 1) ∷ workingSize (gf2 1) ∷ memorySize (gf2 2) ∷ workingSize (gf2 2) ∷ memorySize largest ∷ workingSize largest ∷ []
+    ≡ 73 ∷ 82 ∷ 84 ∷ 94 ∷ 448609 ∷ 450368 ∷ []
+sizes = refl
+
+pub checks :
+    -- working memory of exactly the size, and one byte short
+    (reading (gf2 1) 0 82 (adu 0 0 0 0 0) ∷ reading (gf2 1) 0 81 (adu 0 0 0 0 0) ∷ [])
+    -- 2 before 5, 4, 6, 8 and 9
+    ∷ map (reading (gf2 2) 1 93) (source-call 1 (zeros 3) ∷ adu 6 0 0 0 0 ∷ over 0 0 0 0 0 0 4 ∷ adu 0 0 0 0 0 ∷ adu 0 0 1 0 1 ∷ [])
+    -- 5 before 6, 8 and 9: source packets of 3 bytes and of none; repair packets of no symbol, of one and a byte, of 17; one of 16 has the form
+    ∷ map (reading (gf2 2) 1 94) (source-call 1 (zeros 3) ∷ source-call 1 (1 ∷ 0 ∷ 1 ∷ []) ∷ source-call 1 [] ∷ [])
+    ∷ map (reading (gf2 2) 1 94) (over 0 0 0 0 0 0 0 ∷ over 0 2 0 0 0 0 5 ∷ over 0 2 0 1 0 1 68 ∷ over 0 0 0 0 0 0 64 ∷ [])
+    -- 4 and 6 before 8, at their limits; NSS has 12 bits
+    ∷ map (reading (gf2 2) 1 94) (adu 5 0 0 0 0 ∷ adu 6 0 0 0 0 ∷ [])
+    ∷ map (reading largest 1 450368) (adu 65535 0 0 0 0 ∷ adu 65536 0 0 0 0 ∷ [])
+    ∷ map (reading (gf2 2) 1 94) (over 0 0 0 0 0 0 4 ∷ over 0 1 0 0 0 0 4 ∷ over 0 2 0 0 0 0 4 ∷ over 0 3 0 0 0 0 4 ∷ over 1 1 0 0 0 0 4 ∷ [])
+    -- 4 and 6 before 9
+    ∷ map (reading (gf2 2) 0 94) (adu 5 0 1 0 0 ∷ adu 6 0 1 0 0 ∷ over 0 0 0 1 0 0 4 ∷ over 0 2 0 1 0 0 4 ∷ over 0 3 0 1 0 0 4 ∷ [])
+    -- the last position 65,535 and 65,536 past the base; the first 2^31 - 1 and 2^31 past it; the base at the last ESI, and past 2^32
+    ∷ map (reading (gf2 2) 0 94) (adu 0 0 0 0xFF 0xFF ∷ adu 0 0 1 0 0 ∷ adu 2 0 0 0xFF 0xFF ∷ adu 0 0x7F 0xFF 0xFF 0xFF ∷ adu 0 0x80 0 0 0 ∷ [])
+    ∷ (reading (gf2 2) 4294967295 94 (adu 0 0 0 0 0) ∷ reading (gf2 2) 4294967298 94 (adu 0 0 0 0 3) ∷ [])
+    -- the keys 65,535 and 0 of two repair symbols
+    ∷ (reading (gf256 2) 0 94 (repair-call (0xFF ∷ 0xFF ∷ 0xF0 ∷ 2 ∷ zeros 12)) ∷ [])
+    ∷ []
+    ≡ (empty-at 0 ∷ fails 2 ∷ [])
+    ∷ (fails 2 ∷ fails 2 ∷ fails 2 ∷ fails 2 ∷ fails 2 ∷ [])
+    ∷ (fails 5 ∷ fails 5 ∷ fails 5 ∷ []) ∷ (fails 5 ∷ fails 5 ∷ fails 5 ∷ fails 6 ∷ [])
+    ∷ (fails 8 ∷ fails 4 ∷ []) ∷ (fails 8 ∷ fails 4 ∷ []) ∷ (fails 6 ∷ fails 8 ∷ fails 8 ∷ fails 6 ∷ fails 6 ∷ [])
+    ∷ (fails 9 ∷ fails 4 ∷ fails 6 ∷ fails 9 ∷ fails 6 ∷ [])
+    ∷ (empty-at 65535 ∷ fails 9 ∷ fails 9 ∷ fails 9 ∷ fails 8 ∷ []) ∷ (empty-at 4294967296 ∷ empty-at 4294967299 ∷ [])
+    ∷ (located (repair 0 2 ((52 ∷ 199 ∷ []) ∷ (39 ∷ 42 ∷ []) ∷ []) (zeros 4 ∷ zeros 4 ∷ [])) ∷ [])
+    ∷ []
+unfolding
+    computing nonzeroFrom bitOf byteOf extend coefficientsOf part
+    symbolCount adui sourceSymbols sourceForm sourceAdu sourceEsi repairCount repairForm repairKey densityThreshold protectedCount firstEsi repairSymbols
+    halfway sideOf check farthest fromSide readSource readRepair reading
+checks = refl
+
+-- How many symbols the key 17,283 takes of 15, at every DT: its draws compare DT with each number from 1 to 15 once.
+pub densities :
+    map (λ dt. total (coefficientsIn (reading (gf2 15) 0 (workingSize (gf2 15)) (repair-call (0x43 ∷ 0x83 ∷ dt * 16 ∷ 15 ∷ zeros 8)))))
+    (0 ∷ 1 ∷ 2 ∷ 3 ∷ 4 ∷ 5 ∷ 6 ∷ 7 ∷ 8 ∷ 9 ∷ 10 ∷ 11 ∷ 12 ∷ 13 ∷ 14 ∷ 15 ∷ [])
+    ≡ 0 ∷ 1 ∷ 2 ∷ 3 ∷ 4 ∷ 5 ∷ 6 ∷ 7 ∷ 8 ∷ 9 ∷ 10 ∷ 11 ∷ 12 ∷ 13 ∷ 14 ∷ 15 ∷ []
+unfolding
+    computing nonzeroFrom bitOf byteOf extend coefficientsOf part repairCount repairForm repairKey densityThreshold protectedCount firstEsi repairSymbols
+    halfway sideOf check farthest fromSide readRepair reading
+densities = refl
+
+pub calls :
+    -- before any base refusals leave none: 4, 6, and 11 of a symbol that is not zero and combines nothing; after them the base is the first ESI
+    after (gf2 2) (adu 6 0 0 0 0 ∷ over 0 3 0 0 0 0 4 ∷ combines 1 4 1 0 (1 ∷ zeros 3) ∷ [])
+    ∷ after (gf2 2) (combines 1 4 1 0 (1 ∷ zeros 3) ∷ adu 0 0 0 0 7 ∷ [])
+    -- positions go on past 2^32
+    ∷ after (gf2 1) (adu 0 0xFF 0xFF 0xFF 0xFF ∷ adu 0 0 0 0 0 ∷ [])
+    -- the base rises for a packet that combines nothing, and for one that combines a known symbol alone; not for one that is refused
+    ∷ after (gf2 1) (adu 0 0 0 0 0 ∷ combines 1 4 1 1 (zeros 4) ∷ [])
+    ∷ after (gf2 2) (adu 0 0 0 0 0 ∷ adu 0 0 0 0 1 ∷ combines 3 4 2 1 (1 ∷ zeros 3) ∷ [])
+    ∷ after (gf2 2) (adu 0 0 0 0 0 ∷ combines 1 4 1 2 (1 ∷ zeros 3) ∷ [])
+    -- what comes again is not counted; a position that is solved and not named is; one that is solved as it leaves the window is not
+    ∷ after (gf2 2) (adu 0 0 0 0 0 ∷ adu 0 0 0 0 0 ∷ [])
+    ∷ after (gf2 2) (combines 0 15 2 0 (zeros 4) ∷ adu 0 0 0 0 1 ∷ [])
+    ∷ after (gf2 2) (combines 0 15 2 0 (zeros 4) ∷ adu 2 0 0 0 1 ∷ [])
+    -- a repair packet marks nothing; a source packet marks its first position and the one after its last, at base + width too
+    ∷ after (gf2 2) (combines 0 15 1 0 (zeros 4) ∷ [])
+    ∷ after (gf2 2) (adu 2 0 0 0 0 ∷ [])
+    -- the first symbol of an ADU of two marks on where the second is not known; past base + width it does so once the base has risen
+    ∷ after (gf2 3) (adu 0 0 0 0 0 ∷ combines 0 15 1 1 (1 ∷ 0 ∷ 5 ∷ 7 ∷ []) ∷ [])
+    ∷ after (gf2 2) (adu 0 0 0 0 0 ∷ combines 0 15 1 1 (1 ∷ 0 ∷ 5 ∷ 7 ∷ []) ∷ [])
+    ∷ after (gf2 2) (adu 0 0 0 0 0 ∷ combines 0 15 1 1 (1 ∷ 0 ∷ 5 ∷ 7 ∷ []) ∷ combines 1 4 1 2 (zeros 4) ∷ [])
+    ∷ []
+    ≡ stands (refusal 4 ∷ refusal 6 ∷ refusal 11 ∷ []) none [] []
+    ∷ stands (refusal 11 ∷ value 1 ∷ []) (some 7) (0 ∷ []) (0 ∷ 1 ∷ [])
+    ∷ stands (value 1 ∷ value 1 ∷ []) (some 4294967296) (0 ∷ []) (0 ∷ 1 ∷ [])
+    ∷ stands (value 1 ∷ value 0 ∷ []) (some 1) [] (0 ∷ [])
+    ∷ stands (value 1 ∷ value 1 ∷ value 0 ∷ []) (some 1) (0 ∷ []) (0 ∷ 1 ∷ [])
+    ∷ stands (value 1 ∷ refusal 11 ∷ []) (some 0) (0 ∷ []) (0 ∷ 1 ∷ [])
+    ∷ stands (value 1 ∷ value 0 ∷ []) (some 0) (0 ∷ []) (0 ∷ 1 ∷ [])
+    ∷ stands (value 0 ∷ value 2 ∷ []) (some 0) (0 ∷ 1 ∷ []) (1 ∷ 2 ∷ [])
+    ∷ stands (value 0 ∷ value 2 ∷ []) (some 1) (0 ∷ 1 ∷ []) (0 ∷ 2 ∷ [])
+    ∷ stands (value 1 ∷ []) (some 0) (0 ∷ []) []
+    ∷ stands (value 2 ∷ []) (some 0) (0 ∷ 1 ∷ []) (0 ∷ 2 ∷ [])
+    ∷ stands (value 1 ∷ value 1 ∷ []) (some 0) (0 ∷ 1 ∷ []) (0 ∷ 1 ∷ 3 ∷ [])
+    ∷ stands (value 1 ∷ value 1 ∷ []) (some 0) (0 ∷ 1 ∷ []) (0 ∷ 1 ∷ [])
+    ∷ stands (value 1 ∷ value 1 ∷ value 0 ∷ []) (some 1) (0 ∷ []) (0 ∷ 2 ∷ [])
+    ∷ []
+unfolding
+    computing product inverse inverse-below nonzeroFrom bitOf byteOf extend coefficientsOf part
+    symbolCount adui sourceSymbols sourceForm sourceAdu sourceEsi repairCount repairForm repairKey densityThreshold protectedCount firstEsi repairSymbols
+    halfway sideOf check farthest fromSide readSource readRepair reading answering
+    packets.source packets.source-rows packets.row packets.only packets.repair
+    decoder.empty decoder.receive decoder.rise decoder.newly decoder.count-new decoder.is-new
+    decoder.embed decoder.advance-by decoder.insert-all
+    model.insert model.known model.settle model.settle-by model.reduce model.place model.place-free model.lead model.at
+    model.axpy model.scale model.symbol model.push model.extend model.advance
+    pass startsAfter
+calls = refl
