@@ -1,6 +1,6 @@
 -- The bench sheet of document 01 (C1 to C12, C10 as document 02 has it), the small examples of its refusals, cases at the limits of place and density,
 -- of joining, of starts and of the ADU call, computed from the definitions that the promises use, from the packets' bytes on: one table, one result.
-use Rattle.words.specs.Words.{_≡_, ℕ, List, refl, [], some, _∷_, none, _*_, _++_, Option, map}
+use Rattle.words.specs.Words.{_≡_, ℕ, List, refl, [], some, _∷_, none, _*_, Option, map}
 use Rattle.tinymt.specs.Generator.{computing}
 use Rattle.field.specs.Gf256.{product, inverse, inverse-below}
 use Rattle.memory.specs.Part.{part}
@@ -16,17 +16,16 @@ use Rattle.sender.specs.State.{Sender, fresh, headerSize, headerIn}
 use Rattle.sender.specs.Repair.{repairSymbol}
 use Rattle.sender.specs.Calls.{Outcome, refused, done, opening, adding, repairing}
 use Rattle.starts.specs.Adu.{joint, Handing, hands, withholds, need, handing}
-use Rattle.starts.specs.Starts.{Starts, nowhere, pass}
+use Rattle.starts.specs.Starts.{pass}
 use Rattle.history.specs.Symbol.{bytesOf}
-use Rattle.history.specs.History.{Call, source-call, repair-call, esiOf, sideOf, check, fromSide, readSource, readRepair, reading, workingSize, halfway}
-use Rattle.history.specs.History.{farthest}
+use Rattle.history.specs.History.{Call, source-call, repair-call, sideOf, check, fromSide, readSource, readRepair, reading, halfway, farthest}
 use Rattle.wire.specs.Answers.{Said, value, refusal as refuses}
 use Rattle.receiver.specs.Promises.{drawsFor}
-use Rattle.history.specs.Model.{State, foundBy, saidOf, stateAfter, answering, receiving, Finding, shows, hides, finding, startsAfter, marking, aduAt}
+use Rattle.history.specs.Model.{answering, Finding, shows, hides, finding, startsAfter, aduAt}
+use Rattle.history.specs.Facts.{begun, called}
 use Rattle.decoder.specs.Model as model
 use Rattle.decoder.specs.Receiver as decoder
 use Rattle.decoder.specs.Packets as packets
-use Rattle.history.specs.Model as receiver
 
 -- what the symbol call and the part show for an ESI: an answer, and bytes
 pub record Sight : Type 0 where
@@ -75,30 +74,7 @@ second = adding (after first) 1 (0x42 ∷ []) 5
 
 -- ---- a receiver
 
--- what calls have come to: what they answered, the state, and the marks
-pub record Progress (s : Setting) : Type 0 where
-  pub answers : List Said
-  pub state : State s
-  pub marks : Starts
-
 module _ (s : Setting) where
-  -- a fresh receiver
-  abbrev begun : Progress s
-  begun = record { answers = []; state = receiver.opened s; marks = nowhere }
-
-  -- one more call, with working memory enough; and the calls of a list
-  abbrev call : Progress s → Call → Progress s
-  call a c =
-      let j = foundBy s (a .state) (esiOf c) in
-      let r = reading s (j .base) (workingSize s) c in
-      let o = receiving s (a .state) (workingSize s) c in
-      let M = marking s j (a .marks) r o in
-      record { answers = a .answers ++ saidOf o ∷ []; state = stateAfter (a .state) o; marks = M }
-
-  abbrev called : Progress s → List Call → Progress s
-  called a [] = a
-  called a (c ∷ cs) = called (call a c) cs
-
   abbrev seen : Finding (s .size) → Sight
   seen (shows p v) = record { answer = value 0; bytes = bytesOf (s .size) v }
   seen (hides n) = record { answer = refuses n; bytes = [] }
@@ -106,13 +82,13 @@ module _ (s : Setting) where
   -- the calls of a list from a fresh receiver, and what is shown for some ESIs after them
   abbrev case : List Call → List ℕ → Line
   case cs es =
-      let a = called begun cs in
+      let a = called s (begun s) cs in
       received (a .answers) (map (λ e. seen (finding s (a .state) e)) es)
 
   -- the calls of a list from a fresh receiver, and what is handed out after them
   abbrev handing-case : List Call → List Ask → Line
   handing-case cs asks =
-      let a = called begun cs in
+      let a = called s (begun s) cs in
       handed (a .answers) (map (λ (q : Ask). aduAt s (a .state) (a .marks) (q .room) (q .esi)) asks)
 
 -- scheme 9 and scheme 10, E 4
