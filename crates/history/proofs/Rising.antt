@@ -8,7 +8,7 @@ use Rattle.wire.proofs.Adui.{symbols-count}
 use Rattle.history.specs.History.{Located, first, named, Call, source-call, repair-call, OfBytes, esiOf, Reading, fails, located, reading, baseFor, Log}
 use Rattle.history.specs.History.{IsValue, raised, baseOf, readAfter, logged, Judged}
 use Rattle.history.specs.Checking.{distance, namedBy}
-use Rattle.history.specs.Rising.{logAfter, endsAt, BaseAfter, Base-rises}
+use Rattle.history.specs.Rising.{endsAt, BaseAfter, Base-raised}
 use Rattle.history.proofs.Readings.{source-read, repair-read, reading-passed, reading-fits, joins-at}
 use Rattle.history.proofs.Checking.{adu-length}
 
@@ -29,7 +29,7 @@ module _ (s : Setting) (v : Valid s) (l : Log) (room : ℕ) (c : Call) (bytes : 
   at-base o e = ap (λ o. reading s (baseFor o (esiOf c)) room c) e
 
   module _ (q : Located) (x : readAfter s l room c ≡ located q) where
-    accepted : (a : Said) → IsValue a → baseOf s (logAfter s l room c a) ≡ some (raised s (baseOf s l) q)
+    accepted : (a : Said) → IsValue a → baseOf s (logged s l (readAfter s l room c) a) ≡ some (raised s (baseOf s l) q)
     accepted (value n) i = ap (λ r. baseOf s (logged s l r (value n))) x
     accepted (refusal n) i = absurd i
 
@@ -49,17 +49,20 @@ module _ (s : Setting) (v : Valid s) (l : Log) (room : ℕ) (c : Call) (bytes : 
   stays (fails m) a n e = refl
   stays (located q) a n e = ap (λ a. baseOf s (logged s l (located q) a)) e
 
-  base-after : (a : Said) → Judged s l (readAfter s l room c) a → BaseAfter s l room c a
-  base-after a j =
-      let outright : (b : ℕ) → baseOf s l ≡ some b → IsValue a → baseOf s (logAfter s l room c a) ≡ some (max b (endsAt s b c - s .width)) =
-      λ b e i. let (q, x, k) = j .accepted .0 i in accepted q x a i ∙ ap some (rose q x b e) in
-      record {
-        joins = λ e i. let (q, x, k) = j .accepted .0 i in accepted q x a i ∙ ap some (joined q x e);
-        rises = λ b e i.
-            (max b (endsAt s b c - s .width), outright b e i, record { rises = omega arith; fits = omega arith; least = λ x h k. omega arith });
-        outright = outright;
-        refused = stays (readAfter s l room c) a;
-      }
+  base-after : (a : Said) → Judged s l (readAfter s l room c) a → BaseAfter s (baseOf s l) c a (baseOf s (logged s l (readAfter s l room c) a))
+  base-after a j = record {
+    joins = λ e i. let (q, x, k) = j .accepted .0 i in accepted q x a i ∙ ap some (joined q x e);
+    rises = λ b e i. (
+      max b (endsAt s b c - s .width),
+      outright b e i,
+      record { rises = omega arith; fits = omega arith; least = λ x h k. omega arith },
+    );
+    outright = outright;
+    refused = stays (readAfter s l room c) a;
+  }
+    where
+      outright : (b : ℕ) → baseOf s l ≡ some b → IsValue a → baseOf s (logged s l (readAfter s l room c) a) ≡ some (max b (endsAt s b c - s .width))
+      outright b e i = let (q, x, k) = j .accepted .0 i in accepted q x a i ∙ ap some (rose q x b e)
 
-pub base-rises : Base-rises
-base-rises = base-after
+pub base-raised : Base-raised
+base-raised = base-after
