@@ -3,6 +3,7 @@ use Rattle.receiver.specs.Layout.{receiverLayout}
 use Rattle.claims.specs.Consequences.{Receiver-consequences}
 use Rattle.claims.proofs.NoChoice.{no-choice}
 use Rattle.claims.proofs.Joining.{joins, unmarked}
+use Rattle.claims.proofs.Checking.{all-checked, base-rises}
 use Rattle.claims.proofs.Placing.{every-place, part-placed}
 use Rattle.claims.proofs.Sent.{sender-fills, sent-accepted, sent-behind, sent-shown}
 use Rattle.claims.proofs.Sending.{sender-sends}
@@ -17,6 +18,8 @@ receiver-consequences = record {
   runs-exist = runs-exist;
   joins = joins receiverLayout;
   unmarked = unmarked;
+  all-checked = all-checked receiverLayout;
+  base-rises = base-rises receiverLayout;
   places = every-place receiverLayout;
   part-placed = part-placed;
   goes-on = chain-goes-on;

@@ -15,13 +15,13 @@ use Rattle.claims.proofs.Demand.{demand-3}
 use Rattle.claims.proofs.Sent.{none-accepted}
 
 -- The log after one more call.
-goes-one : (s : Setting) (ts : List Step) (l : Log) (t : Step)
+pub goes-one : (s : Setting) (ts : List Step) (l : Log) (t : Step)
     → goes-on s l (ts ++ (t ∷ [])) ≡ logged s (goes-on s l ts) (read s (goes-on s l ts) t) (said (t .answer))
 goes-one s [] l t = refl
 goes-one s (u ∷ ts) l t = goes-one s ts _ t
 
 -- The last call of a run is of bytes.
-last-bytes : (L : Layout) (ts : List Step) (t : Step) (m : List ℕ) → Run L m (ts ++ (t ∷ [])) → OfBytes (t .call)
+pub last-bytes : (L : Layout) (ts : List Step) (t : Step) (m : List ℕ) → Run L m (ts ++ (t ∷ [])) → OfBytes (t .call)
 last-bytes L [] t m r = r .0
 last-bytes L (u ∷ ts) t m r = last-bytes L ts t (u .memory) (r .2)
 

@@ -11,6 +11,8 @@ pub mod Sent
 pub mod SentAdus
 pub mod Heard
 pub mod Joining
+pub mod Opening
+pub mod Checking
 pub mod NotEmpty
 pub mod Drawing
 pub mod Left

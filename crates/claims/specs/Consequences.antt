@@ -3,6 +3,7 @@
 use Rattle.receiver.specs.Layout.{receiverLayout}
 use Rattle.claims.specs.NoChoice.{No-choice}
 use Rattle.claims.specs.Joining.{Joins, Unmarked}
+use Rattle.claims.specs.Checking.{All-checked, Base-rises}
 use Rattle.claims.specs.Placing.{Every-place, Part-placed}
 use Rattle.claims.specs.Heard.{Goes-on, Heard, Heard-handed}
 use Rattle.claims.specs.Sent.{Sender-fills, Sent-accepted, Sent-behind, Sent-shown}
@@ -15,6 +16,8 @@ pub record Receiver-consequences : Type 0 where
   pub runs-exist : Runs-exist
   pub joins : Joins receiverLayout
   pub unmarked : Unmarked
+  pub all-checked : All-checked receiverLayout
+  pub base-rises : Base-rises receiverLayout
   pub places : Every-place receiverLayout
   pub part-placed : Part-placed
   pub goes-on : Goes-on

@@ -1,5 +1,7 @@
 pub mod Written
 pub mod Run
+pub mod Opening
+pub mod Checking
 pub mod Left
 pub mod AnyMemory
 pub mod Unopened

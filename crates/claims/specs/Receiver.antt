@@ -1,5 +1,6 @@
 -- What is claimed of the receiver, at the layout that its calls have; `any-memory` and `unopened` are of both ends. What follows is in `Consequences`.
 use Rattle.receiver.specs.Layout.{receiverLayout}
+use Rattle.claims.specs.Opening.{Every-opening}
 use Rattle.claims.specs.Demand.{Every-list}
 use Rattle.claims.specs.Handing.{Hands-out}
 use Rattle.claims.specs.Reading.{Reads}
@@ -8,6 +9,7 @@ use Rattle.claims.specs.Unopened.{Unopened}
 use Rattle.claims.specs.Left.{Within-sizes}
 
 pub record Receiver-claims : Type 0 where
+  pub opening : Every-opening receiverLayout
   pub demand-3 : Every-list receiverLayout
   pub hands-out : Hands-out receiverLayout
   pub reads : Reads
