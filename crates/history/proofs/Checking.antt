@@ -17,16 +17,7 @@ use Rattle.coefficients.specs.Coefficients.{allOk}
 use Rattle.history.specs.History.{sideOf, Call, source-call, repair-call, esiOf, Reading, fails, located, check, fromSide, readSource, readRepair}
 use Rattle.history.specs.History.{reading, workingSize, halfway, farthest}
 use Rattle.history.specs.Checking.{distance, Lent, Formed, Few, fourOrSix, namedBy, keysIn, Drawn, saysAt, Checked, Reading-checked}
-
--- A check that fails, and one that passes.
-stops : (t : Bool) (n : ℕ) (r : Reading) → ¬ (t ≡ true) → check t n r ≡ fails n
-unfolding check
-stops true n r e = absurd (e refl)
-stops false n r e = refl
-
-goes : (t : Bool) (n : ℕ) (r : Reading) → t ≡ true → check t n r ≡ r
-unfolding check
-goes t n r e = rw e
+use Rattle.history.proofs.Readings.{check-stops, check-goes}
 
 -- An ADU fits so many symbols exactly where it takes no more.
 fits-few : (E w L : ℕ) → 0 < E → 3 + L ≤ w * E → symbolCount E L ≤ w
@@ -137,35 +128,35 @@ module _ (s : Setting) (z : 0 < s .size) where
       side-ahead h = rw (lt-ltb d (2 ^ 31) h, count-named c)
 
       lent : Lent s room → reading s b room c ≡ formed
-      lent h = in-order c ∙ goes (leb (workingSize s) room) 2 formed (le-leb (workingSize s) room (omega (arith, h)))
+      lent h = in-order c ∙ check-goes (leb (workingSize s) room) 2 formed (le-leb (workingSize s) room (omega (arith, h)))
 
       well-formed : Lent s room → Formed s c → reading s b room c ≡ sized
-      well-formed h f = lent h ∙ goes (formOf c) 5 sized (form-true c f)
+      well-formed h f = lent h ∙ check-goes (formOf c) 5 sized (form-true c f)
 
       few : Lent s room → Formed s c → Few s c → reading s b room c ≡ placed
-      few h f k = well-formed h f ∙ goes (sizeOf c) (fourOrSix s c) placed (few-true c k)
+      few h f k = well-formed h f ∙ check-goes (sizeOf c) (fourOrSix s c) placed (few-true c k)
 
       near : Lent s room → Formed s c → Few s c → d < 2 ^ 31 → d + n ≤ 65536 → reading s b room c ≡ lastOf c d
-      near h f k l g = few h f k ∙ side-ahead l ∙ goes (leb (d + n) 65536) 9 (lastOf c d) (le-leb (d + n) 65536 g)
+      near h f k l g = few h f k ∙ side-ahead l ∙ check-goes (leb (d + n) 65536) 9 (lastOf c d) (le-leb (d + n) 65536 g)
 
     last-stops : (c : Call) (d : ℕ) → ¬ Drawn s c → lastOf c d ≡ fails 10
     unfolding lastOf
     last-stops (source-call flow p) d n = absurd (n tt)
-    last-stops (repair-call p) d n = stops _ 10 _ n
+    last-stops (repair-call p) d n = check-stops _ 10 _ n
 
     last-goes : (c : Call) (d : ℕ) → Drawn s c → lastOf c d ≡ located (saysAt s (b + d) c)
     unfolding lastOf
     last-goes (source-call flow p) d k = refl
-    last-goes (repair-call p) d k = goes _ 10 _ k
+    last-goes (repair-call p) d k = check-goes _ 10 _ k
 
     pub checked : (c : Call) → Checked s b room c (reading s b room c)
     checked c = record {
-      short = λ n. in-order c ∙ stops (leb (workingSize s) room) 2 (formed c) (λ e. n (omega (arith, leb-true (workingSize s) room e)));
-      form = λ h n. lent c h ∙ stops (formOf c) 5 (sized c) (λ e. n (form-is c e));
-      many = λ h f n. well-formed c h f ∙ stops (sizeOf c) (fourOrSix s c) (placed c) (λ e. n (few-is c e));
+      short = λ n. in-order c ∙ check-stops (leb (workingSize s) room) 2 (formed c) (λ e. n (omega (arith, leb-true (workingSize s) room e)));
+      form = λ h n. lent c h ∙ check-stops (formOf c) 5 (sized c) (λ e. n (form-is c e));
+      many = λ h f n. well-formed c h f ∙ check-stops (sizeOf c) (fourOrSix s c) (placed c) (λ e. n (few-is c e));
       behind = λ h f k l. few c h f k ∙ side-behind c l;
       far = λ h f k l g. few c h f k ∙ side-ahead c l
-          ∙ stops (leb (d c + n c) 65536) 9 (lastOf c (d c)) (λ e. omega (arith, g, leb-true (d c + n c) 65536 e));
+          ∙ check-stops (leb (d c + n c) 65536) 9 (lastOf c (d c)) (λ e. omega (arith, g, leb-true (d c + n c) 65536 e));
       zeros = λ h f k l g x. near c h f k l g ∙ last-stops c (d c) x;
       passes = λ h f k l g x. near c h f k l g ∙ last-goes c (d c) x;
     }

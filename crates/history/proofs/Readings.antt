@@ -1,6 +1,6 @@
 -- What the checks before 11 leave of a packet: where it lies, what it says, and that it fits the window.
 -- Index
---   check-passed, source-whole, repair-whole
+--   check-passed, check-stops, check-goes, source-whole, repair-whole
 --   Places: a packet's place has passed
 --   SourceRead: a source packet that has passed
 --   source-read
@@ -40,6 +40,16 @@ pub check-passed : (t : Bool) (n : ℕ) (r : Reading) (q : Located) → check t 
 unfolding check
 check-passed true n r q e = (refl, e)
 check-passed false n r q e = absurd (subst IsLocated (sym e) tt)
+
+-- A check that fails, and one that passes.
+pub check-stops : (t : Bool) (n : ℕ) (r : Reading) → ¬ (t ≡ true) → check t n r ≡ fails n
+unfolding check
+check-stops true n r e = absurd (e refl)
+check-stops false n r e = refl
+
+pub check-goes : (t : Bool) (n : ℕ) (r : Reading) → t ≡ true → check t n r ≡ r
+unfolding check
+check-goes t n r e = rw e
 
 -- ---- Symbols of E bytes
 
