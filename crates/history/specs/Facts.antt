@@ -177,6 +177,8 @@ pub calls :
     -- a repair packet marks nothing; a source packet marks its first position and the one after its last, at base + width too
     ∷ after (gf2 2) (combines 0 15 1 0 (zeros 4) ∷ [])
     ∷ after (gf2 2) (adu 2 0 0 0 0 ∷ [])
+    -- the last position of the window marks base + width
+    ∷ after (gf2 2) (adu 0 0 0 0 0 ∷ combines 0 15 1 1 (1 ∷ 0 ∷ 1 ∷ 7 ∷ []) ∷ [])
     -- the first symbol of an ADU of two marks on where the second is not known; past base + width it does so once the base has risen
     ∷ after (gf2 3) (adu 0 0 0 0 0 ∷ combines 0 15 1 1 (1 ∷ 0 ∷ 5 ∷ 7 ∷ []) ∷ [])
     ∷ after (gf2 2) (adu 0 0 0 0 0 ∷ combines 0 15 1 1 (1 ∷ 0 ∷ 5 ∷ 7 ∷ []) ∷ [])
@@ -193,6 +195,7 @@ pub calls :
     ∷ stands (value 0 ∷ value 2 ∷ []) (some 1) (0 ∷ 1 ∷ []) (0 ∷ 2 ∷ [])
     ∷ stands (value 1 ∷ []) (some 0) (0 ∷ []) []
     ∷ stands (value 2 ∷ []) (some 0) (0 ∷ 1 ∷ []) (0 ∷ 2 ∷ [])
+    ∷ stands (value 1 ∷ value 1 ∷ []) (some 0) (0 ∷ 1 ∷ []) (0 ∷ 1 ∷ 2 ∷ [])
     ∷ stands (value 1 ∷ value 1 ∷ []) (some 0) (0 ∷ 1 ∷ []) (0 ∷ 1 ∷ 3 ∷ [])
     ∷ stands (value 1 ∷ value 1 ∷ []) (some 0) (0 ∷ 1 ∷ []) (0 ∷ 1 ∷ [])
     ∷ stands (value 1 ∷ value 1 ∷ value 0 ∷ []) (some 1) (0 ∷ []) (0 ∷ 2 ∷ [])
