@@ -9,8 +9,8 @@ use Rattle.memory.specs.Number.{number, bytes}
 use Rattle.memory.proofs.Number.{number-bytes, length-bytes}
 use Rattle.memory.proofs.Parts.{length-splice, take-splice, past-splice, part-before, part-splice, getD-before, getD-past}
 use Rattle.wire.specs.declared.Setting.{Setting}
-use Rattle.wire.specs.Numbers.{esiAfter}
-use Rattle.wire.specs.Settings.{settingIn}
+use Rattle.wire.specs.Inner.{esiAfter}
+use Rattle.wire.specs.Stored.{settingIn}
 use Rattle.wire.proofs.Settings.{setting-kept}
 use Rattle.decoder.specs.Bytes.{Coded}
 use Rattle.decoder.proofs.Bytes.{laws}

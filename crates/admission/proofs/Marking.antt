@@ -8,7 +8,7 @@ use Rattle.words.specs.Words.{length-drop, ext-getD, getD-drop, ap₂, decLt, m
 use Rattle.memory.specs.Part.{part}
 use Rattle.memory.proofs.Parts.{length-part, getD-part}
 use Rattle.wire.specs.declared.Setting.{Setting}
-use Rattle.wire.specs.Settings.{settingIn}
+use Rattle.wire.specs.Stored.{settingIn}
 use Rattle.wire.proofs.Settings.{setting-kept}
 use Rattle.decoder.specs.Bytes.{Coded}
 use Rattle.table.proofs.Offsets.{header-long}

@@ -1,7 +1,8 @@
 -- Contracts of inner functions: a reader need not believe these.
 -- The header that a packet is worked on with, and the memory that has it.
 use Rattle.words.specs.Words.{_≡_, ℕ, _≤_, length, List, _<_, some, _%_, true, _^_, cond}
-use Rattle.wire.specs.Settings.{settingIn, Valid}
+use Rattle.wire.specs.Settings.{Valid}
+use Rattle.wire.specs.Stored.{settingIn}
 use Rattle.history.specs.History.{memorySize}
 use Rattle.holding.specs.declared.Header.{Header}
 

@@ -4,7 +4,8 @@ use Rattle.words.specs.Words.{_&&_, lt-leb, ltb-true, ltb-false}
 use Rattle.wire.specs.declared.Setting.{Setting}
 use Rattle.wire.specs.declared.Checked.{Checked}
 use Rattle.wire.specs.declared.Checked.the-variants.{Good, Bad}
-use Rattle.wire.specs.Settings.{settingOf, checkedOf}
+use Rattle.wire.specs.Settings.{settingOf}
+use Rattle.wire.specs.Stored.{checkedOf}
 use Rattle.wire.specs.declared.Answer.{Answer}
 use Rattle.wire.specs.declared.Answer.the-variants.{Done, Refused}
 use Rattle.wire.specs.declared.Refusal.{Refusal}

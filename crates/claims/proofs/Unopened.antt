@@ -2,7 +2,7 @@
 use Rattle.words.specs.Words.{_≡_, arith, ℕ, List, length, refl, _∙_, sym, some, none, subst, Option, take, Option·none-ne-some, length-take, _≢_, now, _≤_}
 use lib.Seq.{take-take}
 use Rattle.wire.specs.declared.Setting.{Setting}
-use Rattle.wire.specs.Settings.{settingIn}
+use Rattle.wire.specs.Stored.{settingIn}
 use Rattle.wire.proofs.Settings.{setting-found, setting-kept, one-kind}
 use Rattle.wire.specs.Answers.{Said, refusal}
 use Rattle.sender.specs.State.{headerSize}

@@ -1,7 +1,8 @@
 -- The draws that look for a nonzero byte: the first one that is found is taken, and refusal 10 comes after sixteen zeros and at no other time.
 use Rattle.words.specs.Words.{_≡_, arith, ℕ, _≤_, _+_, List, _<_, refl, _∙_, sym, [], _∷_, suc, true, zero, false, _++_, Bool, cond, leb, eqb, le-leb, add-zero}
 use Rattle.words.specs.Words.{map, ne-eqb, eq-eqb, true≢false, replicate, eqb-true, eqb-false}
-use Rattle.tinymt.specs.Generator.{drawOf, firstDraws, low4, low8}
+use Rattle.tinymt.specs.Generator.{drawOf, low4, low8}
+use Rattle.tinymt.specs.Computing.{firstDraws}
 use Rattle.tinymt.specs.declared.Drawn.{Drawn}
 use Rattle.memory.proofs.Parts.{cons-eq}
 use Rattle.coefficients.specs.Coefficients.{found, nonzeroFrom, byteOf}

@@ -2,11 +2,13 @@
 use Rattle.words.specs.Words.{_≡_, arith, ℕ, _<_, _∙_, sym, ap, suc, zero, _≢_, ap₂, bitXor, mod-eq-of-lt, xor-zero-r, xor-lt, xor-comm}
 use native.Mathlib.Nat.{suc-ne-zero}
 use lib.Bits.{xor-self}
-use Rattle.field.specs.Gf256.{product, inverse}
+use Rattle.field.specs.Gf256.{product}
+use Rattle.field.specs.Powers.{inverse}
 use Rattle.field.proofs.Xor.{xor-assoc}
 use Rattle.field.proofs.Laws.{product-lt, product-comm, product-assoc, product-sum-right, product-zero-right, product-one, product-inverse, inverse-lt}
 use Rattle.decoder.specs.Field.{Laws}
-use Rattle.decoder.specs.Bytes.{Byte, byte, byte-path, byte-sum, byte-product, bytes, Coded}
+use Rattle.decoder.specs.Bytes.{byte, byte-path, byte-sum, byte-product, bytes, Coded}
+use Rattle.decoder.specs.Tuples.{Byte}
 use Rattle.decoder.proofs.Symbols.{symbols-laws}
 
 -- A byte's number; sums and products are below 256.

@@ -7,7 +7,8 @@ use Rattle.field.proofs.Laws.{product-lt}
 use Rattle.decoder.specs.Symbols.{nulls, adds, times}
 use Rattle.decoder.specs.Bytes.{byte, byte-sum, byte-product, bytes}
 use Rattle.decoder.specs.TableSteps.{add-line, scale-line}
-use Rattle.decoder.specs.Stretch.{symbol-at, bytes-of, Small, line-of}
+use Rattle.decoder.specs.Stretch.{symbol-at, Small, line-of}
+use Rattle.decoder.specs.Tuples.{bytes-of}
 use Rattle.decoder.proofs.Bytes.{byte-number, byte-zero, byte-nonzero}
 
 -- A symbol is shown as the part of the row that holds it.

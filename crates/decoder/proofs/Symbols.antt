@@ -1,7 +1,8 @@
 -- Symbols of `E` bytes obey the laws that single bytes obey.
 use Rattle.words.specs.Words.{_≡_, ℕ, refl, ap, suc, zero, ap₂}
 use Rattle.decoder.specs.Field.{Ops, Laws}
-use Rattle.decoder.specs.Symbols.{Tuple, nulls, adds, times, symbols}
+use Rattle.decoder.specs.Symbols.{nulls, adds, times, symbols}
+use Rattle.decoder.specs.Tuples.{Tuple}
 
 module _ (O : Ops) (L : Laws O) where
   open Ops O using (K, Sym)

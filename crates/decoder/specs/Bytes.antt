@@ -1,16 +1,14 @@
 -- The field of bytes, GF(2^8), and symbols of `E` bytes over it.
 -- Scheme 10 has all coefficients of it. Scheme 9 has the coefficients 0 and 1, whose sums and products are those of GF(2).
-use Rattle.words.specs.Words.{_≡_, ℕ, _<_, refl, ap, _%_, suc, zero, mod-lt, bitXor, lit<}
+use Rattle.words.specs.Words.{_≡_, ℕ, refl, ap, _%_, suc, zero, mod-lt, bitXor, lit<}
 use mathlib.Core.HLevel.{Σ-prop-path}
 use native.Mathlib.Bridge.{le-prop}
 use native.Mathlib.Nat.{suc-ne-zero}
-use Rattle.field.specs.Gf256.{product, inverse}
+use Rattle.field.specs.Gf256.{product}
+use Rattle.field.specs.Powers.{inverse}
 use Rattle.decoder.specs.Field.{Ops}
 use Rattle.decoder.specs.Symbols.{symbols}
-
--- A number below 256.
-abbrev pub Byte : Type 0
-Byte = (n : ℕ) × (n < 256)
+use Rattle.decoder.specs.Tuples.{Byte}
 
 -- The byte of a number: the number itself where it is below 256, as are the sums, products and inverses of bytes.
 abbrev pub byte : ℕ → Byte

@@ -6,7 +6,8 @@ use Rattle.decoder.specs.Field.{Ops}
 use Rattle.decoder.specs.Model.{Filling, Row, eval, State, Sat, Rref, insert, known}
 use Rattle.decoder.specs.Receiver.{shift, Accepted, Packet, Satisfies, Satisfies-all, Receiver, advance-by, receive, Fitting, Log, opened, run}
 use Rattle.decoder.specs.Packets.{source, Repair, repair, Combined}
-use Rattle.decoder.specs.Bytes.{Byte, byte, Coded}
+use Rattle.decoder.specs.Bytes.{byte, Coded}
+use Rattle.decoder.specs.Tuples.{Byte}
 
 module _ {O : Ops} where
   open Ops O using (Sym)

@@ -1,17 +1,13 @@
 -- A row's bytes in memory, `w` coefficients by the remainder of their position and then `E` bytes of symbol, as a line of the table.
-use Rattle.words.specs.Words.{ℕ, List, _<_, [], _%_, _∷_, suc, zero, getD}
-use Rattle.decoder.specs.Symbols.{Tuple}
-use Rattle.decoder.specs.Bytes.{Byte, byte, Coded}
+use Rattle.words.specs.Words.{ℕ, List, _<_, _%_, suc, zero, getD}
+use Rattle.decoder.specs.Tuples.{Tuple, Byte}
+use Rattle.decoder.specs.Bytes.{byte, Coded}
 use Rattle.decoder.specs.Table.{Line}
 
--- The `n` bytes from `o` on, as a symbol; and a symbol's bytes.
+-- The `n` bytes from `o` on, as a symbol.
 abbrev pub symbol-at : (n o : ℕ) → List ℕ → Tuple Byte n
 symbol-at zero o s = tt
 symbol-at (suc n) o s = (byte (getD s o 0), symbol-at n (suc o) s)
-
-abbrev pub bytes-of : (n : ℕ) → Tuple Byte n → List ℕ
-bytes-of zero v = []
-bytes-of (suc n) v = v .0 .0 ∷ bytes-of n (v .1)
 
 -- The line that a row's bytes hold.
 abbrev pub line-of : (w E : ℕ) → List ℕ → Line (Coded E)

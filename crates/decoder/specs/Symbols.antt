@@ -1,11 +1,7 @@
 -- Symbols of `E` bytes, byte by byte, over a space of single bytes.
 use Rattle.words.specs.Words.{_≡_, ℕ, refl, ap, suc, zero, ap₂}
 use Rattle.decoder.specs.Field.{Ops}
-
--- `n` values.
-abbrev pub Tuple : Type 0 → ℕ → Type 0
-Tuple A zero = Unit {0}
-Tuple A (suc n) = A × Tuple A n
+use Rattle.decoder.specs.Tuples.{Tuple}
 
 -- Whether two pairs are the same.
 abbrev both? : {A B : Type 0} {a c : A} {b d : B} → Dec (a ≡ c) → Dec (b ≡ d) → Dec (_≡_ {A = A × B} (a, b) (c, d))

@@ -9,7 +9,8 @@ use Rattle.words.specs.Words.{_/_, add-zero, bitXor, not-suc-le-zero, zero-add,
 use native.Mathlib.Nat.{div-add-mod'}
 use lib.Arith.{lt-of-le-ne}
 use lib.Dec.{T, eqb→eq, ltb→lt}
-use Rattle.field.specs.Gf256.{product, times, remainder, power, inverse-below, inverse}
+use Rattle.field.specs.Gf256.{product, times, remainder}
+use Rattle.field.specs.Powers.{power, inverse-below, inverse}
 use Rattle.field.specs.Tables.{doublings, logarithmTable}
 use Rattle.field.specs.Logarithm.{IsLogarithm}
 use Rattle.field.proofs.Polynomial.{times-comm, times-assoc, times-one, times-xor-left, remainder-xor, remainder-times, remainder-id, remainder-lt}

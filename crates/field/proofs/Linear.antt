@@ -3,7 +3,8 @@ use Rattle.words.specs.Words.{_≡_, arith, ℕ, _≤_, _+_, List, _<_, refl, _
 use Rattle.words.specs.Words.{xor-zero-r, one-mul, xor-comm}
 use native.Mathlib.Nat.{pow-suc}
 use lib.Bits.{xor-shifted}
-use Rattle.field.specs.Gf256.{product, times, remainder, power}
+use Rattle.field.specs.Gf256.{product, times, remainder}
+use Rattle.field.specs.Powers.{power}
 use Rattle.field.specs.Tables.{doublings}
 use Rattle.field.proofs.Xor.{split-digit}
 use Rattle.field.proofs.Polynomial.{remainder-times, remainder-id, remainder-xor}

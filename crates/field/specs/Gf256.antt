@@ -1,6 +1,6 @@
 -- GF(2^8), as RFC 8681 has it: polynomials over GF(2) modulo x^8 + x^4 + x^3 + x^2 + 1.
 -- A polynomial is the number whose binary digits are its coefficients, so the sum of two is `bitXor` and `p * 2` is x times p.
-use Rattle.words.specs.Words.{ℕ, _%_, suc, true, zero, _*_, false, _^_, eqb, _/_, bitXor}
+use Rattle.words.specs.Words.{ℕ, _%_, _*_, _^_, _/_, bitXor}
 use Rattle.field.specs.Digits.{fold-digits}
 
 -- x^8 + x^4 + x^3 + x^2 + 1
@@ -24,17 +24,3 @@ remainder = fold-digits (λ d r. reduce (bitXor d (r * 2)))
 unfoldable pub product : ℕ → ℕ → ℕ
 unfolding times remainder
 product a b = remainder (times a b)
-
--- The powers of 2, which is the polynomial x.
-unfoldable pub power : ℕ → ℕ
-power zero = 1
-power (suc n) = product 2 (power n)
-
--- The number below n whose product with a is 1, or 0 if there is none.
-unfoldable pub inverse-below : ℕ → ℕ → ℕ
-inverse-below zero a = 0
-inverse-below (suc n) a = elim (eqb (product a n) 1) [ true ↦ n | false ↦ inverse-below n a ]
-
--- The inverse in GF(2^8), and 0 for 0.
-unfoldable pub inverse : ℕ → ℕ
-inverse = inverse-below 256

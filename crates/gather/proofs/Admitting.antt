@@ -4,7 +4,8 @@
 -- The packet's rows: gathered-same, gathered-only, gathered-none. The whole call: admitted.
 use Rattle.words.specs.Words.{_≡_, arith, ℕ, _≤_, _+_, List, length, _<_, refl, _∙_, sym, ap, _-_, [], some, _%_, _∷_, getD, _++_, subst, _≢_, mod-lt}
 use Rattle.words.specs.Words.{ℕ-discrete, decLt, add-one, mod-add-mod, set, add-mod-right}
-use Rattle.field.specs.Gf256.{product, inverse}
+use Rattle.field.specs.Gf256.{product}
+use Rattle.field.specs.Powers.{inverse}
 use Rattle.field.proofs.Laws.{inverse-lt}
 use Rattle.memory.specs.Part.{part, splice}
 use Rattle.memory.specs.Number.{Bytes}

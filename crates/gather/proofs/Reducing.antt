@@ -12,7 +12,8 @@ use Rattle.memory.specs.Part.{part, splice}
 use Rattle.memory.specs.Number.{Bytes}
 use Rattle.memory.proofs.Parts.{cut, put, length-part, getD-part, getD-within, splice-part, row-fits}
 use Rattle.rows.specs.Rows.{addScaled}
-use Rattle.rows.specs.Combination.{combined, coefficient, rowAt}
+use Rattle.rows.specs.Combination.{coefficient}
+use Rattle.rows.specs.Sums.{combined, rowAt}
 use Rattle.rows.proofs.Sums.{length-addScaled, getD-addScaled, addScaled-zero}
 use Rattle.rows.proofs.Combinations.{length-combined}
 use Rattle.decoder.specs.Bytes.{byte, Coded}

@@ -1,11 +1,12 @@
 -- Contracts of inner functions: a reader need not believe these.
 -- An equation is reduced by the state's rows and by the packet's, and its oldest coefficient is found and made one.
 use Rattle.words.specs.Words.{_≡_, ℕ, _≤_, _+_, List, length, _<_, _%_, true, getD, false, Bool, _≢_}
-use Rattle.field.specs.Gf256.{inverse}
+use Rattle.field.specs.Powers.{inverse}
 use Rattle.memory.specs.Part.{part, splice}
 use Rattle.memory.specs.Number.{Bytes}
 use Rattle.rows.specs.Rows.{addScaled}
-use Rattle.rows.specs.Combination.{combined, coefficient, rowAt}
+use Rattle.rows.specs.Combination.{coefficient}
+use Rattle.rows.specs.Sums.{combined, rowAt}
 use Rattle.decoder.specs.Bytes.{byte, Coded}
 use Rattle.decoder.specs.Model.{lead, symbol, scale}
 use Rattle.decoder.specs.TableSteps.{scale-line}

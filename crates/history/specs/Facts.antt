@@ -1,8 +1,9 @@
 -- Computed from the definitions, from the packets' bytes on: the sizes; the order of the checks, and their limits; every DT, and keys over 65,535; and where
 -- calls bring the base, the count and the marks in cases that are easy to take otherwise.
 use Rattle.words.specs.Words.{_≡_, ℕ, _+_, List, refl, [], some, _∷_, suc, true, zero, none, _*_, false, _++_, Bool, Option, cond, map}
-use Rattle.tinymt.specs.Generator.{computing}
-use Rattle.field.specs.Gf256.{product, inverse, inverse-below}
+use Rattle.tinymt.specs.Computing.{computing}
+use Rattle.field.specs.Gf256.{product}
+use Rattle.field.specs.Powers.{inverse, inverse-below}
 use Rattle.memory.specs.Part.{part}
 use Rattle.wire.specs.declared.Scheme.the-variants.{Gf2, Gf256}
 use Rattle.wire.specs.declared.Setting.{Setting}

@@ -1,8 +1,7 @@
 -- Symbols of E bytes.
 use Rattle.words.specs.Words.{ℕ, List}
-use Rattle.decoder.specs.Bytes.{Byte}
-use Rattle.decoder.specs.Symbols.{Tuple}
-use Rattle.decoder.specs.Stretch.{symbol-at, bytes-of}
+use Rattle.decoder.specs.Tuples.{Byte, Tuple, bytes-of}
+use Rattle.decoder.specs.Stretch.{symbol-at}
 
 -- E bytes.
 abbrev pub Symbol : ℕ → Type 0

@@ -14,7 +14,8 @@ use Rattle.rows.specs.Combination.{tabulate}
 use Rattle.rows.proofs.Combinations.{length-tabulate, getD-tabulate}
 use Rattle.wire.specs.declared.Setting.{Setting}
 use Rattle.wire.specs.Packets.{Sized, zeros, joined, chunks}
-use Rattle.wire.specs.Settings.{Valid, settingIn, settingBytes}
+use Rattle.wire.specs.Settings.{Valid}
+use Rattle.wire.specs.Stored.{settingIn, settingBytes}
 use Rattle.wire.proofs.Settings.{setting-written}
 use Rattle.wire.proofs.Adui.{getD-chunks}
 use Rattle.wire.proofs.Reading.{length-joined}

@@ -7,7 +7,8 @@ use Rattle.words.specs.Words.{_≡_, arith, ℕ, _≤_, _+_, List, length, _<_,
 use Rattle.words.specs.Words.{Option, _^_, ap₂, leb, Option·some-injective, map, mod-add-mod, true≢false}
 use Rattle.wire.specs.declared.Setting.{Setting}
 use Rattle.wire.specs.Packets.{sourceSymbols, sourceAdu, sourceEsi, protectedCount, firstEsi, repairSymbols}
-use Rattle.decoder.specs.Bytes.{Byte, byte, Coded}
+use Rattle.decoder.specs.Bytes.{byte, Coded}
+use Rattle.decoder.specs.Tuples.{Byte}
 use Rattle.decoder.specs.Model.{Row, Rref, known}
 use Rattle.decoder.specs.Table.{read, slot, view, Echelon}
 use Rattle.history.proofs.Sides.{side-same}

@@ -12,7 +12,8 @@ use Rattle.memory.specs.Part.{part}
 use Rattle.memory.specs.Number.{number}
 use Rattle.wire.specs.declared.Setting.{Setting}
 use Rattle.wire.specs.Packets.{zeros}
-use Rattle.wire.specs.Settings.{settingIn, Valid}
+use Rattle.wire.specs.Settings.{Valid}
+use Rattle.wire.specs.Stored.{settingIn}
 use Rattle.wire.proofs.Settings.{both, setting-found, setting-kept, zeros-none, one-kind}
 use Rattle.table.specs.Window.{headerSize, stride, Fits}
 use Rattle.holding.specs.declared.Header.{Header}

@@ -3,7 +3,7 @@ use Rattle.words.specs.Words.{ℕ, List, length, _-_, some, none, Option, cond,
 use Rattle.memory.specs.Part.{part}
 use Rattle.memory.specs.Number.{number}
 use Rattle.wire.specs.declared.Setting.{Setting}
-use Rattle.wire.specs.Settings.{settingIn}
+use Rattle.wire.specs.Stored.{settingIn}
 use Rattle.holding.specs.declared.Header.{Header}
 use Rattle.history.specs.History.{memorySize}
 

@@ -4,7 +4,7 @@ use Rattle.memory.specs.Part.{part, splice}
 use Rattle.wire.specs.declared.Setting.{Setting}
 use Rattle.wire.specs.Numbers.{numberOf}
 use Rattle.wire.specs.Packets.{zeros}
-use Rattle.wire.specs.Settings.{settingBytes}
+use Rattle.wire.specs.Stored.{settingBytes}
 use Rattle.table.specs.declared.Shape.{Shape}
 use Rattle.holding.specs.declared.Header.{Header}
 use Rattle.holding.specs.declared.Found.{Found}

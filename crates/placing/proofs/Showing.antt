@@ -10,7 +10,7 @@ use Rattle.decoder.specs.Bytes.{byte, Coded}
 use Rattle.decoder.specs.Model.{State, known}
 use Rattle.decoder.specs.Receiver.{is-new}
 use Rattle.decoder.specs.Table.{view}
-use Rattle.decoder.specs.Stretch.{bytes-of}
+use Rattle.decoder.specs.Tuples.{bytes-of}
 use Rattle.decoder.proofs.Bytes.{laws, byte-zero, byte-nonzero}
 use Rattle.decoder.proofs.Stretch.{bytes-of-symbol}
 use Rattle.decoder.proofs.Counting.{count-all}

@@ -8,7 +8,8 @@ use Rattle.memory.proofs.Parts.{length-part, length-splice, take-splice, past-s
 use Rattle.wire.specs.declared.Setting.{Setting}
 use Rattle.wire.specs.declared.Refusal.the-variants.{Values, Short}
 use Rattle.wire.specs.Packets.{zeros}
-use Rattle.wire.specs.Settings.{settingOf, settingBytes, Valid}
+use Rattle.wire.specs.Settings.{settingOf, Valid}
+use Rattle.wire.specs.Stored.{settingBytes}
 use Rattle.wire.proofs.Settings.{setting-names, setting-written, setting-kept}
 use Rattle.table.specs.Window.{headerSize, stride, rowOffset}
 use Rattle.table.proofs.Offsets.{flags-fit}

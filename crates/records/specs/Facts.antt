@@ -1,8 +1,9 @@
 -- Computed from the definitions: document 02's sample, answers of each kind, inputs that end without 0A, and bad first lines.
 use Rattle.words.specs.Words.{_≡_, ℕ, List, refl, [], some, _∷_, none, map}
 use Prim.Native.String.{String}
-use Rattle.tinymt.specs.Generator.{computing}
-use Rattle.field.specs.Gf256.{product, inverse, inverse-below}
+use Rattle.tinymt.specs.Computing.{computing}
+use Rattle.field.specs.Gf256.{product}
+use Rattle.field.specs.Powers.{inverse, inverse-below}
 use Rattle.memory.specs.Part.{part}
 use Rattle.rows.specs.Combination.{combination}
 use Rattle.wire.specs.declared.Scheme.the-variants.{Gf2, Gf256}

@@ -6,7 +6,8 @@ use Rattle.field.specs.Gf256.{product}
 use Rattle.field.proofs.Xor.{xor-assoc}
 use Rattle.memory.proofs.Parts.{row-fits, length-part}
 use Rattle.rows.specs.Rows.{addScaled}
-use Rattle.rows.specs.Combination.{dot, coefficient, tabulate, combination, combined, rowAt}
+use Rattle.rows.specs.Combination.{dot, coefficient, tabulate, combination}
+use Rattle.rows.specs.Sums.{combined, rowAt}
 use Rattle.rows.proofs.Sums.{length-addScaled, getD-addScaled}
 
 pub length-combined : (row : ℕ → List ℕ) (c : ℕ → ℕ) (n : ℕ) (d : List ℕ) → length (combined c row n d) ≡ length d

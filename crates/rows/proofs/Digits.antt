@@ -3,12 +3,14 @@
 use Rattle.words.specs.Words.{_≡_, arith, ℕ, _≤_, _+_, List, length, _<_, refl, _∙_, sym, ap, _%_, suc, zero, getD, _^_, ap₂, _/_, add-one, bitXor, ext-getD}
 use Rattle.words.specs.Words.{xor-comm}
 use native.Mathlib.Nat.{pow-suc, div-div-eq-div-mul, div-eq-of-lt, div-one}
-use Rattle.field.specs.Gf256.{product, power, inverse}
+use Rattle.field.specs.Gf256.{product}
+use Rattle.field.specs.Powers.{power, inverse}
 use Rattle.field.proofs.Xor.{xor-assoc}
 use Rattle.field.proofs.Laws.{product-sum-right, product-inverse}
 use Rattle.memory.specs.Number.{Bytes}
 use Rattle.rows.specs.Rows.{scaled}
-use Rattle.rows.specs.Combination.{dot, combined, coefficient}
+use Rattle.rows.specs.Combination.{dot, coefficient}
+use Rattle.rows.specs.Sums.{combined}
 use Rattle.rows.specs.Digits.{shifted, digit}
 use Rattle.rows.proofs.Sums.{length-scaled, getD-scaled, addScaled-zero, scaled-scaled, scaled-one}
 use Rattle.rows.proofs.Dot.{dot-halves}

@@ -13,11 +13,13 @@ use Rattle.memory.specs.Part.{part, splice}
 use Rattle.memory.proofs.Parts.{splice-next, take-new, cons-eq}
 use Rattle.wire.specs.declared.Scheme.{Scheme}
 use Rattle.wire.specs.declared.Refusal.{Refusal}
-use Rattle.wire.specs.Numbers.{within, esiBefore}
+use Rattle.wire.specs.Numbers.{within}
+use Rattle.wire.specs.Inner.{esiBefore}
 use Rattle.wire.specs.Packets.{Sized, joined, chunks, repairHeader, repairPacket}
 use Rattle.wire.proofs.Adui.{front-next, length-chunks, getD-chunks}
 use Rattle.wire.proofs.Reading.{repair-length}
-use Rattle.rows.specs.Combination.{coefficient, combination, combined, rowAt}
+use Rattle.rows.specs.Combination.{coefficient, combination}
+use Rattle.rows.specs.Sums.{combined, rowAt}
 use Rattle.rows.proofs.Dot.{dot-same}
 use Rattle.rows.proofs.Combinations.{long-rows, length-combination, combined-sums}
 use Rattle.coefficients.specs.Coefficients.{keys, listsOf, allOk, drawsOf, packetDraws}

@@ -13,7 +13,8 @@ use Rattle.memory.proofs.Number.{number-bytes}
 use Rattle.memory.proofs.Parts.{length-splice, take-splice, part-within, part-part, splice-next}
 use Rattle.wire.specs.declared.Setting.{Setting}
 use Rattle.wire.specs.Packets.{zeros}
-use Rattle.wire.specs.Settings.{settingIn, Valid}
+use Rattle.wire.specs.Settings.{Valid}
+use Rattle.wire.specs.Stored.{settingIn}
 use Rattle.wire.proofs.Settings.{both, setting-found, setting-kept, zeros-none, one-kind}
 use Rattle.sender.specs.declared.Header.{Header}
 use Rattle.sender.specs.State.{Sender, headerSize, memorySize, headerWith, headerIn, headerOf, Holds}

@@ -26,7 +26,7 @@ use Rattle.sender.specs.Calls.{Outcome, refused, done, opening, adding, 
 use Rattle.sender.specs.Promises.{answerOf, drawsIn, DoneWith, Follows, Adds, Draws, RepairMade}
 use Rattle.sender.specs.Run.{SenderCall, added, repaired, Calls, memoryAfter, symbolsOf}
 use Rattle.sender.specs.Judged.{Refuses, Writes, Allowed, Ranged, Takeable, AduJudged, keyIn, keysIn, covered, older, packetOf, RepairJudged, CallJudged}
-use Rattle.sender.specs.Claims.{Opening-judged, Sender-judged}
+use Rattle.sender.specs.Judged.{Opening-judged, Sender-judged}
 use Rattle.sender.proofs.Promising.{opening-values, opening-short, opening-done, adding-long, adding-many, adding-short, adding-done}
 use Rattle.sender.proofs.Repairing.{repairing-range, repairing-empty, repairing-short, repairing-draws, repairing-done}
 use Rattle.sender.proofs.Combining.{symbols-of}

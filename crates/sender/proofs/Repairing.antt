@@ -7,7 +7,8 @@ use native.Mathlib.Nat.{add-mod-left}
 use Rattle.memory.specs.Part.{part}
 use Rattle.wire.specs.declared.Scheme.{Scheme}
 use Rattle.wire.specs.declared.Scheme.the-variants.{Gf2, Gf256}
-use Rattle.wire.specs.Numbers.{within, esiBefore}
+use Rattle.wire.specs.Numbers.{within}
+use Rattle.wire.specs.Inner.{esiBefore}
 use Rattle.wire.proofs.Settings.{within-bounds}
 use Rattle.coefficients.specs.Coefficients.{keys, allOk}
 use Rattle.sender.specs.declared.Header.{Header}

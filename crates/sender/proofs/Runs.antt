@@ -10,7 +10,8 @@ use Rattle.memory.specs.Part.{splice}
 use Rattle.wire.specs.declared.Refusal.{Refusal}
 use Rattle.wire.specs.declared.Refusal.the-variants as refusals
 use Rattle.wire.specs.Numbers.{within, numberOf}
-use Rattle.wire.specs.Settings.{schemeNumber, Valid, settingBytes}
+use Rattle.wire.specs.Settings.{schemeNumber, Valid}
+use Rattle.wire.specs.Stored.{settingBytes}
 use Rattle.wire.specs.Packets.{longestAdu, symbolCount, sourceSymbols, sourcePacket}
 use Rattle.wire.proofs.Adui.{symbols-count, symbol-length}
 use Rattle.wire.proofs.Reading.{source-length}

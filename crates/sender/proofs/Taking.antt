@@ -6,8 +6,9 @@ use lib.Seq.{drop-nil}
 use Rattle.memory.specs.Part.{part, splice}
 use Rattle.memory.proofs.Parts.{part-drop, length-splice, past-splice}
 use Rattle.wire.specs.declared.Setting.{Setting}
-use Rattle.wire.specs.Settings.{Valid, settingBytes}
-use Rattle.wire.specs.Numbers.{esiAfter}
+use Rattle.wire.specs.Settings.{Valid}
+use Rattle.wire.specs.Stored.{settingBytes}
+use Rattle.wire.specs.Inner.{esiAfter}
 use Rattle.wire.specs.Packets.{symbolCount, sourceSymbols}
 use Rattle.wire.proofs.Adui.{symbols-count}
 use Rattle.wire.proofs.Settings.{setting-written}

@@ -3,19 +3,11 @@ use Rattle.words.specs.Words.{_≡_, ℕ, _≤_, _+_, List, length, _<_, [], _�
 use Rattle.memory.specs.Number.{Bytes}
 use Rattle.wire.specs.declared.Setting.{Setting}
 use Rattle.wire.specs.Settings.{schemeNumber}
-use Rattle.wire.specs.declared.Answer.{Answer}
 use Rattle.wire.specs.Answers.{Said, said}
-use Rattle.sender.specs.Promises.{answerOf, drawsIn, Opens}
+use Rattle.sender.specs.Promises.{answerOf, drawsIn}
 use Rattle.sender.specs.Run.{SenderCall, added, repaired, SenderRun, symbolsOf}
-use Rattle.sender.specs.Judged.{Allowed, OpeningJudged, CallsJudged}
-
--- every opening is judged so
-abbrev pub Opening-judged : Type 0
-Opening-judged = (scheme E width : ℕ) (m : List ℕ) (r : Answer) (m′ : List ℕ) → Opens scheme E width m r m′ → OpeningJudged scheme E width m (said r) m′
-
--- and every call of every list of calls after an opening that answered 0
-abbrev pub Sender-judged : Type 0
-Sender-judged = (t : Setting) (l : List SenderCall) (r : SenderRun t l) → CallsJudged t (r .after) l
+use Rattle.sender.specs.Judged.{Allowed, CallsJudged}
+use Rattle.sender.specs.Judged.{Opening-judged, Sender-judged}
 
 -- what a call is given, with the output lent
 pub data Given : Type 0 where

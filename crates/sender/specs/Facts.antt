@@ -1,7 +1,7 @@
 -- Computed from the definitions of the calls: refusals in their order, the limits of memory and of ADUs, the keys and density thresholds that are written,
 -- and windows that have lost symbols: one table, one result.
 use Rattle.words.specs.Words.{_≡_, ℕ, List, refl, [], _∷_, getD, map}
-use Rattle.tinymt.specs.Generator.{computing}
+use Rattle.tinymt.specs.Computing.{computing}
 use Rattle.field.specs.Gf256.{product}
 use Rattle.memory.specs.Part.{part}
 use Rattle.rows.specs.Combination.{combination}

@@ -5,7 +5,7 @@ use Rattle.words.specs.Words.{take, map}
 use Rattle.memory.specs.Part.{part, splice}
 use Rattle.memory.specs.Number.{bytes}
 use Rattle.wire.specs.declared.Refusal.the-variants.{Draws}
-use Rattle.wire.specs.Numbers.{esiBefore}
+use Rattle.wire.specs.Inner.{esiBefore}
 use Rattle.wire.specs.declared.Setting.{Setting}
 use Rattle.wire.specs.Settings.{Valid}
 use Rattle.wire.specs.Packets.{longestAdu, symbolCount, sourceSymbols, chunks, repairPacket}

@@ -10,7 +10,9 @@ use Rattle.wire.specs.Answers.{Said, value, refusal, said}
 use Rattle.coefficients.specs.Coefficients.{keys, listsOf, allOk, drawsOf}
 use Rattle.rows.specs.Combination.{combination}
 use Rattle.sender.specs.Answers.{answerOf, drawsIn}
-use Rattle.sender.specs.Run.{SenderCall, added, repaired, memoryAfter, symbolsOf}
+use Rattle.sender.specs.Run.{SenderCall, added, repaired, memoryAfter, symbolsOf, SenderRun}
+use Rattle.wire.specs.declared.Answer.{Answer}
+use Rattle.sender.specs.Promises.{Opens}
 
 -- the call answers the refusal n; memory and output are as they were, byte for byte
 pub record Refuses (n : ℕ) (a : Said) (m m′ out out′ : List ℕ) : Type 0 where
@@ -92,3 +94,11 @@ module _ (t : Setting) where
   CallsJudged m l =
       (before : List SenderCall) (c : SenderCall) (after : List SenderCall) → l ≡ before ++ (c ∷ after)
       → CallJudged (symbolsOf E before) (memoryAfter m before) c
+
+-- every opening is judged so
+abbrev pub Opening-judged : Type 0
+Opening-judged = (scheme E width : ℕ) (m : List ℕ) (r : Answer) (m′ : List ℕ) → Opens scheme E width m r m′ → OpeningJudged scheme E width m (said r) m′
+
+-- and every call of every list of calls after an opening that answered 0
+abbrev pub Sender-judged : Type 0
+Sender-judged = (t : Setting) (l : List SenderCall) (r : SenderRun t l) → CallsJudged t (r .after) l

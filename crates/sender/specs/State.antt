@@ -4,7 +4,7 @@ use Rattle.words.specs.Words.{_≡_, ℕ, _≤_, _+_, List, length, _<_, _-_, [
 use Rattle.memory.specs.Part.{part}
 use Rattle.memory.specs.Number.{number}
 use Rattle.wire.specs.declared.Setting.{Setting}
-use Rattle.wire.specs.Settings.{settingIn}
+use Rattle.wire.specs.Stored.{settingIn}
 use Rattle.wire.specs.Packets.{sourceSymbols}
 use Rattle.sender.specs.declared.Header.{Header}
 

@@ -1,13 +1,15 @@
 -- The bench sheet of document 01 (C1 to C12, C10 as document 02 has it), the small examples of its refusals, cases at the limits of place and density,
 -- of joining, of starts and of the ADU call, computed from the definitions that the promises use, from the packets' bytes on: one table, one result.
 use Rattle.words.specs.Words.{_≡_, ℕ, List, refl, [], some, _∷_, none, _*_, Option, map}
-use Rattle.tinymt.specs.Generator.{computing}
-use Rattle.field.specs.Gf256.{product, inverse, inverse-below}
+use Rattle.tinymt.specs.Computing.{computing}
+use Rattle.field.specs.Gf256.{product}
+use Rattle.field.specs.Powers.{inverse, inverse-below}
 use Rattle.memory.specs.Part.{part}
 use Rattle.rows.specs.Combination.{combination}
 use Rattle.wire.specs.declared.Scheme.the-variants.{Gf2, Gf256}
 use Rattle.wire.specs.declared.Setting.{Setting}
-use Rattle.wire.specs.Settings.{inRange, settingOf, field, settingIn}
+use Rattle.wire.specs.Settings.{inRange, settingOf}
+use Rattle.wire.specs.Stored.{field, settingIn}
 use Rattle.wire.specs.Packets.{zeros, symbolCount, adui, sourceSymbols, sourcePacket, sourceForm, sourceAdu, sourceEsi, repairHeader, repairPacket, repairCount}
 use Rattle.wire.specs.Packets.{repairForm, repairKey, densityThreshold, protectedCount, firstEsi, repairSymbols}
 use Rattle.coefficients.specs.Coefficients.{nonzeroFrom, bitOf, byteOf, extend, coefficientsOf, packetDraws}

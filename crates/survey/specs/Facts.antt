@@ -1,6 +1,6 @@
 -- Computed from the definitions: a row of two zeros and the coefficients before it, a rand16 whose low byte is zero, and the row that refusal 10 ends.
 use Rattle.words.specs.Words.{_≡_, refl, [], _∷_}
-use Rattle.tinymt.specs.Generator.{computing}
+use Rattle.tinymt.specs.Computing.{computing}
 use Rattle.coefficients.specs.Coefficients.{nonzeroFrom, byteOf}
 use Rattle.coefficients.specs.Facts.{zeroWords}
 use Rattle.survey.specs.Survey.{zerosFrom, zerosOf, wordsAfter, largest, longestOfKey}

@@ -12,14 +12,6 @@ within low high x = leb low x && leb x high
 abbrev pub distanceOf : ℕ → ℕ → ℕ
 distanceOf e base = (e + 2 ^ 32 - base) % 2 ^ 32
 
--- the ESI n symbols after e, modulo 2^32
-abbrev pub esiAfter : ℕ → ℕ → ℕ
-esiAfter e n = (e + n) % 2 ^ 32
-
--- the ESI n symbols before e, modulo 2^32
-abbrev pub esiBefore : ℕ → ℕ → ℕ
-esiBefore e n = (e + 2 ^ 32 - n) % 2 ^ 32
-
 -- the key after a key, modulo 65,536
 abbrev pub keyAfter : ℕ → ℕ
 keyAfter key = (key + 1) % 2 ^ 16

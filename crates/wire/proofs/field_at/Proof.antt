@@ -1,6 +1,6 @@
 -- `wire::field_at` meets its contract.
 use Rattle.words.specs.Words.{needs}
-use Rattle.wire.specs.Settings.{field}
+use Rattle.wire.specs.Stored.{field}
 use Rattle.wire.proofs.field_at.Statement.{statement}
 use Rattle.wire.proofs.field_at.Tie as tie
 

@@ -1,7 +1,8 @@
 -- `wire::write_setting` meets its contract.
 use Rattle.words.specs.Words.{needs, refl, _++_}
 use Rattle.memory.specs.Number.{bytes}
-use Rattle.wire.specs.Settings.{schemeNumber, settingBytes}
+use Rattle.wire.specs.Settings.{schemeNumber}
+use Rattle.wire.specs.Stored.{settingBytes}
 use Rattle.wire.proofs.Adui.{front-next}
 use Rattle.wire.proofs.write_setting.Statement.{statement}
 use Rattle.wire.proofs.write_setting.Tie as tie

@@ -1,6 +1,6 @@
 -- `field::tables::inverse` meets its contract: the inverse of 2^e is 2^(255 - e).
 use Rattle.words.specs.Words.{needs, _∙_, sym, ap}
-use Rattle.field.specs.Gf256.{inverse}
+use Rattle.field.specs.Powers.{inverse}
 use Rattle.field.proofs.Laws.{inverse-by-logarithm, inverse-zero}
 use Rattle.field.proofs.tables.inverse.Statement.{statement}
 use Rattle.field.proofs.tables.inverse.Tie as tie

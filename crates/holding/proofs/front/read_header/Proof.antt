@@ -1,7 +1,8 @@
 -- `holding::front::read_header` meets its contract.
 use Rattle.words.specs.Words.{_≡_, needs, some}
 use Rattle.wire.specs.declared.Setting.{Setting}
-use Rattle.wire.specs.Settings.{Valid, settingIn}
+use Rattle.wire.specs.Settings.{Valid}
+use Rattle.wire.specs.Stored.{settingIn}
 use Rattle.wire.proofs.Settings.{setting-found, setting-good, setting-bad}
 use Rattle.holding.proofs.Headers.{found, none-setting, none-short, none-row}
 use Rattle.holding.proofs.front.read_header.Statement.{statement}

@@ -1,7 +1,7 @@
 -- `rows::combination::add_digit` meets its contract. The loop: the first k rows have been added.
 use Rattle.words.specs.Words.{_≡_, arith, _≤_, length, needs, _-_}
 use Rattle.memory.proofs.Parts.{row-fits}
-use Rattle.rows.specs.Combination.{combined, rowAt}
+use Rattle.rows.specs.Sums.{combined, rowAt}
 use Rattle.rows.specs.Digits.{digit}
 use Rattle.rows.proofs.Combinations.{row-added}
 use Rattle.rows.proofs.combination.add_digit.Statement.{statement}

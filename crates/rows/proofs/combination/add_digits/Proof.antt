@@ -1,8 +1,8 @@
 -- `rows::combination::add_digits` meets its contract. The loop: the sum has the j highest binary digits of the coefficients.
 use Rattle.words.specs.Words.{_≡_, arith, _≤_, _+_, length, needs, refl, _∙_, sym, _-_, suc}
-use Rattle.field.specs.Gf256.{power}
+use Rattle.field.specs.Powers.{power}
 use Rattle.rows.specs.Rows.{scaled}
-use Rattle.rows.specs.Combination.{combined, rowAt}
+use Rattle.rows.specs.Sums.{combined, rowAt}
 use Rattle.rows.specs.Digits.{shifted}
 use Rattle.rows.proofs.Sums.{length-scaled}
 use Rattle.rows.proofs.Combinations.{long-rows}

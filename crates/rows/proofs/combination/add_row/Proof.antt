@@ -2,7 +2,7 @@
 use Rattle.words.specs.Words.{_≡_, arith, _+_, length, needs, sym, _*_}
 use Rattle.rows.proofs.Sums.{addScaled-zero}
 use Rattle.memory.proofs.Parts.{cut}
-use Rattle.rows.specs.Combination.{rowAt}
+use Rattle.rows.specs.Sums.{rowAt}
 use Rattle.rows.proofs.combination.add_row.Statement.{statement}
 use Rattle.rows.proofs.combination.add_row.Tie as tie
 

@@ -1,7 +1,8 @@
 -- `sender::front::read_header` meets its contract.
 use Rattle.words.specs.Words.{_≡_, arith, _≤_, length, needs, some}
 use Rattle.wire.specs.declared.Setting.{Setting}
-use Rattle.wire.specs.Settings.{Valid, settingIn}
+use Rattle.wire.specs.Settings.{Valid}
+use Rattle.wire.specs.Stored.{settingIn}
 use Rattle.wire.proofs.Settings.{setting-found, setting-good, setting-bad}
 use Rattle.sender.specs.State.{memorySize}
 use Rattle.sender.proofs.Heads.{header-room, found, none-setting, none-short, none-held, none-next}
