@@ -5,7 +5,7 @@ use Rattle.wire.specs.Settings.{settingOf}
 use Rattle.wire.proofs.Settings.{setting-names}
 use Rattle.coefficients.specs.Coefficients.{packetDraws}
 use Rattle.history.specs.History.{fresh}
-use Rattle.receiver.specs.Answers.{drawsFor}
+use Rattle.receiver.specs.Draws.{drawsFor}
 use Rattle.holding.specs.Layout.{headerOf}
 use Rattle.receiver.specs.Layout.{receiverLayout}
 use Rattle.holding.proofs.Headers.{setting-of}

@@ -12,7 +12,7 @@ use Rattle.holding.specs.Layout.{headerOf, Holds}
 use Rattle.holding.proofs.Headers.{setting-of}
 use Rattle.receiver.specs.Layout.{receiverLayout}
 use Rattle.sender.specs.Run.{symbolsOf}
-use Rattle.claims.specs.Left.{OfSender, OfReceiver, Within-sizes}
+use Rattle.claims.specs.AnyMemory.{OfSender, OfReceiver, Within-sizes}
 use Rattle.claims.proofs.Demand.{had-setting, stands, opened-stands}
 use Rattle.sender.proofs.Running.{run-held}
 use Rattle.sender.specs.State as sender

@@ -9,8 +9,8 @@ use Rattle.sender.specs.State.{headerSize}
 use Rattle.holding.specs.declared.Header.{Header}
 use Rattle.holding.specs.Header.{headerIn}
 use Rattle.holding.proofs.Headers.{headed, none-setting, zeros-unopened, short-unopened}
-use Rattle.claims.specs.Unopened.{NoReceiver, all-zero, of-sender, short-receiver, NoSender, all-zeros, of-receiver, short-sender, ReceiverSays}
-use Rattle.claims.specs.Unopened.{by-packet, by-symbol, by-place, by-adu, SenderSays, by-add, by-repair, Unopened}
+use Rattle.claims.specs.AnyMemory.{NoReceiver, all-zero, of-sender, short-receiver, NoSender, all-zeros, of-receiver, short-sender}
+use Rattle.claims.specs.AnyMemory.{ReceiverSays, by-packet, by-symbol, by-place, by-adu, SenderSays, by-add, by-repair, Unopened}
 use Rattle.claims.proofs.Left.{senderIn, sender-held, receiver-has}
 use Rattle.sender.specs.declared.Header as sender-header
 use Rattle.sender.specs.State as sender

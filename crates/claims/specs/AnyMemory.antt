@@ -1,24 +1,31 @@
--- On any memory, one that no call has left too: what each call of either end leaves as it was, and where what it shows lies, by its promise alone.
--- m, out and v are memory, output and working memory, m′, out′ and v′ these afterwards; a is the answer. The calls that show change no memory.
-use Rattle.words.specs.Words.{_≡_, ℕ, _≤_, _+_, List, length, [], _*_, _≢_, _⊎_, now, RefT}
+-- What holds of memory (demand 1): on any memory, one that no call has left too, what each call of either end leaves as it was and where what it shows lies; on
+-- memory that an end has opened, that calls keep to their sizes; and what refusal 3 names. By the promises alone: m, out and v are memory, output and working
+-- memory, m′, out′ and v′ these afterwards; a is the answer. The calls that show change no memory.
+use Rattle.words.specs.Words.{_≡_, ℕ, _≤_, _+_, List, length, _<_, [], _*_, take, _≢_, _⊎_, now, RefT}
 use Rattle.memory.specs.Part.{LiesAt}
 use Rattle.memory.specs.Contained.{Contained}
 use Rattle.wire.specs.declared.Setting.{Setting}
-use Rattle.wire.specs.Settings.{Valid}
 use Rattle.wire.specs.declared.Refusal.{Refusal}
 use Rattle.wire.specs.declared.Answer.{Answer}
+use Rattle.wire.specs.Settings.{Valid}
+use Rattle.wire.specs.Packets.{zeros}
 use Rattle.wire.specs.Answers.{Said, value, refusal, said}
 use Rattle.sender.specs.declared.RepairAnswer.{RepairAnswer}
 use Rattle.sender.specs.declared.RepairAnswer.the-variants.{Made}
 use Rattle.sender.specs.Promises.{Adds, RepairMade}
+use Rattle.sender.specs.Run.{SenderCall, SenderRun, memoryAfter}
 use Rattle.starts.specs.declared.Handed.{Handed}
 use Rattle.starts.specs.declared.Handed.the-variants.{Adu, Withheld}
 use Rattle.history.specs.History.{Call}
 use Rattle.receiver.specs.declared.PacketAnswer.{PacketAnswer}
 use Rattle.receiver.specs.declared.PacketAnswer.the-variants.{Accepted}
-use Rattle.receiver.specs.Answers.{answerOf}
-use Rattle.receiver.specs.Promises.{Layout, PacketAnswered, SymbolAnswered, PartShown, PlaceAnswered, AduAnswered}
+use Rattle.receiver.specs.Answers.{answerOf, handedSaid}
+use Rattle.receiver.specs.Promises.{Layout, Opened, PacketAnswered, SymbolAnswered, PartShown, PlaceAnswered, AduAnswered}
+use Rattle.receiver.specs.Layout.{receiverLayout}
+use Rattle.claims.specs.Run.{Step, Run, final}
 use Rattle.sender.specs.Answers as sender
+
+-- ---- Any memory
 
 -- A memory of n bytes is long enough for a sender, or a receiver, of a setting within its values.
 pub record SenderFits (s : Setting) (n : ℕ) : Type 0 where
@@ -68,3 +75,65 @@ pub record Any-memory (L : Layout) : Type 0 where
       → (now part ≡ []) ⊎ ((at : ℕ) × (s : Setting) × Lies at s (length (now m)) × LiesAt part m at (s .size))
   pub place : (m : List ℕ) (e : ℕ) (a : Answer) → PlaceAnswered L m e a → (at : ℕ) → said a ≡ value at → (s : Setting) × Lies at s (length m)
   pub adu : (m : List ℕ) (e : ℕ) (out out′ : List ℕ) (a : Handed) → AduAnswered L m e out out′ a → AduKeeps a out out′
+
+-- ---- Memory of an end, lent whole: it has opened it, and only its calls have changed it since
+
+-- A sender's memory: as a list of its calls left it, from an opening with this setting that answered 0.
+pub record OfSender (t : Setting) (m : List ℕ) : Type 0 where
+  pub calls : List SenderCall
+  pub run : SenderRun t calls
+  pub left : m ≡ memoryAfter (run .after) calls
+
+-- A receiver's memory: as a list of packet calls left it, from an opening with this E and width that answered 0. Its other calls change no memory.
+pub record OfReceiver (E width : ℕ) (m : List ℕ) : Type 0 where
+  pub scheme : ℕ
+  pub before : List ℕ
+  pub after : List ℕ
+  pub answer : Answer
+  pub opened : Opened receiverLayout scheme E width before after answer
+  pub answered : said answer ≡ value 0
+  pub calls : List Step
+  pub run : Run receiverLayout after calls
+  pub left : m ≡ final after calls
+
+-- A packet call on a receiver's memory leaves memory and working memory past their sizes as they were (document 01, "Words and sizes").
+abbrev pub Within-sizes : Type 0
+Within-sizes =
+    (E width : ℕ) (m : List ℕ) → OfReceiver E width m → (c : Call) (m′ v v′ : List ℕ) (a : PacketAnswer) → PacketAnswered receiverLayout c m m′ v v′ a
+    → Contained (64 + width * (width + E + 4)) m m′ × Contained (64 + (width + 1) * (width + E + 4)) v v′
+
+-- ---- What refusal 3 names (document 01, "Why a call says no"); that a 3 changes nothing is in `Any-memory`
+
+-- No receiver's memory: all zero, the first bytes of a sender's, few or all, or the first of a receiver's, fewer than its opening asked for.
+pub data NoReceiver : List ℕ → Type 0 where
+  all-zero : (n : ℕ) → NoReceiver (zeros n)
+  of-sender : (t : Setting) (m : List ℕ) → OfSender t m → (n : ℕ) → NoReceiver (take n m)
+  short-receiver : (E width : ℕ) (m : List ℕ) → OfReceiver E width m → (n : ℕ) → n < 64 + width * (width + E + 4) → NoReceiver (take n m)
+
+-- No sender's memory, with the ends exchanged.
+pub data NoSender : List ℕ → Type 0 where
+  all-zeros : (n : ℕ) → NoSender (zeros n)
+  of-receiver : (E width : ℕ) (m : List ℕ) → OfReceiver E width m → (n : ℕ) → NoSender (take n m)
+  short-sender : (t : Setting) (m : List ℕ) → OfSender t m → (n : ℕ) → n < 32 + t .width * t .size → NoSender (take n m)
+
+-- What a call of a receiver, or of a sender, may say on the memory m by its promise.
+pub data ReceiverSays (m : List ℕ) : Said → Type 0 where
+  by-packet : (c : Call) (m′ v v′ : List ℕ) (a : PacketAnswer) → PacketAnswered receiverLayout c m m′ v v′ a → ReceiverSays m (said (answerOf a))
+  by-symbol : (e : ℕ) (a : Answer) → SymbolAnswered receiverLayout m e a → ReceiverSays m (said a)
+  by-place : (e : ℕ) (a : Answer) → PlaceAnswered receiverLayout m e a → ReceiverSays m (said a)
+  by-adu : (e : ℕ) (out out′ : List ℕ) (a : Handed) → AduAnswered receiverLayout m e out out′ a → ReceiverSays m (handedSaid a)
+
+pub data SenderSays (m : List ℕ) : Said → Type 0 where
+  by-add : (flow : ℕ) (adu out : List ℕ) (a : Answer) (m′ out′ : List ℕ) → Adds flow adu m out a m′ out′ → SenderSays m (said a)
+  by-repair : (key dt count : ℕ) (out : List ℕ) (a : RepairAnswer) (out′ : List ℕ) → RepairMade key dt count m out a out′
+      → SenderSays m (said (sender.answerOf a))
+
+-- Where the calls of an end say 3, and where they never do.
+pub record Unopened : Type 0 where
+  -- On memory that is not of its end every call says 3, and the part is empty.
+  pub no-receiver : (m : List ℕ) → NoReceiver m → (x : Said) → ReceiverSays m x → x ≡ refusal 3
+  pub no-part : (m part : RefT (List ℕ)) → NoReceiver (now m) → (e : ℕ) → PartShown receiverLayout m part e → now part ≡ []
+  pub no-sender : (m : List ℕ) → NoSender m → (x : Said) → SenderSays m x → x ≡ refusal 3
+  -- On memory of its end none does.
+  pub receiver : (E width : ℕ) (m : List ℕ) → OfReceiver E width m → (x : Said) → ReceiverSays m x → x ≢ refusal 3
+  pub sender : (t : Setting) (m : List ℕ) → OfSender t m → (x : Said) → SenderSays m x → x ≢ refusal 3

@@ -1,4 +1,4 @@
--- What each packet call of every list answers, and where it leaves the base, from the packets' bytes in plain arithmetic.
+-- What each packet call of every list answers, and where it leaves the base: from the packets' bytes in plain arithmetic.
 use Rattle.words.specs.Words.{_≡_, ℕ, List, length, [], some, _∷_, _++_, _⊎_}
 use Rattle.wire.specs.declared.Setting.{Setting}
 use Rattle.wire.specs.declared.Answer.{Answer}

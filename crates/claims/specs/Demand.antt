@@ -52,18 +52,23 @@ Answered s ts =
 
 -- Demand 3, of the list of calls `ts` that has left the memory m.
 pub record Demand-3 (L : Layout) (s : Setting) (ts : List Step) (m : List ℕ) : Type 0 where
-  -- A packet is accepted exactly when it passes the checks of form, place and coefficients and some filling of the whole stream, from the joining
-  -- position on, satisfies it and every packet accepted before; else its call answers the number of the first check that fails, or 11.
+  -- A packet is accepted exactly when it passes the checks of form, place and coefficients and some filling of the
+  -- whole stream, from the joining position on, satisfies it and every packet accepted before; else its call answers
+  -- the number of the first check that fails, or 11.
   pub calls : Answered s ts
   -- At least one filling satisfies every accepted packet.
   pub consistent : Consistent (s .size) (history s ts)
   -- Before any base the window is empty.
   pub before : baseOf s (history s ts) ≡ none → (e : ℕ) → HiddenBefore L s m e
-  -- A position in the window has its symbol shown exactly when all such fillings hold the same bytes there, and those are shown.
-  pub window : (b : ℕ) → baseOf s (history s ts) ≡ some b → (i : ℕ) → i < s .width → ShownExactly L s m (history s ts) (b + i)
-  pub outside : (b : ℕ) → baseOf s (history s ts) ≡ some b → (d : ℕ) → s .width ≤ d → d < 2 ^ 32 → HiddenOutside L s m b d
+  -- A position in the window has its symbol shown exactly when all such fillings hold the same bytes there, and those
+  -- are shown.
+  pub window : (b : ℕ) → baseOf s (history s ts) ≡ some b → (i : ℕ) → i < s .width
+      → ShownExactly L s m (history s ts) (b + i)
+  pub outside : (b : ℕ) → baseOf s (history s ts) ≡ some b → (d : ℕ) → s .width ≤ d → d < 2 ^ 32
+      → HiddenOutside L s m b d
 
--- From memory on which opening has just answered 0, with any scheme, E and width, demand 3 holds of every list of packet calls.
+-- From memory on which opening has just answered 0, with any scheme, E and width, demand 3 holds of every list of
+-- packet calls.
 abbrev pub Every-list : Layout → Type 0
 Every-list L =
     (scheme E w : ℕ) (m₀ m : List ℕ) (a : Answer) → Opened L scheme E w m₀ m a → said a ≡ value 0

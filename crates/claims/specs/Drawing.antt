@@ -1,4 +1,4 @@
--- The draws that the calls give beside their counts, at both ends, from an opening on.
+-- The draws that the calls give beside their counts: at both ends, from an opening on.
 use Rattle.words.specs.Words.{_≡_, ℕ, List, some, take}
 use Rattle.wire.specs.declared.Setting.{Setting}
 use Rattle.wire.specs.Settings.{settingOf}
@@ -8,7 +8,7 @@ use Rattle.wire.specs.declared.Answer.{Answer}
 use Rattle.receiver.specs.declared.PacketAnswer.the-variants.{Accepted}
 use Rattle.wire.specs.Answers.{value, said}
 use Rattle.history.specs.History.{Call, repair-call}
-use Rattle.receiver.specs.Answers.{drawsFor}
+use Rattle.receiver.specs.Draws.{drawsFor}
 use Rattle.receiver.specs.Promises.{Opened, PacketAnswered}
 use Rattle.receiver.specs.Layout.{receiverLayout}
 use Rattle.claims.specs.Run.{Step, Run, final}

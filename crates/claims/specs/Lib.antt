@@ -2,9 +2,7 @@ pub mod Written
 pub mod Run
 pub mod Opening
 pub mod Checking
-pub mod Left
 pub mod AnyMemory
-pub mod Unopened
 pub mod Carrying
 pub mod Demand
 pub mod NoChoice

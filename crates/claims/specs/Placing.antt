@@ -10,7 +10,7 @@ use Rattle.history.specs.History.{Filling, Located, All, Known, Log, baseOf, ha
 use Rattle.receiver.specs.Promises.{Layout, Opened, PartShown, PlaceAnswered}
 use Rattle.receiver.specs.Layout.{receiverLayout}
 use Rattle.claims.specs.Run.{Step, Run, final, history}
-use Rattle.claims.specs.Left.{OfReceiver}
+use Rattle.claims.specs.AnyMemory.{OfReceiver}
 use Rattle.claims.specs.Demand.{esi}
 
 -- After the packets `qs` were accepted, when the receiver's memory is m: of whatever the call may answer by its promise.

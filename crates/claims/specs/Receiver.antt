@@ -4,9 +4,7 @@ use Rattle.claims.specs.Opening.{Every-opening}
 use Rattle.claims.specs.Demand.{Every-list}
 use Rattle.claims.specs.Handing.{Hands-out}
 use Rattle.claims.specs.Reading.{Reads}
-use Rattle.claims.specs.AnyMemory.{Any-memory}
-use Rattle.claims.specs.Unopened.{Unopened}
-use Rattle.claims.specs.Left.{Within-sizes}
+use Rattle.claims.specs.AnyMemory.{Any-memory, Within-sizes, Unopened}
 
 pub record Receiver-claims : Type 0 where
   pub opening : Every-opening receiverLayout

@@ -1,4 +1,4 @@
--- The packets that a sender's calls wrote, and what packets a sender of some symbols can write.
+-- The packets that a sender's calls wrote, and those that a sender can write: of some symbols.
 use Rattle.words.specs.Words.{_≡_, ℕ, _≤_, List, length, _<_, [], _%_, _∷_, true, _++_, _^_, take, map}
 use Rattle.memory.specs.Number.{Bytes}
 use Rattle.wire.specs.declared.Scheme.{Scheme}

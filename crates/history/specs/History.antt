@@ -30,7 +30,8 @@ abbrev pub named : Located → ℕ
 named (source p symbols) = length symbols
 named (repair p n coefficients symbols) = n
 
--- A filling gives E bytes to every position. Positions count from the joining one on: whatever it gives to smaller numbers binds nothing.
+-- A filling gives E bytes to every position. Positions count from the joining one on: whatever it gives to smaller
+-- numbers binds nothing.
 abbrev pub Filling : ℕ → Type 0
 Filling E = ℕ → Symbol E
 
@@ -40,10 +41,12 @@ module _ (E : ℕ) where
   symbolsAt f p zero = []
   symbolsAt f p (suc n) = bytesOf E (f p) ∷ symbolsAt f (suc p) n
 
-  -- A source packet is satisfied when its positions hold its symbols; a repair packet when every repair symbol equals its combination.
+  -- A source packet is satisfied when its positions hold its symbols; a repair packet when every repair symbol
+  -- equals its combination.
   abbrev pub Satisfied : Located → Filling E → Type 0
   Satisfied (source p symbols) f = symbolsAt f p (length symbols) ≡ symbols
-  Satisfied (repair p n coefficients symbols) f = map (λ (c : List ℕ). combination E c (symbolsAt f p n)) coefficients ≡ symbols
+  Satisfied (repair p n coefficients symbols) f =
+      map (λ (c : List ℕ). combination E c (symbolsAt f p n)) coefficients ≡ symbols
 
   abbrev pub All : List Located → Filling E → Type 0
   All [] f = Unit {0}
@@ -209,8 +212,10 @@ module _ (s : Setting) where
     -- It is accepted exactly when it passes the checks and some filling satisfies it and all accepted before.
     pub accepted : IsValue a ↔ ((q : Located) × (r ≡ located q) × Consistent E (q ∷ l))
     -- The answer counts the positions of the new window that are known now and were not before.
-    pub counted : (q : Located) (k : ℕ) → r ≡ located q → a ≡ value k → Counted (λ i. New l q (raised (baseOf l) q + i)) width k
-    -- Where a check fails, the number is that of the first; where none does, 11 says that no filling satisfies it and all accepted before.
+    pub counted : (q : Located) (k : ℕ) → r ≡ located q → a ≡ value k
+        → Counted (λ i. New l q (raised (baseOf l) q + i)) width k
+    -- Where a check fails, the number is that of the first; where none does, 11 says that no filling satisfies it and
+    -- all accepted before.
     pub failed : (m : ℕ) → r ≡ fails m → a ≡ refusal m
     pub contradicts : (q : Located) → r ≡ located q → (a ≡ refusal 11) ↔ ¬ Consistent E (q ∷ l)
 

@@ -1,14 +1,11 @@
--- What the answers of a receiver's calls say that have more than a number, and the draws of a packet.
+-- What the answers of a packet call and of the ADU call say.
 use Rattle.words.specs.Words.{ℕ, _+_, _*_}
-use Rattle.wire.specs.declared.Setting.{Setting}
 use Rattle.wire.specs.Numbers.{numberOf}
 use Rattle.wire.specs.declared.Answer.{Answer}
 use Rattle.wire.specs.declared.Answer.the-variants.{Done, Refused}
 use Rattle.wire.specs.Answers.{Said, value, refusal}
-use Rattle.coefficients.specs.Coefficients.{packetDraws}
 use Rattle.starts.specs.declared.Handed.{Handed}
 use Rattle.starts.specs.declared.Handed.the-variants.{Adu, Withheld}
-use Rattle.history.specs.History.{Call, source-call, repair-call}
 use Rattle.receiver.specs.declared.PacketAnswer.{PacketAnswer}
 use Rattle.receiver.specs.declared.PacketAnswer.the-variants.{Accepted, NotAccepted}
 
@@ -21,8 +18,3 @@ answerOf (NotAccepted r) = Refused r
 abbrev pub handedSaid : Handed → Said
 handedSaid (Adu flow L) = value (flow * 65536 + L)
 handedSaid (Withheld r) = refusal (numberOf r)
-
--- The draws that a packet's coefficients take at a receiver of the setting; a source packet has none.
-abbrev pub drawsFor : Setting → Call → ℕ
-drawsFor s (source-call flow p) = 0
-drawsFor s (repair-call p) = packetDraws (s .scheme) (s .size) p

@@ -1,3 +1,4 @@
 pub mod Answers
+pub mod Draws
 pub mod Promises
 pub mod Layout

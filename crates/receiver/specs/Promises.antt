@@ -17,7 +17,8 @@ use Rattle.history.specs.History.{Call, esiOf, reading, memorySize, workingSize
 use Rattle.history.specs.Model.{State, opened, foundBy, Outcome, refused, done, stateAfter, receiving, marking, Finding, shows, hides, finding, aduAt}
 use Rattle.holding.specs.Header.{headerIn}
 use Rattle.memory.specs.Contained.{Contained}
-pub use Rattle.receiver.specs.Answers.{answerOf, handedSaid, drawsFor}
+pub use Rattle.receiver.specs.Answers.{answerOf, handedSaid}
+pub use Rattle.receiver.specs.Draws.{drawsFor}
 
 -- How a memory holds a state.
 pub record Layout : Type 1 where

@@ -1,6 +1,6 @@
 // The receiver: its sizes, opening, the two packet calls, the calls that show a symbol, and the ADU call (RFC 8681, section 3.4; document 01).
 ghost use Rattle.words.specs.Words.{_+_, _*_};
-ghost use Rattle.wire.specs.Answers.{SizeAnswered};
+ghost use Rattle.wire.specs.Opening.{SizeAnswered};
 ghost use Rattle.receiver.specs.Promises.{Opened, PacketAnswered, SymbolAnswered, PartShown, PlaceAnswered, AduAnswered};
 ghost use Rattle.history.specs.History.{source-call, repair-call};
 ghost use Rattle.receiver.specs.Layout.{receiverLayout};

@@ -14,7 +14,8 @@ use Rattle.wire.specs.Numbers.{within}
 use Rattle.wire.specs.Settings.{schemeNumber, schemeOf, inRange, settingOf, Valid}
 use Rattle.wire.specs.Packets.{symbolCount}
 use Rattle.wire.proofs.Adui.{room, least}
-use Rattle.wire.proofs.Settings.{within-true, within-bounds, setting-names}
+use Rattle.wire.proofs.Settings.{within-true, within-bounds}
+use Rattle.wire.proofs.Opening.{allowed-setting, setting-none}
 use Rattle.wire.specs.declared.Answer.{Answer}
 use Rattle.wire.specs.Answers.{value, said}
 use Rattle.coefficients.specs.Coefficients.{keys, allOk, drawsOf}
@@ -25,7 +26,7 @@ use Rattle.sender.specs.Repair.{writtenKey}
 use Rattle.sender.specs.Calls.{Outcome, refused, done, opening, adding, repairOf, repairing}
 use Rattle.sender.specs.Promises.{answerOf, drawsIn, DoneWith, Follows, Adds, Draws, RepairMade}
 use Rattle.sender.specs.Run.{SenderCall, added, repaired, Calls, memoryAfter, symbolsOf}
-use Rattle.sender.specs.Judged.{Refuses, Writes, Allowed, Ranged, Takeable, AduJudged, keyIn, keysIn, covered, older, packetOf, RepairJudged, CallJudged}
+use Rattle.sender.specs.Judged.{Refuses, Writes, Ranged, Takeable, AduJudged, keyIn, keysIn, covered, older, packetOf, RepairJudged, CallJudged}
 use Rattle.sender.specs.Judged.{Opening-judged, Sender-judged}
 use Rattle.sender.proofs.Promising.{opening-values, opening-short, opening-done, adding-long, adding-many, adding-short, adding-done}
 use Rattle.sender.proofs.Repairing.{repairing-range, repairing-empty, repairing-short, repairing-draws, repairing-done}
@@ -181,40 +182,15 @@ sender-judged t l r before c after e =
 
 -- ---- opening
 
-named : (x : Scheme) (a : ℕ) → schemeNumber x ≡ a → (a ≡ 9) ⊎ (a ≡ 10)
-named Gf2 a e = inl (sym e)
-named Gf256 a e = inr (sym e)
-
-scheme-within : (a : ℕ) → (a ≡ 9) ⊎ (a ≡ 10) → within 9 10 a ≡ true
-scheme-within a (inl e) = within-true 9 10 a (omega arith) (omega arith)
-scheme-within a (inr e) = within-true 9 10 a (omega arith) (omega arith)
-
-allowed-setting : (scheme E width : ℕ) → Allowed scheme E width → settingOf scheme E width ≡ some (record { scheme = schemeOf scheme; size = E; width = width })
-unfolding settingOf inRange
-allowed-setting scheme E width k =
-    rw (scheme-within scheme (k .schemes), within-true 4 1500 E (k .sizes .0) (k .sizes .1), within-true 1 255 width (k .widths .0) (k .widths .1))
-
-setting-none : (scheme E width : ℕ) → ¬ Allowed scheme E width → settingOf scheme E width ≡ none
-setting-none scheme E width n = go (settingOf scheme E width) refl
-  where
-    go : (x : Option Setting) → settingOf scheme E width ≡ x → x ≡ none
-    go none e = refl
-    go (some s) e =
-        let g = setting-names scheme E width s e in
-        let v = g .valid in
-        absurd (n (record {
-          schemes = named (s .scheme) scheme (g .scheme);
-          sizes = (omega (arith, g .size, v .size-least), omega (arith, g .size, v .size-most));
-          widths = (omega (arith, g .width, v .width-least), omega (arith, g .width, v .width-most));
-        }))
-
 pub opening-judged : Opening-judged
 unfolding headerSize
 opening-judged scheme E width m r m′ f =
     let o = opening scheme E width (length m) in
     record {
-      values = λ n. refuses 1 o m m′ [] [] r (opening-values scheme E width m (setting-none scheme E width n)) f;
-      short = λ k l. refuses 2 o m m′ [] [] r (opening-short scheme E width m _ (allowed-setting scheme E width k) l) f;
+      values = λ n. let x = refuses 1 o m m′ [] [] r (opening-values scheme E width m (setting-none scheme E width n)) f in (x .answer, x .memory);
+      short = λ k l.
+          let x = refuses 2 o m m′ [] [] r (opening-short scheme E width m _ (allowed-setting scheme E width k) l) f in
+          (x .answer, x .memory);
       opens = λ k l.
           let g = subst (λ x. Follows x m [] r m′ []) (opening-done scheme E width m _ (allowed-setting scheme E width k) l) f in
           (g .answer, record { same = g .length; past = g .past });

@@ -150,7 +150,7 @@ runs (claims.repairing key dt count out ∷ gs) (k, b) m s h =
 pub runs-exist : Runs-exist
 unfolding headerSize
 runs-exist t k m room gs b =
-    let v : Valid t = record { size-least = k .sizes .0; size-most = k .sizes .1; width-least = k .widths .0; width-most = k .widths .1 } in
+    let v : Valid t = let (e, e′, w, w′) = k .1 in record { size-least = e; size-most = e′; width-least = w; width-most = w′ } in
     let d = opens t m v room in
     let m′ = splice 8 (countBytes 0 0 0) (splice 0 (settingBytes 1 t) m) in
     let (l, c, e) = runs gs b m′ (fresh t) (d .holds) in (

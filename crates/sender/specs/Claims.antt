@@ -6,8 +6,8 @@ use Rattle.wire.specs.Settings.{schemeNumber}
 use Rattle.wire.specs.Answers.{Said, said}
 use Rattle.sender.specs.Promises.{answerOf, drawsIn}
 use Rattle.sender.specs.Run.{SenderCall, added, repaired, SenderRun, symbolsOf}
-use Rattle.sender.specs.Judged.{Allowed, CallsJudged}
-use Rattle.sender.specs.Judged.{Opening-judged, Sender-judged}
+use Rattle.wire.specs.Opening.{Allowed}
+use Rattle.sender.specs.Judged.{Opening-judged, Sender-judged, CallsJudged}
 
 -- what a call is given, with the output lent
 pub data Given : Type 0 where

@@ -1,12 +1,13 @@
--- What a sender has to answer and to write, call by call, from what the call is given and the ADUs taken before it (document 01, "Packets" and "Why a call
+-- What a sender has to answer and to write: call by call, from what the call is given and the ADUs taken before it (document 01, "Packets" and "Why a call
 -- says no"; RFC 8681, sections 3.3, 4.1.2 and 4.1.3). m, out and a are memory, output and answer; m′ and out′ memory and output afterwards; `taken` are the
 -- symbols of the ADUs that the sender took before the call, the oldest first. Each record has the refusals in the order of their tests.
-use Rattle.words.specs.Words.{_≡_, ℕ, _≤_, _+_, List, length, _<_, _-_, [], _%_, _∷_, true, _*_, _++_, drop, _^_, cond, eqb, _&&_, map, min, _⊎_}
+use Rattle.words.specs.Words.{_≡_, ℕ, _≤_, _+_, List, length, _<_, _-_, [], _%_, _∷_, true, _*_, _++_, drop, _^_, cond, eqb, _&&_, map, min}
 use Rattle.memory.specs.Contained.{Contained}
 use Rattle.wire.specs.declared.Setting.{Setting}
 use Rattle.wire.specs.Settings.{schemeNumber}
 use Rattle.wire.specs.Packets.{sourcePacket, repairPacket}
 use Rattle.wire.specs.Answers.{Said, value, refusal, said}
+use Rattle.wire.specs.Opening.{OpeningJudged}
 use Rattle.coefficients.specs.Coefficients.{keys, listsOf, allOk, drawsOf}
 use Rattle.rows.specs.Combination.{combination}
 use Rattle.sender.specs.Answers.{answerOf, drawsIn}
@@ -24,18 +25,6 @@ pub record Refuses (n : ℕ) (a : Said) (m m′ out out′ : List ℕ) : Type 0 
 pub record Writes (packet : List ℕ) (a : Said) (out out′ : List ℕ) : Type 0 where
   pub answer : a ≡ value (length packet)
   pub output : out′ ≡ packet ++ drop (length packet) out
-
--- scheme, E and width have their values
-pub record Allowed (scheme E width : ℕ) : Type 0 where
-  pub schemes : (scheme ≡ 9) ⊎ (scheme ≡ 10)
-  pub sizes : (4 ≤ E) × (E ≤ 1500)
-  pub widths : (1 ≤ width) × (width ≤ 255)
-
--- opening: refusals 1, 2
-pub record OpeningJudged (scheme E width : ℕ) (m : List ℕ) (a : Said) (m′ : List ℕ) : Type 0 where
-  pub values : ¬ Allowed scheme E width → Refuses 1 a m m′ [] []
-  pub short : Allowed scheme E width → length m < 32 + width * E → Refuses 2 a m m′ [] []
-  pub opens : Allowed scheme E width → 32 + width * E ≤ length m → (a ≡ value 0) × Contained (32 + width * E) m m′
 
 -- DT and the number of repair symbols have their values
 abbrev pub Ranged : (dt count : ℕ) → Type 0
@@ -95,9 +84,11 @@ module _ (t : Setting) where
       (before : List SenderCall) (c : SenderCall) (after : List SenderCall) → l ≡ before ++ (c ∷ after)
       → CallJudged (symbolsOf E before) (memoryAfter m before) c
 
--- every opening is judged so
+-- every opening of a sender is judged so
 abbrev pub Opening-judged : Type 0
-Opening-judged = (scheme E width : ℕ) (m : List ℕ) (r : Answer) (m′ : List ℕ) → Opens scheme E width m r m′ → OpeningJudged scheme E width m (said r) m′
+Opening-judged =
+    (scheme E width : ℕ) (m : List ℕ) (r : Answer) (m′ : List ℕ) → Opens scheme E width m r m′
+    → OpeningJudged (32 + width * E) scheme E width m (said r) m′
 
 -- and every call of every list of calls after an opening that answered 0
 abbrev pub Sender-judged : Type 0

@@ -1,4 +1,4 @@
--- The rows of zero bytes drawn for one coefficient of GF(2^8), which end with a byte that is not zero, or with refusal 10 at the sixteenth zero.
+-- The rows of zero bytes drawn for one coefficient of GF(2^8): they end with a byte that is not zero, or with refusal 10 at the sixteenth zero.
 use Rattle.words.specs.Words.{ℕ, List, suc, zero, cond, leb, eqb, max}
 use Rattle.tinymt.specs.Generator.{startOf, drawOf, low4, low8}
 use Rattle.coefficients.specs.Coefficients.{lastZero, byteOf}

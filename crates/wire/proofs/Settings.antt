@@ -19,7 +19,8 @@ use Rattle.wire.specs.declared.Setting.{Setting}
 use Rattle.wire.specs.declared.Answer.the-variants.{Done, Refused}
 use Rattle.wire.specs.declared.Refusal.the-variants.{Values}
 use Rattle.wire.specs.Numbers.{within}
-use Rattle.wire.specs.Answers.{value, HaveValues, SizeAnswered}
+use Rattle.wire.specs.Answers.{value}
+use Rattle.wire.specs.Opening.{HaveValues, SizeAnswered}
 use Rattle.wire.specs.Packets.{zeros}
 use Rattle.wire.specs.Settings.{schemeNumber, schemeOf, inRange, settingOf, Valid}
 use Rattle.wire.specs.Stored.{field, settingIn, settingBytes, checkedOf}

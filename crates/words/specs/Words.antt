@@ -1,4 +1,4 @@
--- The commonest words of the logic, of its lists, numbers and tactics, under one name, so that a file needs one line for them.
+-- The words of the logic that most files use: of its lists, numbers and tactics, under one name, so that a file needs one line for them.
 pub use Prim.Native.Nat.{ℕ, _≤_, _+_, _<_, _-_, _%_, suc, zero, _*_, _^_, _/_, min, max}
 pub use borrow.Author.Needs.{needs}
 pub use borrow.Author.Tests.{le-leb, lt-leb, ne-eqb, lt-ltb, not-false, not-true, eq-eqb, leb-true, eqb-true, le-ltb, ltb-true, ltb-false, eqb-false}
