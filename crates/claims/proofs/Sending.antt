@@ -60,7 +60,7 @@ module _ (t : Setting) (v : Valid t) (xs : List (List ℕ)) (m : List ℕ) where
           → Repaired key dt count (take n out′)
       drawn k z l true e = record { ranged = k; some-taken = z; ok = e; is = front _ n out out′ (p .makes k z l e .0) }
       drawn k z l false e =
-          absurd (impossible n 10 (p .zeros k z l (λ h. let z : _≡_ {A = ℕ} 0 1 = cc in omega arith) .answer))
+          absurd (impossible n 10 (p .draws-fail k z l (λ h. let z : _≡_ {A = ℕ} 0 1 = cc in omega arith) .answer))
 
       ranged : Ranged dt count → (l : List (List ℕ)) → xs ≡ l → Repaired key dt count (take n out′)
       ranged k [] e = absurd (impossible n 7 (p .empty k e .answer))

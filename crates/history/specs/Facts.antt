@@ -12,7 +12,7 @@ use Rattle.wire.specs.Packets.{zeros, symbolCount, adui, sourceSymbols, sourceF
 use Rattle.wire.specs.Packets.{protectedCount, firstEsi, repairSymbols}
 use Rattle.coefficients.specs.Coefficients.{nonzeroFrom, bitOf, byteOf, extend, coefficientsOf}
 use Rattle.starts.specs.Starts.{Starts, nowhere, pass}
-use Rattle.history.specs.History.{Located, source, repair, Call, source-call, repair-call, esiOf, sideOf, Reading, fails, located, check, fromSide}
+use Rattle.history.specs.History.{source, repair, Call, source-call, repair-call, esiOf, sideOf, Reading, fails, located, check, fromSide}
 use Rattle.history.specs.History.{readSource, readRepair, reading, memorySize, workingSize, halfway, farthest}
 use Rattle.history.specs.Model.{State, opened, foundBy, saidOf, stateAfter, answering, receiving, startsAfter, marking}
 use Rattle.decoder.specs.Model as model
@@ -53,11 +53,13 @@ abbrev those : (ℕ → Bool) → (n : ℕ) → List ℕ
 those t zero = []
 those t (suc n) = those t n ++ cond (t n) (n ∷ []) []
 
+-- Something is there.
 abbrev isSome : {A : Type 0} → Option A → Bool
 isSome none = false
 isSome (some x) = true
 
 module _ (s : Setting) where
+  -- What a state and its marks show.
   abbrev standing : (answers : List Said) → State s → Starts → Standing
   standing l none M = stands l none [] []
   standing l (some t) M = stands l (some (t .base)) (those (λ i. isSome (model.known (t .window) i)) (s .width)) (those M (s .width + 1))
@@ -72,7 +74,7 @@ coefficientsIn (fails n) = []
 coefficientsIn (located (source p vs)) = []
 coefficientsIn (located (repair p n cs vs)) = cs
 
--- Their sum: how many of them are 1.
+-- The sum of numbers, and of lists of numbers.
 abbrev sum : List ℕ → ℕ
 sum [] = 0
 sum (x ∷ l) = x + sum l
@@ -117,6 +119,7 @@ pub sizes :
     ≡ 73 ∷ 82 ∷ 84 ∷ 94 ∷ 448609 ∷ 450368 ∷ []
 sizes = refl
 
+-- What the checks before 11 make of packets, at a base and with working memory of a size.
 pub checks :
     -- working memory of exactly the size, and one byte short
     (reading (gf2 1) 0 82 (adu 0 0 0 0 0) ∷ reading (gf2 1) 0 81 (adu 0 0 0 0 0) ∷ [])
@@ -161,6 +164,7 @@ unfolding
     halfway sideOf check farthest fromSide readRepair reading
 densities = refl
 
+-- Where calls from a fresh receiver come to.
 pub calls :
     -- before any base refusals leave none: 4, 6, and 11 of a symbol that is not zero and combines nothing; after them the base is the first ESI
     after (gf2 2) (adu 6 0 0 0 0 ∷ over 0 3 0 0 0 0 4 ∷ combines 1 4 1 0 (1 ∷ zeros 3) ∷ [])

@@ -58,7 +58,7 @@ module _ (t : Setting) (xs : List (List ℕ)) (m n : List ℕ) where
       drawn k z l true e = let (f, d) = p .makes k z l e in let (g, c) = q .makes k z l e in (both-write f g, d ∙ sym c)
       drawn k z l false e =
           let w : ¬ (allOk scheme dt (covered t xs) (keysIn t key dt count) ≡ true) = λ h. let z : _≡_ {A = ℕ} 0 1 = cc in omega arith in
-          both (p .zeros k z l w) (q .zeros k z l w)
+          both (p .draws-fail k z l w) (q .draws-fail k z l w)
 
       some-taken : Ranged dt count → ¬ (xs ≡ []) → Alike (said (answerOf r)) (said (answerOf u)) x y × (drawsIn r ≡ drawsIn u)
       some-taken k z =

@@ -159,7 +159,7 @@ module _ (t : Setting) (v : Valid t) (xs : List (List ℕ)) where
         range = λ n. refuses 6 o m m out out′ (answerOf r) (repairing-range key dt count (length out) holding (fails-range dt count n)) f;
         empty = λ k e. refuses 7 o m m out out′ (answerOf r) (repairing-empty key dt count (length out) holding (g k) i refl (window-empty e)) f;
         short = λ k e l. refuses 2 o m m out out′ (answerOf r) (repairing-short key dt count (length out) holding (g k) i refl (window-some e) l) f;
-        zeros = λ k e l d. refuses 10 o m m out out′ (answerOf r)
+        draws-fail = λ k e l d. refuses 10 o m m out out′ (answerOf r)
             (repairing-draws key dt count (length out) holding (g k) i refl (window-some e) l (found key dt count false (not-so _ d))) f;
         makes = λ k e l d.
             let c = repairing-done key dt count (length out) holding (g k) i refl (window-some e) l (found key dt count true d) in

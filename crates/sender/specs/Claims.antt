@@ -54,6 +54,7 @@ pub record AreSymbols (E : ℕ) (symbols : List (List ℕ)) : Type 0 where
 abbrev pub Sender-symbols : Type 0
 Sender-symbols = (t : Setting) (l : List SenderCall) → SenderRun t l → AreSymbols (t .size) (symbolsOf (t .size) l)
 
+-- all claims of the sender
 pub record Sender-claims : Type 0 where
   pub opening : Opening-judged
   pub judged : Sender-judged

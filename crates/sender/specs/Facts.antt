@@ -1,6 +1,6 @@
 -- Computed from the definitions of the calls: refusals in their order, the limits of memory and of ADUs, the keys and density thresholds that are written,
 -- and windows that have lost symbols: one table, one result.
-use Rattle.words.specs.Words.{_≡_, ℕ, List, refl, [], _∷_, getD, map}
+use Rattle.words.specs.Words.{_≡_, ℕ, List, length, refl, [], _∷_, getD, map}
 use Rattle.tinymt.specs.Computing.{computing}
 use Rattle.field.specs.Gf256.{product}
 use Rattle.memory.specs.Part.{part}
@@ -70,13 +70,16 @@ pub calls :
     ∷ line (opening 9 4 1 35) ∷ line (opening 9 4 1 36) ∷ line (opening 10 1500 255 382531) ∷ line (opening 10 1500 255 382532)
     -- an ADU of a symbol too many with no output: 4 before 2; one that fills the window, with output one byte short, and enough
     ∷ line (adding (opened 9) 1 (zeros 6) 0) ∷ line (adding (opened 9) 1 (zeros 5) 8) ∷ line (adding (opened 9) 1 (zeros 5) 9)
+    -- an empty ADU, with output one byte short, and enough
+    ∷ line (adding (opened 9) 1 [] 3) ∷ line (adding (opened 9) 1 [] 4)
     -- an ADU of 65,536 bytes, in 44 symbols, with no output: 4 before 2; and of 65,535
     ∷ line (adding largest 1 (zeros 65536) 0) ∷ line (adding largest 1 (zeros 65535) 0)
     -- DT 16, and 0 and 17 repair symbols, of an empty window with no output: 6 before 7; of one symbol: 6 before 2
     ∷ line (repairing (opened 9) 1 16 1 0) ∷ line (repairing (opened 9) 1 15 0 0) ∷ line (repairing (opened 9) 1 15 17 0)
     ∷ line (repairing (one 9) 1 16 1 0) ∷ line (repairing (one 9) 1 15 0 0) ∷ line (repairing (one 9) 1 15 17 0)
-    -- an empty window with no output: 7 before 2; output one byte short, for 1 and for 16 repair symbols
+    -- an empty window with no output: 7 before 2; output one byte short, for 1 and for 16 repair symbols, and enough for 16
     ∷ line (repairing (opened 9) 1 15 1 0) ∷ line (repairing (one 9) 1 15 1 11) ∷ line (repairing (one 9) 1 15 16 71)
+    ∷ numbers (length (written (repairing (one 9) 1 15 16 72)) ∷ [])
     -- key 258: with DT 15 written as 0 in scheme 9 and kept in scheme 10, with DT 14 kept
     ∷ line (repairing (one 9) 258 15 1 12) ∷ line (repairing (one 10) 258 15 1 12) ∷ line (repairing (one 9) 258 14 1 12)
     -- every DT is read back from the packet, in both schemes, and decides the coefficients: the last byte of the symbol of key 1 in scheme 9
@@ -93,9 +96,10 @@ pub calls :
     ≡ refusal 1 ∷ refusal 1 ∷ refusal 1
     ∷ refusal 2 ∷ packet [] ∷ refusal 2 ∷ packet []
     ∷ refusal 4 ∷ refusal 2 ∷ packet (zeros 9)
+    ∷ refusal 2 ∷ packet (zeros 4)
     ∷ refusal 4 ∷ refusal 2
     ∷ refusal 6 ∷ refusal 6 ∷ refusal 6 ∷ refusal 6 ∷ refusal 6 ∷ refusal 6
-    ∷ refusal 7 ∷ refusal 2 ∷ refusal 2
+    ∷ refusal 7 ∷ refusal 2 ∷ refusal 2 ∷ numbers (72 ∷ [])
     ∷ packet (0 ∷ 0 ∷ 0xF0 ∷ 1 ∷ 0 ∷ 0 ∷ 0 ∷ 0 ∷ 1 ∷ 0 ∷ 1 ∷ 0x41 ∷ [])
     ∷ packet (1 ∷ 2 ∷ 0xF0 ∷ 1 ∷ 0 ∷ 0 ∷ 0 ∷ 0 ∷ 30 ∷ 0 ∷ 30 ∷ 205 ∷ [])
     ∷ packet (1 ∷ 2 ∷ 0xE0 ∷ 1 ∷ 0 ∷ 0 ∷ 0 ∷ 0 ∷ 1 ∷ 0 ∷ 1 ∷ 0x41 ∷ [])

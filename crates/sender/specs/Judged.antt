@@ -1,6 +1,7 @@
 -- What a sender has to answer and to write: call by call, from what the call is given and the ADUs taken before it (document 01, "Packets" and "Why a call
 -- says no"; RFC 8681, sections 3.3, 4.1.2 and 4.1.3). m, out and a are memory, output and answer; m′ and out′ memory and output afterwards; `taken` are the
--- symbols of the ADUs that the sender took before the call, the oldest first. Each record has the refusals in the order of their tests.
+-- symbols of the ADUs that the sender took before the call, the oldest first. Each record has the refusals in the order of their tests; 3 has no place here,
+-- since the calls follow an opening.
 use Rattle.words.specs.Words.{_≡_, ℕ, _≤_, _+_, List, length, _<_, _-_, [], _%_, _∷_, true, _*_, _++_, drop, _^_, cond, eqb, _&&_, map, min}
 use Rattle.memory.specs.Contained.{Contained}
 use Rattle.wire.specs.declared.Setting.{Setting}
@@ -37,7 +38,7 @@ module _ (t : Setting) where
   abbrev pub Takeable : List ℕ → Type 0
   Takeable adu = (length adu ≤ 65535) × (3 + length adu ≤ width * E)
 
-  -- adding an ADU: refusals 4, 2; its packet has the ESI of its first symbol, which is as many symbols as were taken before
+  -- adding an ADU: refusals 4, 2; its packet has the ESI of its first symbol: the number of symbols taken before, in 32 bits
   pub record AduJudged (taken : List (List ℕ)) (m adu out : List ℕ) (a : Said) (m′ out′ : List ℕ) : Type 0 where
     pub long : ¬ Takeable adu → Refuses 4 a m m′ out out′
     pub short : Takeable adu → length out < length adu + 4 → Refuses 2 a m m′ out out′
@@ -69,7 +70,7 @@ module _ (t : Setting) where
     pub range : ¬ Ranged dt count → Refuses 6 a m m out out′
     pub empty : Ranged dt count → taken ≡ [] → Refuses 7 a m m out out′
     pub short : Ranged dt count → ¬ (taken ≡ []) → length out < 8 + count * E → Refuses 2 a m m out out′
-    pub zeros : Ranged dt count → ¬ (taken ≡ []) → 8 + count * E ≤ length out → ¬ (allOk scheme dt (covered taken) (keysIn key dt count) ≡ true)
+    pub draws-fail : Ranged dt count → ¬ (taken ≡ []) → 8 + count * E ≤ length out → ¬ (allOk scheme dt (covered taken) (keysIn key dt count) ≡ true)
         → Refuses 10 a m m out out′
     pub makes : Ranged dt count → ¬ (taken ≡ []) → 8 + count * E ≤ length out → allOk scheme dt (covered taken) (keysIn key dt count) ≡ true
         → Writes (packetOf taken key dt count) a out out′ × (draws ≡ drawsOf scheme dt (covered taken) (keysIn key dt count))
@@ -84,12 +85,12 @@ module _ (t : Setting) where
       (before : List SenderCall) (c : SenderCall) (after : List SenderCall) → l ≡ before ++ (c ∷ after)
       → CallJudged (symbolsOf E before) (memoryAfter m before) c
 
--- every opening of a sender is judged so
+-- every opening of a sender answers and leaves what `OpeningJudged` says
 abbrev pub Opening-judged : Type 0
 Opening-judged =
     (scheme E width : ℕ) (m : List ℕ) (r : Answer) (m′ : List ℕ) → Opens scheme E width m r m′
     → OpeningJudged (32 + width * E) scheme E width m (said r) m′
 
--- and every call of every list of calls after an opening that answered 0
+-- and every call of every list after an opening that answered 0 what `CallJudged` says
 abbrev pub Sender-judged : Type 0
 Sender-judged = (t : Setting) (l : List SenderCall) (r : SenderRun t l) → CallsJudged t (r .after) l

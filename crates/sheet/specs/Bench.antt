@@ -22,7 +22,7 @@ use Rattle.starts.specs.Starts.{pass}
 use Rattle.history.specs.Symbol.{bytesOf}
 use Rattle.history.specs.History.{Call, source-call, repair-call, sideOf, check, fromSide, readSource, readRepair, reading, halfway, farthest}
 use Rattle.wire.specs.Answers.{Said, value, refusal as refuses}
-use Rattle.receiver.specs.Promises.{drawsFor}
+use Rattle.receiver.specs.Promises.{drawsFor, opening as opens}
 use Rattle.history.specs.Model.{answering, Finding, shows, hides, finding, startsAfter, aduAt}
 use Rattle.history.specs.Facts.{begun, called}
 use Rattle.decoder.specs.Model as model
@@ -203,6 +203,9 @@ pub bench :
     -- the receiver's refusals 4; 5, of both packets; 6, of NSS 0 and of NSS over the width; 8 and 9, with base 0; 11, of two unlike repair symbols
     ∷ case (gf2 2) (long ∷ []) [] ∷ case (gf2 2) (short-source ∷ short-repair ∷ []) [] ∷ case (gf2 2) (repair-of 0 0 ∷ repair-of 3 0 ∷ []) []
     ∷ case (gf2 2) (at-zero ∷ empty-at 0xFF 0xFF 0xFF 0xFF ∷ empty-at 0 1 0 0 ∷ []) [] ∷ case (gf2 2) (repair-of 2 3 ∷ unlike ∷ []) []
+    -- a receiver's opening, with the least memory that it needs and one byte less, at the smallest and the largest E and width; 1 before 2
+    ∷ received (opens (settingOf 9 4 1) 73 ∷ opens (settingOf 9 4 1) 72 ∷ []) []
+    ∷ received (opens (settingOf 10 1500 255) 448609 ∷ opens (settingOf 10 1500 255) 448608 ∷ opens (settingOf 10 1501 255) 0 ∷ []) []
     -- the symbol call before any base
     ∷ case (gf2 2) [] (0 ∷ 2 ∷ 2147483647 ∷ 2147483648 ∷ 4294967295 ∷ [])
     -- the symbol call with base 0: unknown, past the window, the last ESI ahead, the first behind, the last
@@ -272,6 +275,7 @@ pub bench :
     ∷ refusal 1 ∷ refusal 2 ∷ refusal 3 ∷ refusal 6 ∷ refusal 7
     ∷ received (refuses 4 ∷ []) [] ∷ received (refuses 5 ∷ refuses 5 ∷ []) [] ∷ received (refuses 6 ∷ refuses 6 ∷ []) []
     ∷ received (value 1 ∷ refuses 8 ∷ refuses 9 ∷ []) [] ∷ received (value 0 ∷ refuses 11 ∷ []) []
+    ∷ received (value 0 ∷ refuses 2 ∷ []) [] ∷ received (value 0 ∷ refuses 2 ∷ refuses 1 ∷ []) []
     ∷ received [] (says 12 ∷ says 12 ∷ says 12 ∷ says 12 ∷ says 12 ∷ [])
     ∷ received (value 1 ∷ []) (says 12 ∷ says 12 ∷ says 12 ∷ says 8 ∷ says 8 ∷ [])
     ∷ received (value 1 ∷ value 2 ∷ []) (known (1 ∷ 0 ∷ 2 ∷ 7 ∷ []) ∷ known (7 ∷ 0 ∷ 0 ∷ 0 ∷ []) ∷ []) ∷ received (value 1 ∷ refuses 9 ∷ []) []

@@ -1,3 +1,4 @@
 pub mod Adu
 pub mod Starts
 pub mod Settled
+pub mod Facts
