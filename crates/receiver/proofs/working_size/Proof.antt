@@ -13,8 +13,8 @@ working-size-requires c κs = let p = c .before in size-valid _ _ (p .before .be
 returns-2 : tie.Need-returns-2
 returns-2 c =
     let p = c .before .before in
-    size-given _ _ (p .before .before .setting-of .ensures) (λ size width. 64 + (width + 1) * (width + size + 4)) _
-    (p .setting .given .1) _ (c .working-size .ensures)
+    let e = p .before .before .setting-of .ensures in
+    size-given _ _ e (λ size width. 64 + (width + 1) * (width + size + 4)) _ (p .setting .given .1) _ (c .working-size .ensures)
 
 pub working-size-spec : {M : Type 1} → statement M
 working-size-spec =

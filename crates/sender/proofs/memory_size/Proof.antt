@@ -15,7 +15,8 @@ returns-2 : tie.Need-returns-2
 unfolding headerSize
 returns-2 c =
     let p = c .before .before in
-    size-given _ _ (p .before .before .setting-of .ensures) (λ size width. 32 + width * size) _ (p .setting .given .1) _ (c .memory-size .ensures)
+    let e = p .before .before .setting-of .ensures in
+    size-given _ _ e (λ size width. 32 + width * size) _ (p .setting .given .1) _ (c .memory-size .ensures)
 
 pub memory-size-spec : {M : Type 1} → statement M
 memory-size-spec =
