@@ -1,4 +1,5 @@
 pub mod Steps
 pub mod Judging
 pub mod Claims
+pub mod Taking
 pub mod Pieces

@@ -5,7 +5,7 @@
 --   Goes: packet lines
 --   stops
 use Rattle.words.specs.Words.{_≡_, arith, ℕ, _≤_, _+_, List, length, refl, _∙_, sym, ap, [], some, _∷_, true, none, false, _++_, Bool, subst, Option, take, ltb}
-use Rattle.words.specs.Words.{le-leb, length-append, _⊎_, append-assoc, leb-true, ltb-true, ⊎-elim, min, ltb-false, take-append-seam}
+use Rattle.words.specs.Words.{le-leb, length-append, _⊎_, append-assoc, leb-true, ltb-true, ⊎-elim, min, ltb-false}
 use Rattle.wire.specs.declared.Setting.{Setting}
 use Rattle.history.specs.Model.{State, opened}
 use Rattle.lines.specs.Lines.{linesFrom, linesOf}
@@ -22,6 +22,7 @@ use Rattle.records.specs.Promises.{isOver, Held, GoesFrom}
 use Rattle.records.specs.Pieces.{Piece, taken, written, InTurn, reached, lineLeft, memoryLeft, Worked-through, Stops}
 use Rattle.records.proofs.Steps.{line-read, line-past, after-append, printed-append, printed-by}
 use Rattle.records.proofs.Claims.{prints}
+use Rattle.records.proofs.Taking.{last-same}
 
 -- pieces go on as one
 through : (xs : List Piece) (p : Progress) (line m : List ℕ) (w : Standing) (q : List ℕ) → Held p line m w q → InTurn p line m xs
@@ -96,12 +97,6 @@ worked-through p line m xs b t last n f rest d =
 
 -- ---- Where reading stops
 
--- lists with one element more
-init-same : {A : Type 0} (xs ys : List A) (a b : A) → xs ++ (a ∷ []) ≡ ys ++ (b ∷ []) → xs ≡ ys
-init-same xs ys a b e =
-    let n : length xs ≡ length ys = omega (arith, ap length e, length-append xs (a ∷ []), length-append ys (b ∷ [])) in
-    sym (take-append-seam xs (a ∷ [])) ∙ ap (take (length xs)) e ∙ ap (λ (k : ℕ). take k (ys ++ (b ∷ []))) n ∙ take-append-seam ys (b ∷ [])
-
 -- lines that have ended, and what follows them
 joined-from : (ls : List (List ℕ)) (z : List ℕ) → AllUnbroken ls → linesOf (joined ls ++ z) ≡ ls ++ linesOf z
 joined-from [] z u = refl
@@ -114,9 +109,9 @@ lines-ended : (x : List ℕ) (lines : List (List ℕ)) (unended : List ℕ) → 
     → (ls : List (List ℕ)) (q : List ℕ) → AllUnbroken ls → Unbroken q → x ≡ joined ls ++ q → lines ≡ ls
 unfolding linesFrom
 lines-ended x lines unended cut ls q u v e =
-    init-same lines ls unended q
+    last-same lines ls unended q
     (sym (cut (10 ∷ [])) ∙ ap (λ (y : List ℕ). linesOf (y ++ (10 ∷ []))) e ∙ ap linesOf (append-assoc (joined ls) q (10 ∷ []))
-    ∙ joined-from ls (q ++ (10 ∷ [])) u ∙ ap (λ (y : List (List ℕ)). ls ++ y) (lines-go-on [] q v (10 ∷ [])))
+    ∙ joined-from ls (q ++ (10 ∷ [])) u ∙ ap (λ (y : List (List ℕ)). ls ++ y) (lines-go-on [] q v (10 ∷ []))) .0
 
 -- packet lines: there are as many records, up to the most
 pub record Goes (w : Standing) (s : Setting) (n : ℕ) : Type 0 where

@@ -1,4 +1,5 @@
--- Computed from the definitions: document 02's sample, answers of each kind, inputs that end without 0A, and bad first lines.
+-- Computed from the definitions: document 02's sample, answers of each kind, inputs that end without 0A, bad first lines, and
+-- what is taken of a piece.
 use Rattle.words.specs.Words.{_≡_, ℕ, List, refl, [], some, _∷_, none, map}
 use Prim.Native.String.{String}
 use Rattle.tinymt.specs.Computing.{computing}
@@ -19,6 +20,8 @@ use Rattle.lines.specs.Lines.{linesFrom}
 use Rattle.lines.specs.Reading.{after, numberFrom, numberIn, valueOf, bytesIn, valuesIn, repairIn, sourceIn, callIn}
 use Rattle.records.specs.Records.{total, recordLines, summary}
 use Rattle.records.specs.Replay.{recordsFrom, settingNamed, printedWith, printedLines, printed}
+use Rattle.records.specs.Standing.{opening, afterLine, printedLine}
+use Rattle.records.specs.Taking.{takenOf, takenFrom}
 use Rattle.decoder.specs.Model as model
 use Rattle.decoder.specs.Receiver as decoder
 use Rattle.decoder.specs.Packets as packets
@@ -67,3 +70,10 @@ pub firstLines : map (λ t. settingNamed (ascii t))
     ∷ none ∷ none ∷ none ∷ none ∷ none ∷ none ∷ none ∷ none ∷ none ∷ none ∷ none ∷ none ∷ []
 unfolding inRange settingOf after numberFrom numberIn valuesIn settingNamed
 firstLines = refl
+
+-- what is taken of a piece: a bad first line and no more; all of it, the last line not ended; nothing where output is nearly full
+pub takings : takenFrom opening [] 0 (ascii "scheme=8 e=4 width=2\nkind=repair packet=\n")
+    ∷ takenFrom opening [] 0 (ascii "scheme=9 e=4 width=2\nkind=repair") ∷ takenFrom opening [] 65459 (ascii "scheme=9") ∷ []
+    ≡ 21 ∷ 32 ∷ 0 ∷ []
+unfolding inRange settingOf after numberFrom numberIn valuesIn settingNamed afterLine printedLine takenOf
+takings = refl

@@ -3,6 +3,7 @@
 --   moved-counts: a progress that moves keeps its sums
 --   one-or-none
 --   counted: a record more
+--   grown-none, grown-put, grown-more: output past what is written is as it was
 --   first-opened: it opened a receiver, or did not
 --   first-closed
 --   packet-past: the most have been read
@@ -13,7 +14,7 @@ use Rattle.words.specs.Words.{Option, _^_, take, cond, eqb, length-append, appe
 use Rattle.wire.specs.declared.Setting.{Setting}
 use Rattle.printing.specs.Printed.{recordLine}
 use Rattle.printing.specs.Inner.{Put}
-use Rattle.printing.proofs.Laws.{record-length}
+use Rattle.printing.proofs.Laws.{past-more, record-length}
 use Rattle.lines.specs.Reading.{callIn}
 use Rattle.records.specs.declared.Record.{Record}
 use Rattle.records.specs.declared.Stage.{Stage}
@@ -24,7 +25,7 @@ use Rattle.records.specs.Records.{mostLines}
 use Rattle.records.specs.Replay.{stateAt, settingNamed}
 use Rattle.records.specs.Standing.{Standing, opening, closed, working, afterLine, printedLine, Counts, Stands, Kept}
 use Rattle.answering.specs.Inner.{OpensOrNot, OpenedBy, Answered}
-use Rattle.replay.specs.Inner.{Counted, movedTo, Passed, FirstEnded, AtPackets, PacketEnded, LineEnded}
+use Rattle.replay.specs.Inner.{Counted, movedTo, Grown, Passed, FirstEnded, AtPackets, PacketEnded, LineEnded}
 use Rattle.records.proofs.Steps.{total-more, all-counted, line-read, line-past, line-opens}
 
 -- ---- Sums
@@ -57,6 +58,24 @@ counted p r p′ a ea stage have l ac re kn = record {
         few = omega arith;
         small = omega (arith, k .small, total-more (λ x. x .known) rs r);
       };
+}
+
+-- ---- Output
+
+-- nothing was written
+pub grown-none : (at : ℕ) (out : List ℕ) → at ≤ length out → Grown at at out out
+grown-none at out h = record { grows = omega arith; within = h; past = refl }
+
+-- a text was put after what was written
+pub grown-put : {out out′ : List ℕ} {at next : ℕ} {text : List ℕ} → Put out out′ at next text → Grown at next out out′
+grown-put put = record { grows = omega (arith, put .ends); within = put .within; past = put .past }
+
+-- and more after that
+pub grown-more : (a b c : List ℕ) {i j k : ℕ} → Grown i j a b → Grown j k b c → Grown i k a c
+grown-more a b c {j = j} {k = k} x y = record {
+  grows = omega (arith, x .grows, y .grows);
+  within = y .within;
+  past = y .past ∙ past-more b a j k (y .grows) (x .past);
 }
 
 -- ---- The first line
@@ -93,10 +112,11 @@ silent : (x y : List ℕ) → y ≡ [] → x ≡ x ++ y
 silent x y e = rw (e, append-nil x)
 
 -- the most have been read
-pub packet-past : (p r : Progress) (line m out : List ℕ) (at : ℕ) → mostLines ≤ p .lines → r ≡ movedTo p Working 0
+pub packet-past : (p r : Progress) (line m out : List ℕ) (at : ℕ) → at ≤ length out → mostLines ≤ p .lines → r ≡ movedTo p Working 0
     → PacketEnded p line m m out out at (record { progress = r; at = at })
-packet-past p r line m out at h e = record {
+packet-past p r line m out at n h e = record {
   room = omega arith;
+  rest = grown-none at out n;
   have = ap (λ (x : Progress). x .have) e;
   goes = λ w l a k g. subst (λ x. Passed w l (take at out) (take at out) x m) (sym e) (go w l a k);
 }
@@ -118,6 +138,7 @@ pub packet-read : (p p′ : Progress) (line m m′ out out′ : List ℕ) (at ne
     → PacketEnded p line m m′ out out′ at (record { progress = p′; at = next })
 packet-read p p′ line m m′ out out′ at next r few ra rk a put c = record {
   room = omega (arith, put .ends, record-length (p .lines + 1) (r .answer) (r .known) (omega arith) ra rk);
+  rest = grown-put put;
   have = c .have;
   goes = go;
 }
@@ -138,10 +159,10 @@ packet-read p p′ line m m′ out out′ at next r few ra rk a put c = record {
 
 -- ---- Any line
 
-pub line-opening : (p r : Progress) (line m m′ out : List ℕ) (at : ℕ) → p .stage ≡ Opening → FirstEnded p line m m′ r
+pub line-opening : (p r : Progress) (line m m′ out : List ℕ) (at : ℕ) → at ≤ length out → p .stage ≡ Opening → FirstEnded p line m m′ r
     → LineEnded p line m m′ out out at (record { progress = r; at = at })
 unfolding printedLine
-line-opening p r line m m′ out at e f = record { room = omega arith; have = f .have; goes = go }
+line-opening p r line m m′ out at n e f = record { room = omega arith; rest = grown-none at out n; have = f .have; goes = go }
   where
     go : (w : Standing) (l : List ℕ) → Unit {0} → Stands p m w → Kept (p .have) line l → Passed w l (take at out) (take at out) r m′
     go opening l n k g = record { stands = f .goes l (k .1) g; wrote = silent (take at out) [] refl }
@@ -150,18 +171,19 @@ line-opening p r line m m′ out at e f = record { room = omega arith; have = f 
 
 pub line-working : (p : Progress) (line m m′ out out′ : List ℕ) (at : ℕ) (r : Ended) → p .stage ≡ Working → PacketEnded p line m m′ out out′ at r
     → LineEnded p line m m′ out out′ at r
-line-working p line m m′ out out′ at r e f = record { room = f .room; have = f .have; goes = go }
+line-working p line m m′ out out′ at r e f = record { room = f .room; rest = f .rest; have = f .have; goes = go }
   where
     go : (w : Standing) (l : List ℕ) → Unit {0} → Stands p m w → Kept (p .have) line l → Passed w l (take at out) (take (r .at) out′) (r .progress) m′
     go opening l n k g = let q = k .0 in let z : _≡_ {A = ℕ} 0 1 = cc in absurd (omega arith)
     go closed l n k g = let q = k .0 in let z : _≡_ {A = ℕ} 0 1 = cc in absurd (omega arith)
     go (working s t rs) l n k g = f .goes (working s t rs) l tt k g
 
-pub line-closed : (p r : Progress) (line m out : List ℕ) (at : ℕ) → p .stage ≡ Closed → r ≡ movedTo p Closed 0
+pub line-closed : (p r : Progress) (line m out : List ℕ) (at : ℕ) → at ≤ length out → p .stage ≡ Closed → r ≡ movedTo p Closed 0
     → LineEnded p line m m out out at (record { progress = r; at = at })
 unfolding afterLine printedLine
-line-closed p r line m out at e f = record {
+line-closed p r line m out at n e f = record {
   room = omega arith;
+  rest = grown-none at out n;
   have = ap (λ (x : Progress). x .have) f;
   goes = λ w l n k g. subst (λ x. Passed w l (take at out) (take at out) x m) (sym f) (go w l k);
 }

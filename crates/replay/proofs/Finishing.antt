@@ -1,5 +1,5 @@
 -- The input's end.
-use Rattle.words.specs.Words.{_≡_, arith, ℕ, List, refl, _∙_, sym, ap, [], _∷_, _++_, subst, append-nil}
+use Rattle.words.specs.Words.{_≡_, arith, ℕ, List, length, refl, _∙_, sym, ap, [], _∷_, _++_, subst, append-nil}
 use Rattle.printing.specs.Printed.{lastLine}
 use Rattle.printing.specs.Inner.{Put}
 use Rattle.lines.specs.Lines.{linesFrom}
@@ -7,8 +7,9 @@ use Rattle.records.specs.declared.Progress.{Progress}
 use Rattle.replay.specs.declared.Ended.{Ended}
 use Rattle.records.specs.Records.{summary}
 use Rattle.records.specs.Standing.{Standing, opening, closed, working, printedLine, lastOf, Stands, Kept}
-use Rattle.records.specs.Promises.{Finished}
+use Rattle.records.specs.Promises.{KeptPast, Finished}
 use Rattle.replay.specs.Inner.{LineEnded, InputEnded}
+use Rattle.replay.proofs.Ending.{grown-none, grown-put, grown-more}
 
 -- the last line has the sums
 pub last-line : (p : Progress) (m : List ℕ) (w : Standing) → Stands p m w → lastOf w ≡ lastLine (p .lines) (p .accepted) (p .refused) (p .known)
@@ -22,10 +23,11 @@ begun : (line q : List ℕ) → Kept 0 line q → q ≡ []
 begun line [] k = refl
 begun line (b ∷ q) k = let c = k .count in absurd (omega arith)
 
-pub nothing-left : (p : Progress) (line m out : List ℕ) → p .have ≡ 0 → InputEnded p line m out (record { progress = p; at = 0 })
+pub nothing-left : (p : Progress) (line m out : List ℕ) → p .have ≡ 0 → InputEnded p line m out out (record { progress = p; at = 0 })
 unfolding linesFrom
 nothing-left p line m out e = record {
   room = omega arith;
+  rest = grown-none 0 out (omega arith);
   prints = λ w q h.
       let n : q ≡ [] = begun line q (subst (λ x. Kept x line q) e (h .kept)) in
       rw n (last-line p m w (h .stands));
@@ -38,9 +40,10 @@ one-line [] have line k h = absurd (h (omega (arith, k .count)))
 one-line (b ∷ q) have line k h = refl
 
 pub line-left : (p : Progress) (line m m′ out out′ : List ℕ) (r : Ended) → (p .have ≡ 0 → ⊥) → LineEnded p line m m′ out out′ 0 r
-    → InputEnded p line m out′ r
+    → InputEnded p line m out out′ r
 line-left p line m m′ out out′ r e f = record {
   room = f .room;
+  rest = f .rest;
   prints = λ w q h.
       let x = f .goes w q tt (h .stands) (h .kept) in
       rw (one-line q (p .have) line (h .kept) e, append-nil (printedLine w q), x .wrote)
@@ -48,7 +51,10 @@ line-left p line m m′ out out′ r e f = record {
 }
 
 -- and the sums
-pub finished : (p : Progress) (line m out out′ : List ℕ) (r : Ended) (next : ℕ) → InputEnded p line m out r
+pub finished : (p : Progress) (line m out₀ out out′ : List ℕ) (r : Ended) (next : ℕ) → length out′ ≡ length out₀ → InputEnded p line m out₀ out r
     → Put out out′ (r .at) next (lastLine (r .progress .lines) (r .progress .accepted) (r .progress .refused) (r .progress .known))
-    → Finished p line m out′ next
-finished p line m out out′ r next i put = record { room = put .within; prints = λ w q h. put .bytes ∙ sym (i .prints w q h) }
+    → Finished p line m out′ next × KeptPast next out₀ out′
+finished p line m out₀ out out′ r next n i put = (
+  record { room = put .within; prints = λ w q h. put .bytes ∙ sym (i .prints w q h) },
+  record { long = n; past = grown-more out₀ out out′ (i .rest) (grown-put put) .past },
+)

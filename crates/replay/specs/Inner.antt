@@ -1,5 +1,5 @@
 -- Contracts of inner functions.
-use Rattle.words.specs.Words.{_≡_, ℕ, _≤_, _+_, List, length, _<_, [], _∷_, _++_, take}
+use Rattle.words.specs.Words.{_≡_, ℕ, _≤_, _+_, List, length, _<_, [], _∷_, _++_, drop, take}
 use Rattle.printing.specs.Printed.{lastLine}
 use Rattle.lines.specs.Lines.{linesFrom}
 use Rattle.records.specs.declared.Record.{Record}
@@ -10,6 +10,7 @@ use Rattle.records.specs.declared.Pass.{Pass}
 use Rattle.replay.specs.declared.Ended.{Ended}
 use Rattle.records.specs.Records.{mostLines}
 use Rattle.records.specs.Standing.{Standing, opening, closed, working, afterLine, printedLine, after, printedBy, lastOf, Counts, Stands, Kept}
+use Rattle.records.specs.Taking.{takenOf, takenFrom}
 use Rattle.records.specs.Promises.{Held, GoesFrom}
 
 -- room for a record's line: its numbers have at most 20 digits each
@@ -34,6 +35,12 @@ pub record Lent (line m v packet : List ℕ) : Type 0 where
   pub working : length v ≡ 65536
   pub bytes : 4096 ≤ length packet
 
+-- what is written ends at `next`, where it ended at `at` before, and output past that is as it was
+pub record Grown (at next : ℕ) (out out′ : List ℕ) : Type 0 where
+  pub grows : at ≤ next
+  pub within : next ≤ length out′
+  pub past : drop next out′ ≡ drop next out
+
 -- after the line l of a capture that stood at w: what was written before is followed by what is printed of the line
 pub record Passed (w : Standing) (l before written : List ℕ) (p′ : Progress) (m′ : List ℕ) : Type 0 where
   pub stands : Stands p′ m′ (afterLine w l)
@@ -47,6 +54,7 @@ pub record FirstEnded (p : Progress) (line m m′ : List ℕ) (r : Progress) : T
 -- a line has ended, of a capture that stood at one of these
 pub record EndedAt (At : Standing → Type 0) (p : Progress) (line m m′ out out′ : List ℕ) (at : ℕ) (r : Ended) : Type 0 where
   pub room : r .at ≤ at + recordRoom
+  pub rest : Grown at (r .at) out out′
   pub have : r .progress .have ≡ 0
   pub goes : (w : Standing) (l : List ℕ) → At w → Stands p m w → Kept (p .have) line l → Passed w l (take at out) (take (r .at) out′) (r .progress) m′
 
@@ -66,12 +74,16 @@ pub record LineFed (p : Progress) (line line′ m m′ input out out′ : List �
   pub taken : r .taken ≤ length input
   pub moves : 0 < length input → 0 < r .taken
   pub room : r .written ≤ at + recordRoom
+  pub rest : Grown at (r .written) out out′
   pub goes : (w : Standing) (q : List ℕ) → Held p line m w q
       → GoesFrom w q (take at out) (take (r .taken) input) (take (r .written) out′) (r .progress) line′ m′
+  pub takes : (w : Standing) (q : List ℕ) (h : Held p line m w q) → takenOf w q at input
+      ≡ r .taken + takenFrom (after w (goes w q h .lines)) (goes w q h .unended) (r .written) (drop (r .taken) input)
 
 -- the input has ended
-pub record InputEnded (p : Progress) (line m out′ : List ℕ) (r : Ended) : Type 0 where
+pub record InputEnded (p : Progress) (line m out out′ : List ℕ) (r : Ended) : Type 0 where
   pub room : r .at ≤ recordRoom
+  pub rest : Grown 0 (r .at) out out′
   pub prints : (w : Standing) (q : List ℕ) → Held p line m w q
       → printedBy w (linesFrom q []) ++ lastOf (after w (linesFrom q []))
       ≡ take (r .at) out′ ++ lastLine (r .progress .lines) (r .progress .accepted) (r .progress .refused) (r .progress .known)

@@ -1,7 +1,7 @@
 // Working through a capture (document 02, No. 4): the receiver's calls that its lines name, and what is printed of them. The input comes in pieces of any
 // size, and no more is kept of it than a line.
 ghost use Rattle.words.specs.Words.{_≡_, _≤_, _+_, length, cond, ltb, leb, eqb, _&&_, not};
-ghost use Rattle.records.specs.Promises.{isOver, Begun, Fed, Finished};
+ghost use Rattle.records.specs.Promises.{isOver, Begun, Fed, KeptPast, Finished};
 ghost use Rattle.replay.specs.Inner.{Lent, Counted, movedTo, FirstEnded, PacketEnded, LineEnded, LineFed, InputEnded};
 use records::Pass;
 use records::Progress;
@@ -208,7 +208,8 @@ fn feed_lines(
     out: &mut [u8],
 ) -> Pass
     requires { ⌜ Lent (now line) (now mem) (now work) (now packet) × (length (now out) ≡ 65536) ⌝ }
-    ensures { λ r. ⌜ Fed progress (now (line .entry)) (now (line .exit)) (now (mem .entry)) (now (mem .exit)) (now (input .entry)) (now (out .exit)) r ⌝ }
+    ensures { λ r. ⌜ Fed progress (now (line .entry)) (now (line .exit)) (now (mem .entry)) (now (mem .exit)) (now (input .entry)) (now (out .exit)) r
+        × KeptPast (r .written) (now (out .entry)) (now (out .exit)) ⌝ }
 {
     let mut p = progress;
     let mut taken = 0;
@@ -227,7 +228,8 @@ fn feed_lines(
     }
 }
 
-// Works through a piece of the input, as far as there is room for what is printed. What is written stands at the front of the output.
+// Works through a piece of the input, as far as there is room for what is printed. What is written stands at the front of the output, and
+// output past it stays.
 pub fn feed(
     progress: Progress,
     line: &mut [u8; 8192],
@@ -237,7 +239,8 @@ pub fn feed(
     input: &[u8],
     out: &mut [u8; 65536],
 ) -> Pass
-    ensures { λ r. ⌜ Fed progress (now (line .entry)) (now (line .exit)) (now (mem .entry)) (now (mem .exit)) (now (input .entry)) (now (out .exit)) r ⌝ }
+    ensures { λ r. ⌜ Fed progress (now (line .entry)) (now (line .exit)) (now (mem .entry)) (now (mem .exit)) (now (input .entry)) (now (out .exit)) r
+        × KeptPast (r .written) (now (out .entry)) (now (out .exit)) ⌝ }
 {
     feed_lines(progress, line, mem, work, packet, input, out)
 }
@@ -252,7 +255,7 @@ fn end_unended(
     out: &mut [u8],
 ) -> Ended
     requires { ⌜ Lent (now line) (now mem) (now work) (now packet) × (78 ≤ length (now out)) ⌝ }
-    ensures { λ r. ⌜ InputEnded p (now (line .entry)) (now (mem .entry)) (now (out .exit)) r ⌝ }
+    ensures { λ r. ⌜ InputEnded p (now (line .entry)) (now (mem .entry)) (now (out .entry)) (now (out .exit)) r ⌝ }
 {
     if p.have == 0 {
         return Ended { progress: p, at: 0 };
@@ -260,7 +263,8 @@ fn end_unended(
     end_line(p, line, mem, work, packet, out, 0)
 }
 
-// The input has ended: its last line, if it has no 0A, and the line with the sums. Gives how many bytes are written at the front of the output.
+// The input has ended: its last line, if it has no 0A, and the line with the sums. Gives how many bytes are written at the front of the output;
+// output past these stays.
 pub fn finish(
     progress: Progress,
     line: &[u8; 8192],
@@ -269,7 +273,8 @@ pub fn finish(
     packet: &mut [u8; 4096],
     out: &mut [u8; 256],
 ) -> usize
-    ensures { λ r. ⌜ Finished progress (now (line .entry)) (now (mem .entry)) (now (out .exit)) r ⌝ }
+    ensures { λ r. ⌜ Finished progress (now (line .entry)) (now (mem .entry)) (now (out .exit)) r
+        × KeptPast r (now (out .entry)) (now (out .exit)) ⌝ }
 {
     let ended = end_unended(progress, line, mem, work, packet, out);
     let p = ended.progress;

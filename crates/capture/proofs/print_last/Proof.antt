@@ -4,7 +4,7 @@ use Rattle.capture.proofs.print_last.Statement.{statement}
 use Rattle.capture.proofs.print_last.Tie as tie
 
 slice-aggregate-print : tie.Need-slice-aggregate-print
-slice-aggregate-print c = sym (length-take-le _ _ (c .before .finish .ensures .room))
+slice-aggregate-print c = sym (length-take-le _ _ (c .before .finish .ensures .0 .room))
 
 pub print-last-spec : {M : Type 1} → statement M
 print-last-spec =

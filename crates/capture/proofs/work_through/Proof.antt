@@ -20,7 +20,7 @@ returns : tie.Need-returns Inv-loop μ-loop
 returns c = went-over _ _ _ _ _ _ _ _ (c .before .before .before .loop .inv .1) (sym (c .before .is-over .ensures) ∙ c .if1 .taken)
 
 part-requires : tie.Need-part-requires Inv-loop μ-loop
-part-requires c κs = omega (arith, c .before .before .before .feed .ensures .written)
+part-requires c κs = omega (arith, c .before .before .before .feed .ensures .0 .written)
 
 returns-2 : tie.Need-returns-2 Inv-loop μ-loop
 returns-2 c = went-failed _ _ _ _ _ _ _
@@ -33,7 +33,7 @@ moves c =
     next-moves _ (c .before .before .before .before .before .before .before .before .before .before .before .before .args .input .now)
     (c .before .before .before .before .before .before .before .before .before .loop-test .taken)
     (sym (c .before .before .before .before .before .before .before .before .is-over .ensures) ∙
-    c .before .before .before .before .before .before .before .if1 .left) (c .feed .ensures)
+    c .before .before .before .before .before .before .before .if1 .left) (c .feed .ensures .0)
 
 add-at : tie.Need-add-at Inv-loop μ-loop
 add-at c = omega (
@@ -57,7 +57,7 @@ loop-again c = (
   moves (c .before .before .before .before .before .before .before) .1,
   next-handed _ _ _ _ _ _ _ _ _ _ _ _
       (c .before .before .before .before .before .before .before .before .before .before .before .before .before .before .before .before .before .loop .inv .1)
-      (c .before .before .before .before .before .before .before .feed .ensures),
+      (c .before .before .before .before .before .before .before .feed .ensures .0),
 )
 
 returns-3 : tie.Need-returns-3 Inv-loop μ-loop

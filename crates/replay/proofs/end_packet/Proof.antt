@@ -5,7 +5,7 @@ use Rattle.replay.proofs.end_packet.Statement.{statement}
 use Rattle.replay.proofs.end_packet.Tie as tie
 
 returns : tie.Need-returns
-returns c = packet-past _ _ _ _ _ _ (c .before .if1 .taken) (c .moved .ensures)
+returns c = packet-past _ _ _ _ _ _ (omega arith) (c .before .if1 .taken) (c .moved .ensures)
 
 returns-2 : tie.Need-returns-2
 returns-2 c =

@@ -8,7 +8,7 @@ returns : tie.Need-returns
 returns c =
     fed-part _ _ _ _ _ _ _ _ _ (c .before .before .before .before .before .before .before .line-end .ensures)
     (c .before .before .before .before .before .part .ensures .bytes) (c .before .before .before .before .keep .ensures) (c .before .moved .ensures) _ _
-    (c .if1 .taken)
+    (omega arith) (c .if1 .taken)
 
 add-t18 : tie.Need-add-t18
 add-t18 c =
@@ -31,7 +31,7 @@ returns-2 c =
     .before .before .before .before .before .before .before .before .before .before .before .part .ensures .bytes)
     (c .before .before .before .before .before .before .before .before .before .before .before .before .before .before .before .before .before .before
     .before .keep .ensures) (c .before .before .before .before .before .before .before .before .before .before .before .before .before .before .before
-    .before .moved .ensures) _ _ _ _ _
+    .before .moved .ensures) _ _ _ _ _ (omega arith)
     (c .before .before .before .before .before .before .before .before .before .before .before .before .before .before .before .if1 .left)
     (c .before .before .before .before .before .before .before .before .before .end-line .ensures)
 

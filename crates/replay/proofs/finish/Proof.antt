@@ -5,7 +5,7 @@ use Rattle.replay.proofs.finish.Statement.{statement}
 use Rattle.replay.proofs.finish.Tie as tie
 
 returns : tie.Need-returns
-returns c = finished _ _ _ _ _ _ _ (c .before .before .before .end-unended .ensures) (c .put-last .ensures)
+returns c = finished _ _ _ _ _ _ _ _ (search needs) (c .before .before .before .end-unended .ensures) (c .put-last .ensures)
 
 pub finish-spec : {M : Type 1} → statement M
 finish-spec =
