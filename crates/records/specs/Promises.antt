@@ -1,6 +1,6 @@
 -- What the calls that work through a capture promise. p is the progress, line the bytes kept of a line that has not ended, m the receiver's memory;
 -- p′, line′, m′ these afterwards.
-use Rattle.words.specs.Words.{_≡_, ℕ, _≤_, List, length, _<_, [], true, false, _++_, Bool, drop, take, leb}
+use Rattle.words.specs.Words.{_≡_, ℕ, _≤_, List, length, _<_, [], true, false, _++_, Bool, take, leb}
 use Rattle.lines.specs.Lines.{linesFrom}
 use Rattle.records.specs.declared.Stage.{Stage}
 use Rattle.records.specs.declared.Stage.the-variants.{Opening, Working, Closed}
@@ -43,11 +43,6 @@ pub record Outright (w : Standing) (q input line′ m′ out′ : List ℕ) (r :
   pub takes : r .taken ≡ takenFrom w q 0 input
   pub writes : take (r .written) out′ ≡ printedBy w (endedIn q (take (r .taken) input))
   pub stands : Held (r .progress) line′ m′ (after w (endedIn q (take (r .taken) input))) (unendedIn q (take (r .taken) input))
-
--- output is as long as it was, and as it was past the n bytes written
-pub record KeptPast (n : ℕ) (out out′ : List ℕ) : Type 0 where
-  pub long : length out′ ≡ length out
-  pub past : drop n out′ ≡ drop n out
 
 -- a piece of the input
 pub record Fed (p : Progress) (line line′ m m′ input out′ : List ℕ) (r : Pass) : Type 0 where

@@ -26,7 +26,8 @@ use Rattle.records.specs.declared.Pass.{Pass}
 use Rattle.replay.specs.declared.Ended.{Ended}
 use Rattle.records.specs.Standing.{Standing, opening, closed, working, afterLine, printedLine, after, printedBy, Stands, Kept}
 use Rattle.records.specs.Taking.{isFinal, takenOf, takenFrom}
-use Rattle.records.specs.Promises.{isOver, Held, GoesFrom, KeptPast, Fed}
+use Rattle.records.specs.Promises.{isOver, Held, GoesFrom, Fed}
+use Rattle.memory.specs.Contained.{Contained}
 use Rattle.answering.specs.Inner.{KeptMore}
 use Rattle.replay.specs.Inner.{movedTo, Grown, LineEnded, LineFed}
 use Rattle.records.proofs.Steps.{after-append, printed-append}
@@ -239,7 +240,7 @@ ends-there taken written input p w q o e = go (ltb taken (length input)) refl
 -- the piece was worked through
 pub fed : (p₀ : Progress) (line₀ m₀ input out₀ line m out : List ℕ) (p : Progress) (taken written : ℕ) → length out ≡ length out₀
     → Running p₀ line₀ m₀ input out₀ line m out p taken written → ltb taken (length input) && (leb written 65458 && not (isOver p)) ≡ false
-    → Fed p₀ line₀ line m₀ m input out (record { progress = p; taken = taken; written = written }) × KeptPast written out₀ out
+    → Fed p₀ line₀ line m₀ m input out (record { progress = p; taken = taken; written = written }) × Contained written out₀ out
 fed p₀ line₀ m₀ input out₀ line m out p taken written n k e = (
   record {
     taken = k .within;
@@ -257,5 +258,5 @@ fed p₀ line₀ m₀ input out₀ line m out p taken written n k e = (
           stands = rw (← a, ← b) (x .held);
         };
   },
-  record { long = n; past = k .rest .past },
+  record { same = n; past = k .rest .past },
 )

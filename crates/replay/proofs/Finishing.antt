@@ -7,7 +7,8 @@ use Rattle.records.specs.declared.Progress.{Progress}
 use Rattle.replay.specs.declared.Ended.{Ended}
 use Rattle.records.specs.Records.{summary}
 use Rattle.records.specs.Standing.{Standing, opening, closed, working, printedLine, lastOf, Stands, Kept}
-use Rattle.records.specs.Promises.{KeptPast, Finished}
+use Rattle.records.specs.Promises.{Finished}
+use Rattle.memory.specs.Contained.{Contained}
 use Rattle.replay.specs.Inner.{LineEnded, InputEnded}
 use Rattle.replay.proofs.Ending.{grown-none, grown-put, grown-more}
 
@@ -53,8 +54,8 @@ line-left p line m m′ out out′ r e f = record {
 -- and the sums
 pub finished : (p : Progress) (line m out₀ out out′ : List ℕ) (r : Ended) (next : ℕ) → length out′ ≡ length out₀ → InputEnded p line m out₀ out r
     → Put out out′ (r .at) next (lastLine (r .progress .lines) (r .progress .accepted) (r .progress .refused) (r .progress .known))
-    → Finished p line m out′ next × KeptPast next out₀ out′
+    → Finished p line m out′ next × Contained next out₀ out′
 finished p line m out₀ out out′ r next n i put = (
   record { room = put .within; prints = λ w q h. put .bytes ∙ sym (i .prints w q h) },
-  record { long = n; past = grown-more out₀ out out′ (i .rest) (grown-put put) .past },
+  record { same = n; past = grown-more out₀ out out′ (i .rest) (grown-put put) .past },
 )

@@ -1,7 +1,8 @@
 // Working through a capture (document 02, No. 4): the receiver's calls that its lines name, and what is printed of them. The input comes in pieces of any
 // size, and no more is kept of it than a line.
 ghost use Rattle.words.specs.Words.{_≡_, _≤_, _+_, length, cond, ltb, leb, eqb, _&&_, not};
-ghost use Rattle.records.specs.Promises.{isOver, Begun, Fed, KeptPast, Finished};
+ghost use Rattle.records.specs.Promises.{isOver, Begun, Fed, Finished};
+ghost use Rattle.memory.specs.Contained.{Contained};
 ghost use Rattle.replay.specs.Inner.{Lent, Counted, movedTo, FirstEnded, PacketEnded, LineEnded, LineFed, InputEnded};
 use records::Pass;
 use records::Progress;
@@ -209,7 +210,7 @@ fn feed_lines(
 ) -> Pass
     requires { ⌜ Lent (now line) (now mem) (now work) (now packet) × (length (now out) ≡ 65536) ⌝ }
     ensures { λ r. ⌜ Fed progress (now (line .entry)) (now (line .exit)) (now (mem .entry)) (now (mem .exit)) (now (input .entry)) (now (out .exit)) r
-        × KeptPast (r .written) (now (out .entry)) (now (out .exit)) ⌝ }
+        × Contained (r .written) (now (out .entry)) (now (out .exit)) ⌝ }
 {
     let mut p = progress;
     let mut taken = 0;
@@ -240,7 +241,7 @@ pub fn feed(
     out: &mut [u8; 65536],
 ) -> Pass
     ensures { λ r. ⌜ Fed progress (now (line .entry)) (now (line .exit)) (now (mem .entry)) (now (mem .exit)) (now (input .entry)) (now (out .exit)) r
-        × KeptPast (r .written) (now (out .entry)) (now (out .exit)) ⌝ }
+        × Contained (r .written) (now (out .entry)) (now (out .exit)) ⌝ }
 {
     feed_lines(progress, line, mem, work, packet, input, out)
 }
@@ -274,7 +275,7 @@ pub fn finish(
     out: &mut [u8; 256],
 ) -> usize
     ensures { λ r. ⌜ Finished progress (now (line .entry)) (now (mem .entry)) (now (out .exit)) r
-        × KeptPast r (now (out .entry)) (now (out .exit)) ⌝ }
+        × Contained r (now (out .entry)) (now (out .exit)) ⌝ }
 {
     let ended = end_unended(progress, line, mem, work, packet, out);
     let p = ended.progress;
