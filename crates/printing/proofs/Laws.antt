@@ -2,8 +2,8 @@
 use Rattle.words.specs.Words.{_≡_, arith, ℕ, _≤_, _+_, List, length, _<_, refl, _∙_, sym, ap, _-_, [], _∷_, _++_, _^_, drop, take, add-one, length-append, set}
 use Rattle.words.specs.Words.{append-assoc, length-set, length-take, take-at, drop-drop}
 use lib.Seq.{take-suc-set, drop-set-lt}
-use Rattle.memory.specs.Part.{splice}
-use Rattle.memory.proofs.Parts.{length-splice, past-splice}
+use Rattle.memory.specs.Part.{part, splice}
+use Rattle.memory.proofs.Parts.{length-splice, past-splice, whole}
 use Rattle.text.specs.Text.{decimal}
 use Rattle.printing.specs.Printed.{recordLine}
 use Rattle.printing.specs.Inner.{Put}
@@ -35,6 +35,10 @@ put-splice at x m h = record {
   within = rw (length-splice at x m h) h;
   past = past-splice (at + length x) at x m (omega arith) (omega arith);
 }
+
+-- a text that is copied
+pub put-copy : (at : ℕ) (x m m′ : List ℕ) → m′ ≡ splice at (part 0 (length x) x) m → at + length x ≤ length m → Put m m′ at (at + length x) x
+put-copy at x m m′ e h = rw (e, whole (length x) x refl) (put-splice at x m h)
 
 -- a byte that is stored
 pub put-byte : (at v : ℕ) (m : List ℕ) → at < length m → Put m (set m at v) at (at + 1) (v ∷ [])
