@@ -25,6 +25,7 @@ takenOf w q n (b ∷ x) =
     let goes-on = takenOf w (q ++ (b ∷ [])) n x in
     1 + cond (eqb b 10) ended goes-on
 
+-- the bytes of x that are taken after n bytes were written: none where no line is taken
 abbrev pub takenFrom : Standing → (q : List ℕ) → (n : ℕ) → (x : List ℕ) → ℕ
 takenFrom w q n x = cond (takesLine w n) (takenOf w q n x) 0
 
