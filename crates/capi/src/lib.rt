@@ -1,11 +1,11 @@
 // The calls of sender and receiver, and that for the window, under C names (include/rlc8681.h): each takes numbers and slices, that one a number to
 // write, and answers one signed number. What a function promises is the promise of the call that it wraps, of the answer that its number codes.
-ghost use Rattle.words.specs.Words.{_≡_, _+_, _*_};
+ghost use Rattle.words.specs.Words.{_≡_};
 ghost use Rattle.latency.specs.Promises.{WindowAnswered};
 ghost use Rattle.sender.specs.Promises.{Opens, Adds, RepairMade};
 ghost use Rattle.history.specs.History.{source-call, repair-call};
 ghost use Rattle.wire.specs.Answers.{said};
-ghost use Rattle.wire.specs.Opening.{SizeAnswered};
+ghost use Rattle.wire.specs.Opening.{SizeAnswered, senderMemory, receiverMemory, workingMemory};
 ghost use Rattle.receiver.specs.Promises.{Opened, PacketAnswered, SymbolAnswered, PlaceAnswered, AduAnswered, handedSaid};
 ghost use Rattle.receiver.specs.Layout.{receiverLayout};
 ghost use Rattle.coding.specs.Coding.{packetSaid, repairSaid, windowSaid, remainderAfter, Codes};
@@ -14,21 +14,21 @@ use wire::RepairKey;
 
 #[no_mangle]
 pub extern "C" fn rlc_sender_memory(size: u32, width: u32) -> i64
-    ensures { λ r. ⌜ Codes said (SizeAnswered (32 + width * size) size width) r ⌝ }
+    ensures { λ r. ⌜ Codes said (SizeAnswered (senderMemory size width) size width) r ⌝ }
 {
     coding::coded_answer(sender::memory_size(size as usize, width as usize))
 }
 
 #[no_mangle]
 pub extern "C" fn rlc_receiver_memory(size: u32, width: u32) -> i64
-    ensures { λ r. ⌜ Codes said (SizeAnswered (64 + width * (width + size + 4)) size width) r ⌝ }
+    ensures { λ r. ⌜ Codes said (SizeAnswered (receiverMemory size width) size width) r ⌝ }
 {
     coding::coded_answer(receiver::memory_size(size as usize, width as usize))
 }
 
 #[no_mangle]
 pub extern "C" fn rlc_working_memory(size: u32, width: u32) -> i64
-    ensures { λ r. ⌜ Codes said (SizeAnswered (64 + (width + 1) * (width + size + 4)) size width) r ⌝ }
+    ensures { λ r. ⌜ Codes said (SizeAnswered (workingMemory size width) size width) r ⌝ }
 {
     coding::coded_answer(receiver::working_size(size as usize, width as usize))
 }

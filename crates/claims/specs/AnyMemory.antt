@@ -1,7 +1,7 @@
 -- What holds of memory (demand 1): on any memory, one that no call has left too, what each call of either end leaves as it was and where what it shows lies; on
 -- memory that an end has opened, that calls keep to their sizes; and what refusal 3 names. By the promises alone: m, out and v are memory, output and working
 -- memory, m′, out′ and v′ these afterwards; a is the answer. The calls that show change no memory.
-use Rattle.words.specs.Words.{_≡_, ℕ, _≤_, _+_, List, length, _<_, [], _*_, take, _≢_, _⊎_, now, RefT}
+use Rattle.words.specs.Words.{_≡_, ℕ, _≤_, _+_, List, length, _<_, [], take, _≢_, _⊎_, now, RefT}
 use Rattle.memory.specs.Part.{LiesAt}
 use Rattle.memory.specs.Contained.{Contained}
 use Rattle.wire.specs.declared.Setting.{Setting}
@@ -10,6 +10,7 @@ use Rattle.wire.specs.declared.Answer.{Answer}
 use Rattle.wire.specs.Settings.{Valid}
 use Rattle.wire.specs.Packets.{zeros}
 use Rattle.wire.specs.Answers.{Said, value, refusal, said}
+use Rattle.wire.specs.Opening.{senderMemory, receiverMemory, workingMemory}
 use Rattle.sender.specs.declared.RepairAnswer.{RepairAnswer}
 use Rattle.sender.specs.declared.RepairAnswer.the-variants.{Made}
 use Rattle.sender.specs.Promises.{Adds, RepairMade}
@@ -30,18 +31,18 @@ use Rattle.sender.specs.Answers as sender
 -- A memory of n bytes is long enough for a sender, or a receiver, of a setting within its values.
 pub record SenderFits (s : Setting) (n : ℕ) : Type 0 where
   pub values : Valid s
-  pub room : 32 + s .width * s .size ≤ n
+  pub room : senderMemory (s .size) (s .width) ≤ n
 
 pub record ReceiverFits (s : Setting) (n : ℕ) : Type 0 where
   pub values : Valid s
-  pub room : 64 + s .width * (s .width + s .size + 4) ≤ n
+  pub room : receiverMemory (s .size) (s .width) ≤ n
 
 -- A call of a sender. A refusal leaves memory and output; else output past the n bytes written, for which it has room, and memory past the size of
 -- some sender that it is long enough for are as they were.
 pub record SenderKeeps (a : Said) (m out m′ out′ : List ℕ) : Type 0 where
   pub refused : (n : ℕ) → a ≡ refusal n → (m′ ≡ m) × (out′ ≡ out)
   pub output : (n : ℕ) → a ≡ value n → (n ≤ length out) × Contained n out out′
-  pub memory : (n : ℕ) → a ≡ value n → (s : Setting) × SenderFits s (length m) × Contained (32 + s .width * s .size) m m′
+  pub memory : (n : ℕ) → a ≡ value n → (s : Setting) × SenderFits s (length m) × Contained (senderMemory (s .size) (s .width)) m m′
 
 -- A packet call. A refusal leaves memory, and 3 working memory too; else both are as they were past the sizes of some receiver that memory is long
 -- enough for. Count and draws are small.
@@ -50,7 +51,7 @@ pub record PacketKeeps (a : PacketAnswer) (m v m′ v′ : List ℕ) : Type 0 wh
   pub unopened : said (answerOf a) ≡ refusal 3 → v′ ≡ v
   pub within : said (answerOf a) ≢ refusal 3
       → (s : Setting) × ReceiverFits s (length m)
-      × Contained (64 + s .width * (s .width + s .size + 4)) m m′ × Contained (64 + (s .width + 1) * (s .width + s .size + 4)) v v′
+      × Contained (receiverMemory (s .size) (s .width)) m m′ × Contained (workingMemory (s .size) (s .width)) v v′
   pub small : (n d : ℕ) → a ≡ Accepted n d → (n ≤ 65535) × (d ≤ 69360)
 
 -- The ADU call. A refusal leaves output; else output past the L bytes of the ADU, for which it has room, is as it was.
@@ -100,7 +101,7 @@ pub record OfReceiver (E width : ℕ) (m : List ℕ) : Type 0 where
 abbrev pub Within-sizes : Type 0
 Within-sizes =
     (E width : ℕ) (m : List ℕ) → OfReceiver E width m → (c : Call) (m′ v v′ : List ℕ) (a : PacketAnswer) → PacketAnswered receiverLayout c m m′ v v′ a
-    → Contained (64 + width * (width + E + 4)) m m′ × Contained (64 + (width + 1) * (width + E + 4)) v v′
+    → Contained (receiverMemory E width) m m′ × Contained (workingMemory E width) v v′
 
 -- ---- What refusal 3 names (document 01, "Why a call says no"); that a 3 changes nothing is in `Any-memory`
 
@@ -108,13 +109,13 @@ Within-sizes =
 pub data NoReceiver : List ℕ → Type 0 where
   all-zero : (n : ℕ) → NoReceiver (zeros n)
   of-sender : (t : Setting) (m : List ℕ) → OfSender t m → (n : ℕ) → NoReceiver (take n m)
-  short-receiver : (E width : ℕ) (m : List ℕ) → OfReceiver E width m → (n : ℕ) → n < 64 + width * (width + E + 4) → NoReceiver (take n m)
+  short-receiver : (E width : ℕ) (m : List ℕ) → OfReceiver E width m → (n : ℕ) → n < receiverMemory E width → NoReceiver (take n m)
 
 -- No sender's memory, with the ends exchanged.
 pub data NoSender : List ℕ → Type 0 where
   all-zeros : (n : ℕ) → NoSender (zeros n)
   of-receiver : (E width : ℕ) (m : List ℕ) → OfReceiver E width m → (n : ℕ) → NoSender (take n m)
-  short-sender : (t : Setting) (m : List ℕ) → OfSender t m → (n : ℕ) → n < 32 + t .width * t .size → NoSender (take n m)
+  short-sender : (t : Setting) (m : List ℕ) → OfSender t m → (n : ℕ) → n < senderMemory (t .size) (t .width) → NoSender (take n m)
 
 -- What a call of a receiver, or of a sender, may say on the memory m by its promise.
 pub data ReceiverSays (m : List ℕ) : Said → Type 0 where

@@ -4,6 +4,7 @@ use Rattle.words.specs.Words.{_≡_, ℕ, _≤_, _+_, List, length, _<_, _-_, _
 use Rattle.wire.specs.declared.Setting.{Setting}
 use Rattle.wire.specs.Settings.{Valid}
 use Rattle.wire.specs.Packets.{sourceSymbols, repairKey, densityThreshold, protectedCount, repairSymbols}
+use Rattle.wire.specs.Opening.{workingMemory}
 use Rattle.coefficients.specs.Coefficients.{keys, listsOf, allOk}
 use Rattle.history.specs.History.{Located, source, repair, Call, source-call, repair-call, esiOf, Reading, fails, located, reading}
 
@@ -16,7 +17,7 @@ module _ (s : Setting) where
 
   -- Working memory is lent whole (else 2).
   abbrev pub Lent : (room : ℕ) → Type 0
-  Lent room = 64 + (width + 1) * (width + E + 4) ≤ room
+  Lent room = workingMemory E width ≤ room
 
   -- A source packet has an ESI; a repair packet has a header of 8 bytes and 1 to 16 symbols (else 5).
   abbrev pub Formed : Call → Type 0

@@ -1,6 +1,6 @@
 -- The receiver as a plain history (document 01, "Receiver, as a plain history", and document 02, No. 2): what a packet says where it lies, which
 -- packets a list of calls has accepted, where that has brought the base, and what the next call has to answer. No memory and no elimination stands here.
-use Rattle.words.specs.Words.{_≡_, ℕ, _≤_, _+_, List, length, _<_, _-_, [], some, _%_, _∷_, suc, true, zero, none, _*_, false, Bool, Option, _^_, cond, ltb}
+use Rattle.words.specs.Words.{_≡_, ℕ, _≤_, _+_, List, length, _<_, _-_, [], some, _%_, _∷_, suc, true, zero, none, false, Bool, Option, _^_, cond, ltb}
 use Rattle.words.specs.Words.{leb, _↔_, _&&_, map, _⊎_, max}
 use Rattle.memory.specs.Number.{Bytes}
 use Rattle.wire.specs.declared.Setting.{Setting}
@@ -8,6 +8,7 @@ use Rattle.wire.specs.Numbers.{within, distanceOf}
 use Rattle.wire.specs.Answers.{Said, value, refusal}
 use Rattle.wire.specs.Packets.{longestAdu, symbolCount, sourceSymbols, sourceForm, sourceAdu, sourceEsi, repairForm, repairKey, densityThreshold}
 use Rattle.wire.specs.Packets.{protectedCount, firstEsi, repairSymbols}
+use Rattle.wire.specs.Opening.{receiverMemory, workingMemory}
 use Rattle.coefficients.specs.Coefficients.{keys, listsOf, allOk}
 use Rattle.rows.specs.Combination.{combination}
 use Rattle.starts.specs.Adu.{needs}
@@ -113,10 +114,10 @@ fromSide n (ahead d) next = check (leb (d + n) farthest) 9 (next d)
 
 -- The bytes that a receiver needs, and those of the working memory that a packet call borrows.
 abbrev pub memorySize : Setting → ℕ
-memorySize s = 64 + s .width * (s .width + s .size + 4)
+memorySize s = receiverMemory (s .size) (s .width)
 
 abbrev pub workingSize : Setting → ℕ
-workingSize s = 64 + (s .width + 1) * (s .width + s .size + 4)
+workingSize s = workingMemory (s .size) (s .width)
 
 module _ (s : Setting) where
   open Setting s using (scheme, size as E, width)

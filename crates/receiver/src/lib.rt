@@ -1,6 +1,5 @@
 // The receiver: its sizes, opening, the two packet calls, the calls that show a symbol, and the ADU call (RFC 8681, section 3.4; document 01).
-ghost use Rattle.words.specs.Words.{_+_, _*_};
-ghost use Rattle.wire.specs.Opening.{SizeAnswered};
+ghost use Rattle.wire.specs.Opening.{SizeAnswered, receiverMemory, workingMemory};
 ghost use Rattle.receiver.specs.Promises.{Opened, PacketAnswered, SymbolAnswered, PartShown, PlaceAnswered, AduAnswered};
 ghost use Rattle.history.specs.History.{source-call, repair-call};
 ghost use Rattle.receiver.specs.Layout.{receiverLayout};
@@ -30,7 +29,7 @@ pub enum PacketAnswer {
 
 // How many bytes of memory a receiver of symbols of `size` bytes with a window of `width` symbols needs.
 pub fn memory_size(size: usize, width: usize) -> Answer
-    ensures { λ r. ⌜ SizeAnswered (64 + width * (width + size + 4)) size width r ⌝ }
+    ensures { λ r. ⌜ SizeAnswered (receiverMemory size width) size width r ⌝ }
 {
     let Checked::Good(setting) = wire::setting_of(10, size, width) else {
         return Answer::Refused(Refusal::Values);
@@ -40,7 +39,7 @@ pub fn memory_size(size: usize, width: usize) -> Answer
 
 // How many bytes of working memory a packet call borrows.
 pub fn working_size(size: usize, width: usize) -> Answer
-    ensures { λ r. ⌜ SizeAnswered (64 + (width + 1) * (width + size + 4)) size width r ⌝ }
+    ensures { λ r. ⌜ SizeAnswered (workingMemory size width) size width r ⌝ }
 {
     let Checked::Good(setting) = wire::setting_of(10, size, width) else {
         return Answer::Refused(Refusal::Values);

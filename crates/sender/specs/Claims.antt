@@ -1,12 +1,12 @@
 -- All that is claimed of the sender's calls, from an opening on.
-use Rattle.words.specs.Words.{_≡_, ℕ, _≤_, _+_, List, length, _<_, [], _∷_, _*_, getD, _^_, map}
+use Rattle.words.specs.Words.{_≡_, ℕ, _≤_, List, length, _<_, [], _∷_, getD, _^_, map}
 use Rattle.memory.specs.Number.{Bytes}
 use Rattle.wire.specs.declared.Setting.{Setting}
 use Rattle.wire.specs.Settings.{schemeNumber}
 use Rattle.wire.specs.Answers.{Said, said}
 use Rattle.sender.specs.Promises.{answerOf, drawsIn}
 use Rattle.sender.specs.Run.{SenderCall, added, repaired, SenderRun, symbolsOf}
-use Rattle.wire.specs.Opening.{Allowed}
+use Rattle.wire.specs.Opening.{Allowed, senderMemory}
 use Rattle.sender.specs.Judged.{Opening-judged, Sender-judged, CallsJudged}
 
 -- what a call is given, with the output lent
@@ -42,7 +42,7 @@ OfBytes (repairing key dt count out ∷ gs) = (key < 2 ^ 16) × OfBytes gs
 -- from an opening on any memory that is long enough, every list of calls has a run
 abbrev pub Runs-exist : Type 0
 Runs-exist =
-    (t : Setting) → Allowed (schemeNumber (t .scheme)) (t .size) (t .width) → (m : List ℕ) → 32 + t .width * t .size ≤ length m
+    (t : Setting) → Allowed (schemeNumber (t .scheme)) (t .size) (t .width) → (m : List ℕ) → senderMemory (t .size) (t .width) ≤ length m
     → (gs : List Given) → OfBytes gs → (l : List SenderCall) × (r : SenderRun t l) × (r .before ≡ m) × (map given l ≡ gs)
 
 -- symbols of E bytes

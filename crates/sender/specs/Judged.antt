@@ -8,7 +8,7 @@ use Rattle.wire.specs.declared.Setting.{Setting}
 use Rattle.wire.specs.Settings.{schemeNumber}
 use Rattle.wire.specs.Packets.{sourcePacket, repairPacket}
 use Rattle.wire.specs.Answers.{Said, value, refusal, said}
-use Rattle.wire.specs.Opening.{OpeningJudged}
+use Rattle.wire.specs.Opening.{senderMemory, OpeningJudged}
 use Rattle.coefficients.specs.Coefficients.{keys, listsOf, allOk, drawsOf}
 use Rattle.rows.specs.Combination.{combination}
 use Rattle.sender.specs.Answers.{answerOf, drawsIn}
@@ -43,7 +43,7 @@ module _ (t : Setting) where
     pub long : ¬ Takeable adu → Refuses 4 a m m′ out out′
     pub short : Takeable adu → length out < length adu + 4 → Refuses 2 a m m′ out out′
     pub takes : Takeable adu → length adu + 4 ≤ length out
-        → Writes (sourcePacket adu (length taken % 2 ^ 32)) a out out′ × Contained (32 + width * E) m m′
+        → Writes (sourcePacket adu (length taken % 2 ^ 32)) a out out′ × Contained (senderMemory E width) m m′
 
   -- the key of a repair packet: 0 in scheme 9 with DT 15, else the call's; and the keys of its repair symbols, counting up from there
   abbrev pub keyIn : (key dt : ℕ) → ℕ
@@ -89,7 +89,7 @@ module _ (t : Setting) where
 abbrev pub Opening-judged : Type 0
 Opening-judged =
     (scheme E width : ℕ) (m : List ℕ) (r : Answer) (m′ : List ℕ) → Opens scheme E width m r m′
-    → OpeningJudged (32 + width * E) scheme E width m (said r) m′
+    → OpeningJudged (senderMemory E width) scheme E width m (said r) m′
 
 -- and every call of every list after an opening that answered 0 what `CallJudged` says
 abbrev pub Sender-judged : Type 0

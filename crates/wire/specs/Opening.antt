@@ -1,5 +1,5 @@
 -- What both ends answer to an opening, and to a call for a size of memory (document 01, "Words and sizes" and "Why a call says no").
-use Rattle.words.specs.Words.{_≡_, ℕ, _≤_, List, length, _<_, _⊎_}
+use Rattle.words.specs.Words.{_≡_, ℕ, _≤_, _+_, List, length, _<_, _*_, _⊎_}
 use Rattle.memory.specs.Contained.{Contained}
 use Rattle.wire.specs.declared.Answer.{Answer}
 use Rattle.wire.specs.Answers.{Said, value, refusal, said}
@@ -10,6 +10,16 @@ HaveValues E width = (4 ≤ E) × (E ≤ 1500) × (1 ≤ width) × (width ≤ 25
 
 abbrev pub Allowed : (scheme E width : ℕ) → Type 0
 Allowed scheme E width = ((scheme ≡ 9) ⊎ (scheme ≡ 10)) × HaveValues E width
+
+-- the bytes that a sender needs, those that a receiver needs, and those of the working memory that each of its packet calls borrows
+abbrev pub senderMemory : (E width : ℕ) → ℕ
+senderMemory E width = 32 + width * E
+
+abbrev pub receiverMemory : (E width : ℕ) → ℕ
+receiverMemory E width = 64 + width * (width + E + 4)
+
+abbrev pub workingMemory : (E width : ℕ) → ℕ
+workingMemory E width = 64 + (width + 1) * (width + E + 4)
 
 -- the answer of a call that is asked for a size of memory: so many bytes, or refusal 1 where E or width is outside its values
 pub record SizeAnswered (bytes E width : ℕ) (a : Answer) : Type 0 where
