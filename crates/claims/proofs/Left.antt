@@ -1,8 +1,9 @@
 -- Memory that an end has opened and only its calls have changed since has its header, with the setting of the opening.
-use Rattle.words.specs.Words.{_≡_, ℕ, _+_, List, length, _∙_, sym, ap, some, _*_, subst, ap₂}
+use Rattle.words.specs.Words.{_≡_, ℕ, List, length, _∙_, sym, ap, some, subst, ap₂}
 use Rattle.memory.specs.Contained.{Contained}
 use Rattle.wire.specs.declared.Setting.{Setting}
 use Rattle.wire.specs.Settings.{settingOf}
+use Rattle.wire.specs.Opening.{receiverMemory, workingMemory}
 use Rattle.wire.proofs.Settings.{setting-names}
 use Rattle.history.specs.History.{fresh}
 use Rattle.history.specs.Model.{State}
@@ -62,6 +63,6 @@ pub within-sizes : Within-sizes
 within-sizes E width m r c m′ v v′ a p =
     let h = receiver-has E width m r in
     let (k, j) = p .received .contained (h .header) (h .here) in (
-      subst (λ n. Contained n m m′) (ap₂ (λ (x y : ℕ). 64 + x * (x + y + 4)) (h .wide) (h .size)) k,
-      subst (λ n. Contained n v v′) (ap₂ (λ (x y : ℕ). 64 + (x + 1) * (x + y + 4)) (h .wide) (h .size)) j,
+      subst (λ n. Contained n m m′) (ap₂ receiverMemory (h .size) (h .wide)) k,
+      subst (λ n. Contained n v v′) (ap₂ workingMemory (h .size) (h .wide)) j,
     )

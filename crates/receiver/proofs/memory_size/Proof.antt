@@ -1,8 +1,9 @@
 -- `receiver::memory_size` meets its contract.
-use Rattle.words.specs.Words.{_+_, needs, _*_}
+use Rattle.words.specs.Words.{needs}
 use Rattle.wire.proofs.Settings.{size-valid, size-given, size-refused}
 use Rattle.receiver.proofs.memory_size.Statement.{statement}
 use Rattle.receiver.proofs.memory_size.Tie as tie
+use Rattle.wire.specs.Opening.{receiverMemory}
 
 returns : tie.Need-returns
 returns c = size-refused _ _ (c .before .before .setting-of .ensures) _ (c .enum-told .given .1)
@@ -14,7 +15,7 @@ returns-2 : tie.Need-returns-2
 returns-2 c =
     let p = c .before .before in
     let e = p .before .before .setting-of .ensures in
-    size-given _ _ e (λ size width. 64 + width * (width + size + 4)) _ (p .setting .given .1) _ (c .memory-size .ensures)
+    size-given _ _ e receiverMemory _ (p .setting .given .1) _ (c .memory-size .ensures)
 
 pub memory-size-spec : {M : Type 1} → statement M
 memory-size-spec =

@@ -1,8 +1,9 @@
 -- `receiver::working_size` meets its contract.
-use Rattle.words.specs.Words.{_+_, needs, _*_}
+use Rattle.words.specs.Words.{needs}
 use Rattle.wire.proofs.Settings.{size-valid, size-given, size-refused}
 use Rattle.receiver.proofs.working_size.Statement.{statement}
 use Rattle.receiver.proofs.working_size.Tie as tie
+use Rattle.wire.specs.Opening.{workingMemory}
 
 returns : tie.Need-returns
 returns c = size-refused _ _ (c .before .before .setting-of .ensures) _ (c .enum-told .given .1)
@@ -14,7 +15,7 @@ returns-2 : tie.Need-returns-2
 returns-2 c =
     let p = c .before .before in
     let e = p .before .before .setting-of .ensures in
-    size-given _ _ e (λ size width. 64 + (width + 1) * (width + size + 4)) _ (p .setting .given .1) _ (c .working-size .ensures)
+    size-given _ _ e workingMemory _ (p .setting .given .1) _ (c .working-size .ensures)
 
 pub working-size-spec : {M : Type 1} → statement M
 working-size-spec =

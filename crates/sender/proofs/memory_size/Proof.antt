@@ -1,9 +1,10 @@
 -- `sender::memory_size` meets its contract.
-use Rattle.words.specs.Words.{_+_, needs, _*_}
+use Rattle.words.specs.Words.{needs}
 use Rattle.wire.proofs.Settings.{size-valid, size-given, size-refused}
 use Rattle.sender.specs.State.{headerSize}
 use Rattle.sender.proofs.memory_size.Statement.{statement}
 use Rattle.sender.proofs.memory_size.Tie as tie
+use Rattle.wire.specs.Opening.{senderMemory}
 
 returns : tie.Need-returns
 returns c = size-refused _ _ (c .before .before .setting-of .ensures) _ (c .enum-told .given .1)
@@ -16,7 +17,7 @@ unfolding headerSize
 returns-2 c =
     let p = c .before .before in
     let e = p .before .before .setting-of .ensures in
-    size-given _ _ e (λ size width. 32 + width * size) _ (p .setting .given .1) _ (c .memory-size .ensures)
+    size-given _ _ e senderMemory _ (p .setting .given .1) _ (c .memory-size .ensures)
 
 pub memory-size-spec : {M : Type 1} → statement M
 memory-size-spec =
