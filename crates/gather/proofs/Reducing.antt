@@ -1,10 +1,12 @@
 -- A row of working memory reduced: by the state's rows that stay, all at once, and by the packet's rows before it, one after the other.
 -- A row that has been replaced: new-cell, new-line, part-row, bytes-addScaled.
 -- By the packet's rows: flag-lt, rows-apart, eliminated, packet-none, packet-more.
--- By the state's rows: zeros, length-lent, rows-added, state-none, state-some, state-only, no-coefficient, state-reduced.
+-- By the state's rows: zeros, length-lent, rows-added, state-none, state-some, state-empty, state-one, state-only, no-coefficient, state-reduced.
 use Rattle.words.specs.Words.{_≡_, arith, ℕ, _≤_, _+_, List, length, _<_, refl, _∙_, sym, ap, _-_, [], _%_, _∷_, suc, true, zero, getD, false, _++_, subst}
 use Rattle.words.specs.Words.{drop, _≢_, take, ap₂, mod-lt, decLt, add-one, bitXor, mod-add-mod, lit<, replicate, add-mod-right, xor-lt, length-take-le}
-use Rattle.words.specs.Words.{getD-take}
+use Rattle.words.specs.Words.{getD-take, set, ℕ-discrete, length-replicate, add-zero, mod-eq-of-lt}
+use lib.Seq.{getD-set-same, getD-set-other}
+use lib.Bits.{bitOr}
 use native.Mathlib.Decide.{decLe}
 use Rattle.field.specs.Gf256.{product}
 use Rattle.field.proofs.Laws.{product-lt}
@@ -31,6 +33,7 @@ use Rattle.table.proofs.Offsets.{flags-fit}
 use Rattle.gather.specs.Gather.{Only, Spans}
 use Rattle.gather.specs.GatherSteps.{if-used, multiplier, Zeros, Collected, StateReduced, Eliminated, PacketReduced, Staying}
 use Rattle.memory.proofs.Number.{bytes-part}
+use Rattle.gather.proofs.Collecting.{collected-none, collected-more}
 use Rattle.gather.proofs.Framing.{only-refl, only-trans, only-splice, only-row, row-room}
 
 -- ---- a row that has been replaced
@@ -149,10 +152,30 @@ module _ (w E k : ℕ) (work : List ℕ) where
 
 -- ---- by the state's rows
 
-combined-none : (row : ℕ → List ℕ) (n : ℕ) (d : List ℕ) → combined (coefficient []) row n d ≡ d
+-- Rows with no multiplier, and with one.
+combined-zeros : (cs : List ℕ) (row : ℕ → List ℕ) (n : ℕ) (d : List ℕ) → ((j : ℕ) → j < n → getD cs j 0 ≡ 0) → combined (coefficient cs) row n d ≡ d
 unfolding combined
-combined-none row zero d = refl
-combined-none row (suc n) d = addScaled-zero (combined (coefficient []) row n d) (row n) ∙ combined-none row n d
+combined-zeros cs row zero d z = refl
+combined-zeros cs row (suc n) d z =
+    ap (λ c. addScaled c (combined (coefficient cs) row n d) (row n)) (z n (omega arith))
+    ∙ addScaled-zero (combined (coefficient cs) row n d) (row n)
+    ∙ combined-zeros cs row n d (λ j h. z j (omega arith))
+
+combined-alone : (cs : List ℕ) (row : ℕ → List ℕ) (c n : ℕ) (d : List ℕ) → c < n → ((j : ℕ) → j < n → j ≢ c → getD cs j 0 ≡ 0)
+    → combined (coefficient cs) row n d ≡ addScaled (getD cs c 0) d (row c)
+unfolding combined
+combined-alone cs row c zero d h z = absurd (omega arith)
+combined-alone cs row c (suc n) d h z = go (ℕ-discrete n c) (λ l. combined-alone cs row c n d l (λ j g. z j (omega arith)))
+  where
+    go : Dec (n ≡ c) → (c < n → combined (coefficient cs) row n d ≡ addScaled (getD cs c 0) d (row c))
+        → addScaled (getD cs n 0) (combined (coefficient cs) row n d) (row n) ≡ addScaled (getD cs c 0) d (row c)
+    go (yes e) before =
+        ap (λ x. addScaled (getD cs n 0) x (row n)) (combined-zeros cs row n d (λ j g. z j (omega arith) (omega arith)))
+        ∙ ap (λ i. addScaled (getD cs i 0) d (row i)) e
+    go (no e) before =
+        ap (λ x. addScaled x (combined (coefficient cs) row n d) (row n)) (z n (omega arith) e)
+        ∙ addScaled-zero (combined (coefficient cs) row n d) (row n)
+        ∙ before (omega arith)
 
 -- Room for the multipliers.
 pub zeros : (n : ℕ) → Zeros (replicate n 0)
@@ -202,7 +225,8 @@ module _ (w E k first n at any : ℕ) (m work cs cs′ : List ℕ) (here : at �
     off = λ j h d. refl;
     sum =
         sym (splice-part (rowOffset w E k) (w + E) work (omega (arith, flags-fit w E, row-room w E k work g)))
-        ∙ ap (λ x. splice (rowOffset w E k) x work) (sym (combined-none (rowAt m headerSize (stride w E) (w + E)) w (part (rowOffset w E k) (w + E) work)));
+        ∙ ap (λ x. splice (rowOffset w E k) x work)
+        (sym (combined-zeros [] (rowAt m headerSize (stride w E) (w + E)) w (part (rowOffset w E k) (w + E) work) (λ j h. refl)));
   }
 
   pub state-some : (work′ : List ℕ)
@@ -217,6 +241,33 @@ module _ (w E k first n at any : ℕ) (m work cs cs′ : List ℕ) (here : at �
     off = λ j h d. getD-take w cs′ j 0 h ∙ f .off j d ∙ zeros j;
     sum = s;
   }
+
+-- No column, and one: the code adds the state's row from `from` on times `v`.
+pub state-empty : (w E k first : ℕ) (m work : List ℕ) → Works w E k work → StateReduced w E k first 0 m work work
+state-empty w E k first m work g =
+    state-none w E k first 0 (rowOffset w E k) 0 m work [] [] refl g (λ i. refl)
+    (collected-none w E first m (part (rowOffset w E k) w work) [] (λ i. lit< tt)) refl
+
+pub state-one : (w E k c v at from : ℕ) (m work work′ : List ℕ) → at ≡ rowOffset w E k → from ≡ rowOffset w E c → Works w E k work → c < w → v < 256
+    → v ≡ if-used (inUse w E (row w E c m)) (getD work (at + c) 0)
+    → work′ ≡ splice at (addScaled v (part at (w + E) work) (part from (w + E) m)) work → StateReduced w E k c 1 m work work′
+unfolding rowAt
+state-one w E k c v at from m work work′ here there g h byte q s =
+    let none : List ℕ = replicate w 0 in
+    let cs : List ℕ = set none c v in
+    let size : length none ≡ w = length-replicate w 0 in
+    let column : c ≡ (c + 0) % w = sym (ap (λ x. x % w) (add-zero c) ∙ mod-eq-of-lt h) in
+    let on : getD (take w cs) c 0 ≡ v = getD-take w cs c 0 h ∙ getD-set-same none c v 0 (omega arith) in
+    let off : (j : ℕ) → j < w → j ≢ c → getD (take w cs) j 0 ≡ 0 = (λ j l x. getD-take w cs j 0 l ∙ getD-set-other none c j v 0 x ∙ zeros w j) in
+    state-some w E k c 1 at (bitOr 0 v) m work none cs here g (zeros w)
+    (collected-more w E c m (part at w work) 0 0 c v none none (omega arith) (omega arith) byte column
+    (q ∙ ap (if-used (inUse w E (row w E c m))) (sym (getD-part at w c work h)))
+    (collected-none w E c m (part at w work) none (λ i. rw (zeros w i) (lit< tt)))) work′
+    (s
+    ∙ ap₂ (λ a b. splice a (addScaled v (part a (w + E) work) (part b (w + E) m)) work) here there
+    ∙ ap (λ x. splice (rowOffset w E k) (addScaled x (part (rowOffset w E k) (w + E) work) (part (rowOffset w E c) (w + E) m)) work) (sym on)
+    ∙ ap (λ x. splice (rowOffset w E k) x work)
+    (sym (combined-alone (take w cs) (rowAt m headerSize (stride w E) (w + E)) c w (part (rowOffset w E k) (w + E) work) h off)))
 
 -- The sum of the rows as lines.
 module _ (w E : ℕ) (m : List ℕ) (fits : Fits w E m) (bytes : Bytes m) where

@@ -102,9 +102,21 @@ fn add_rows(mem: &[u8], work: &mut [u8], multipliers: &[u8], shape: Shape, k: us
     );
 }
 
+// Reduces the row `k` of working memory by the state's row of the column `c`.
+fn reduce_column(mem: &[u8], work: &mut [u8], shape: Shape, k: usize, c: usize)
+    requires { ⌜ Fits (shape .width) (shape .size) (now mem) × Works (shape .width) (shape .size) k (now work) × (c < shape .width) ⌝ }
+    ensures { λ _. ⌜ StateReduced (shape .width) (shape .size) k c 1 (now (mem .entry)) (now (work .entry)) (now (work .exit)) ⌝ }
+{
+    let n = shape.width + shape.size;
+    let at = table::row_offset(shape, k);
+    let from = table::row_offset(shape, c);
+    let factor = multiplier(mem, shape, c, work[at + c]);
+    rows::add_part(work, at, mem, from, n, Gf256(factor));
+}
+
 // Reduces the row `k` of working memory by the state's rows of `n` of its columns, from `first` on. Since the state is reduced, the multipliers
 // are the coefficients that the row has before.
-fn reduce(mem: &[u8], work: &mut [u8], shape: Shape, k: usize, first: usize, n: usize)
+fn reduce_columns(mem: &[u8], work: &mut [u8], shape: Shape, k: usize, first: usize, n: usize)
     requires { ⌜ Fits (shape .width) (shape .size) (now mem) × Works (shape .width) (shape .size) k (now work)
         × (first < shape .width) × (n ≤ shape .width) ⌝ }
     ensures { λ _. ⌜ StateReduced (shape .width) (shape .size) k first n (now (mem .entry)) (now (work .entry)) (now (work .exit)) ⌝ }
@@ -117,6 +129,22 @@ fn reduce(mem: &[u8], work: &mut [u8], shape: Shape, k: usize, first: usize, n: 
         return;
     }
     add_rows(mem, work, &multipliers, shape, k);
+}
+
+// The same; no multipliers are laid out for one column, as a source packet of one symbol has.
+fn reduce(mem: &[u8], work: &mut [u8], shape: Shape, k: usize, first: usize, n: usize)
+    requires { ⌜ Fits (shape .width) (shape .size) (now mem) × Works (shape .width) (shape .size) k (now work)
+        × (first < shape .width) × (n ≤ shape .width) ⌝ }
+    ensures { λ _. ⌜ StateReduced (shape .width) (shape .size) k first n (now (mem .entry)) (now (work .entry)) (now (work .exit)) ⌝ }
+{
+    if n == 0 {
+        return;
+    }
+    if n == 1 {
+        reduce_column(mem, work, shape, k, first);
+        return;
+    }
+    reduce_columns(mem, work, shape, k, first, n);
 }
 
 // Eliminates the pivot of the row `j` of working memory from the row `k`.
