@@ -1,7 +1,8 @@
 -- The search for a pivot, row by row and in a row from a column on.
-use Rattle.words.specs.Words.{_≡_, arith, ℕ, _≤_, _+_, List, _<_, _∙_, sym, ap, _%_, getD, subst, _≢_, ℕ-discrete}
+use Rattle.words.specs.Words.{_≡_, arith, ℕ, _≤_, _+_, List, _<_, refl, _∙_, sym, ap, _%_, getD, subst, _≢_, mod-lt, ℕ-discrete}
 use Rattle.memory.proofs.Parts.{getD-part}
 use Rattle.table.specs.Window.{stride, rowOffset, row}
+use Rattle.table.specs.RowSteps.{Zero-from}
 use Rattle.table.proofs.Offsets.{flags-fit}
 use Rattle.gather.specs.GatherSteps.{Leading}
 
@@ -43,3 +44,11 @@ read-cell w E r at c m here h = ap (λ a. getD m (a + c) 0) here ∙ sym (getD-p
 -- The first coefficient.
 pub leading-here : (w first i c : ℕ) (l : List ℕ) → i < w → c ≡ (first + i) % w → getD l c 0 ≢ 0 → Blank w first i l → Leading w first i l
 leading-here w first i c l h e z f = record { within = omega arith; before = f; here = λ _ y. z (ap (λ k. getD l k 0) e ∙ y) }
+
+-- No coefficient at all.
+pub leading-none : (w E first r at : ℕ) (m : List ℕ) → at ≡ rowOffset w E r → 0 < w → Zero-from at (at + w) m → Leading w first w (row w E r m)
+leading-none w E first r at m here pos z =
+    blank-all w first w (row w E r m) refl
+    (λ j h.
+    let l = mod-lt (first + j) {m = w} pos in
+    sym (read-cell w E r at ((first + j) % w) m here l) ∙ z (at + (first + j) % w) (omega arith) (omega arith))

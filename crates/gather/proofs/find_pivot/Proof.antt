@@ -2,7 +2,7 @@
 use Rattle.words.specs.Words.{_≡_, arith, _≤_, _+_, needs, _<_, refl, _∙_, sym, ap, _-_, _%_, add-zero, mod-eq-of-lt}
 use Rattle.table.specs.Window.{row}
 use Rattle.gather.proofs.Collecting.{next-column}
-use Rattle.gather.proofs.Searching.{Blank, BlankRows, blank-none, blank-more, blank-all, rows-none, rows-more, read-cell, leading-here}
+use Rattle.gather.proofs.Searching.{Blank, BlankRows, blank-none, blank-more, blank-all, rows-none, rows-more, read-cell, leading-here, leading-none}
 use Rattle.gather.proofs.find_pivot.Statement.{statement}
 use Rattle.gather.proofs.find_pivot.Tie as tie
 
@@ -26,23 +26,25 @@ rows-holds c =
 
 loop-holds : tie.Need-loop-holds Inv-loop μ-loop Inv-rows μ-rows
 loop-holds c =
-    let a = c .before .before .before .before .args in (
+    let row-at = c .before .before in
+    let a = row-at .before .before .before .before .args in (
       search needs,
       refl,
       sym (ap (λ k. k % a .shape .width) (add-zero (a .first)) ∙ mod-eq-of-lt (omega arith)),
       search needs,
       blank-none (a .shape .width)
-          (a .first) (row (a .shape .width) (a .shape .size) (c .before .before .rows .r) (a .work .now)),
+          (a .first) (row (a .shape .width) (a .shape .size) (row-at .before .before .rows .r) (a .work .now)),
     )
 
 loop-again : tie.Need-loop-again Inv-loop μ-loop Inv-rows μ-rows
 loop-again c =
-    let a = c .before .before .before .before .before .before .before .before .before .args in
+    let row-at = c .before .before .before .before .before .before .before in
+    let a = row-at .before .before .before .before .args in
     let turn = c .before .before .before .before .loop in
-    let r = c .before .before .before .before .before .before .before .rows .r in
+    let r = row-at .before .before .rows .r in
     let zero = ap (λ k. lib.ListN.getD (row (a .shape .width) (a .shape .size) r (a .work .now)) k 0) (sym (turn .inv .2))
-    ∙ sym (read-cell (a .shape .width) (a .shape .size) r (c .before .before .before .before .before .row-offset .result) (turn .c) (a .work .now)
-    (c .before .before .before .before .before .row-offset .ensures .start) (turn .inv .3)) ∙ c .before .if2 .left in (
+    ∙ sym (read-cell (a .shape .width) (a .shape .size) r (row-at .row-offset .result) (turn .c) (a .work .now)
+    (row-at .row-offset .ensures .start) (turn .inv .3)) ∙ c .before .if3 .left in (
       search needs,
       refl,
       c .next .ensures .0 ∙ next-column (a .shape .width) (a .first) (turn .i) (turn .c) (turn .inv .2),
@@ -52,8 +54,22 @@ loop-again c =
 
 rows-again : tie.Need-rows-again Inv-loop μ-loop Inv-rows μ-rows
 rows-again c =
-    let a = c .before .before .before .before .before .before .args in
-    let outer = c .before .before .before .before .rows in
+    let row-at = c .before .before in
+    let a = row-at .before .before .before .before .args in
+    let outer = row-at .before .before .rows in (
+      search needs,
+      search needs,
+      refl,
+      rows-more (a .shape .width) (a .shape .size) (a .first) (a .from) (outer .r) (a .work .now) (outer .inv .3)
+          (leading-none (a .shape .width) (a .shape .size) (a .first) (outer .r) (row-at .row-offset .result) (a .work .now)
+          (row-at .row-offset .ensures .start) (omega arith) (c .before .or-all .ensures .0 (c .if2 .taken))),
+    )
+
+rows-again-2 : tie.Need-rows-again-2 Inv-loop μ-loop Inv-rows μ-rows
+rows-again-2 c =
+    let row-at = c .before .before .before .before in
+    let a = row-at .before .before .before .before .args in
+    let outer = row-at .before .before .rows in
     let inner = c .before .loop in (
       search needs,
       search needs,
@@ -70,8 +86,9 @@ returns c =
 
 returns-2 : tie.Need-returns-2 Inv-loop μ-loop Inv-rows μ-rows
 returns-2 c =
-    let a = c .before .before .before .before .before .before .before .before .args in
-    let outer = c .before .before .before .before .before .before .rows in
+    let row-at = c .before .before .before .before .before .before in
+    let a = row-at .before .before .before .before .args in
+    let outer = row-at .before .before .rows in
     let turn = c .before .before .before .loop in
     let l = row (a .shape .width) (a .shape .size) (outer .r) (a .work .now) in (
       turn .i,
@@ -81,8 +98,8 @@ returns-2 c =
       omega arith,
       outer .inv .3,
       leading-here (a .shape .width) (a .first) (turn .i) (turn .c) l (omega arith) (turn .inv .2)
-          (λ z. c .if2 .taken (read-cell (a .shape .width) (a .shape .size) (outer .r) (c .before .before .before .before .row-offset .result) (turn .c)
-          (a .work .now) (c .before .before .before .before .row-offset .ensures .start) (turn .inv .3) ∙ z)) (turn .inv .4),
+          (λ z. c .if3 .taken (read-cell (a .shape .width) (a .shape .size) (outer .r) (row-at .row-offset .result) (turn .c)
+          (a .work .now) (row-at .row-offset .ensures .start) (turn .inv .3) ∙ z)) (turn .inv .4),
     )
 
 pub find-pivot-spec : {M : Type 1} → statement M
@@ -95,6 +112,11 @@ find-pivot-spec =
     μ-rows
     rows-holds
     (λ c κs. search needs)
+    (λ c. search needs)
+    (λ c κs. search needs)
+    (λ c. search needs)
+    (λ c. search needs)
+    rows-again
     loop-holds
     (λ c. search needs)
     (λ c. search needs)
@@ -104,6 +126,6 @@ find-pivot-spec =
     loop-again
     (λ c. search needs)
     (λ c. search needs)
-    rows-again
+    rows-again-2
     returns
     returns-2)
