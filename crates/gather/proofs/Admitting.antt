@@ -1,17 +1,17 @@
 -- A reduced equation settled, and what that says of the packet's equations.
--- A row divided by its coefficient in a column: normalised.
+-- A row divided by its coefficient in a column: divided-one, normalised.
 -- What becomes of a reduced equation: settled-kept, settled-implied, settled-contradiction.
 -- The packet's rows: gathered-same, gathered-only, gathered-none. The whole call: admitted.
 use Rattle.words.specs.Words.{_≡_, arith, ℕ, _≤_, _+_, List, length, _<_, refl, _∙_, sym, ap, _-_, [], some, _%_, _∷_, getD, _++_, subst, _≢_, mod-lt}
-use Rattle.words.specs.Words.{ℕ-discrete, decLt, add-one, mod-add-mod, set, add-mod-right}
+use Rattle.words.specs.Words.{ℕ-discrete, decLt, add-one, mod-add-mod, set, add-mod-right, lit<}
 use Rattle.field.specs.Gf256.{product}
 use Rattle.field.specs.Powers.{inverse}
-use Rattle.field.proofs.Laws.{inverse-lt}
+use Rattle.field.proofs.Laws.{inverse-lt, inverse-is, product-one}
 use Rattle.memory.specs.Part.{part, splice}
 use Rattle.memory.specs.Number.{Bytes}
-use Rattle.memory.proofs.Parts.{length-part, length-splice, getD-part, getD-before, getD-within}
+use Rattle.memory.proofs.Parts.{length-part, length-splice, getD-part, getD-before, getD-within, splice-part}
 use Rattle.rows.specs.Rows.{scaled}
-use Rattle.rows.proofs.Sums.{length-scaled, getD-scaled}
+use Rattle.rows.proofs.Sums.{length-scaled, getD-scaled, scaled-one}
 use Rattle.decoder.specs.Field.{Laws}
 use Rattle.decoder.specs.Bytes.{byte, Coded}
 use Rattle.decoder.specs.Model.{Row, State, Rref, scale, lead, symbol, reduce}
@@ -30,7 +30,7 @@ use Rattle.table.specs.Window.{stride, rowOffset, row, line, equation, Window, 
 use Rattle.table.specs.Packet.{Works, spelled, PivotMarked, Gathered}
 use Rattle.table.specs.RowSteps.{Zero-from}
 use Rattle.gather.specs.Gather.{Only, Spans, Agrees, Admitted}
-use Rattle.gather.specs.GatherSteps.{Leading, Normalised, Outcome, Concluded, StateReduced, PacketReduced, Staying}
+use Rattle.gather.specs.GatherSteps.{Leading, Divided, Normalised, Outcome, Concluded, StateReduced, PacketReduced, Staying}
 use Rattle.gather.specs.declared.Verdict.{Verdict}
 use Rattle.gather.specs.declared.Verdict.the-variants.{Kept, Implied, Contradiction}
 use Rattle.table.proofs.Rows.{set-splice}
@@ -44,9 +44,16 @@ use Rattle.gather.proofs.Front.{Front, reduce-front, read-front, front-
 
 -- ---- a row divided by its coefficient in a column
 
--- The code scales the row from `at` on, and stores the column as its flag.
+-- Nothing is to be done for one.
+pub divided-one : (at n k : ℕ) (m : List ℕ) → k ≡ 1 → at + n ≤ length m → Bytes m → Divided at n k m m
+divided-one at n k m e h bytes =
+    let one : inverse k ≡ 1 = ap inverse e ∙ inverse-is 1 1 (lit< tt) (product-one 1 (lit< tt)) in
+    sym (splice-part at n m h)
+    ∙ ap (λ x. splice at x m) (sym (ap (λ x. scaled x (part at n m)) one ∙ scaled-one (part at n m) (bytes-part at n m bytes)))
+
+-- The code divides the row from `at` on, and stores the column as its flag.
 module _ (w E k c at : ℕ) (m m₁ m′ : List ℕ) (g : Works w E k m) (h : c < w) (bytes : Bytes m) (here : at ≡ rowOffset w E k)
-    (p : m₁ ≡ splice at (scaled (inverse (getD m (at + c) 0)) (part at (w + E) m)) m) (q : m′ ≡ set m₁ (at + (w + E)) c) where
+    (p : Divided at (w + E) (getD m (at + c) 0) m m₁) (q : m′ ≡ set m₁ (at + (w + E)) c) where
   abbrev factor : ℕ
   factor = inverse (getD (row w E k m) c 0)
 

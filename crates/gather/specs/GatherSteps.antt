@@ -4,7 +4,7 @@ use Rattle.words.specs.Words.{_≡_, ℕ, _≤_, _+_, List, length, _<_, _%_, t
 use Rattle.field.specs.Powers.{inverse}
 use Rattle.memory.specs.Part.{part, splice}
 use Rattle.memory.specs.Number.{Bytes}
-use Rattle.rows.specs.Rows.{addScaled}
+use Rattle.rows.specs.Rows.{addScaled, scaled}
 use Rattle.rows.specs.Combination.{coefficient}
 use Rattle.rows.specs.Sums.{combined, rowAt}
 use Rattle.decoder.specs.Bytes.{byte, Coded}
@@ -77,6 +77,10 @@ Searched w E first from to (At r c) work =
     (i : ℕ) × (i < w) × (c ≡ (first + i) % w) × (from ≤ r) × (r < to) × ((k : ℕ) → from ≤ k → k < r → Leading w first w (row w E k work))
     × Leading w first i (row w E r work)
 Searched w E first from to Nothing work = (k : ℕ) → from ≤ k → k < to → Leading w first w (row w E k work)
+
+-- The `n` bytes from `at` on have been divided by `k`.
+abbrev pub Divided : (at n k : ℕ) (work work′ : List ℕ) → Type 0
+Divided at n k work work′ = work′ ≡ splice at (scaled (inverse k) (part at n work)) work
 
 -- The row `k` has been divided by its coefficient in the column `c`, and this is in its flag.
 pub record Normalised (w E k c : ℕ) (work work′ : List ℕ) : Type 0 where

@@ -5,7 +5,7 @@ ghost use Rattle.table.specs.Window.{row, inUse, Fits};
 ghost use Rattle.table.specs.Packet.{Works};
 ghost use Rattle.gather.specs.Gather.{LaidIn, Admitted};
 ghost use Rattle.gather.specs.GatherSteps.{if-used, Collected, RowsAdded, StateReduced, Eliminated, PacketReduced, Searched, Normalised, Concluded};
-ghost use Rattle.gather.specs.GatherSteps.{Staying};
+ghost use Rattle.gather.specs.GatherSteps.{Staying, Divided};
 use field::Gf256;
 use table::Shape;
 
@@ -203,6 +203,17 @@ fn find_pivot(work: &[u8], shape: Shape, first: usize, from: usize, to: usize) -
     }
 }
 
+// Divides the `n` bytes from `at` on by `k`. For one it looks up no inverse.
+fn divide(work: &mut [u8], at: usize, n: usize, k: u8)
+    requires { ⌜ at + n ≤ length (now work) ⌝ }
+    ensures { λ _. ⌜ Divided at n k (now (work .entry)) (now (work .exit)) ⌝ }
+{
+    if k == 1 {
+        return;
+    }
+    rows::scale_part(work, at, n, Gf256(k).inverse());
+}
+
 // Makes the coefficient of the row `k` in the column `c` one, and marks it as the row's pivot.
 fn normalise(work: &mut [u8], shape: Shape, k: usize, c: usize)
     requires { ⌜ Works (shape .width) (shape .size) k (now work) × (c < shape .width) ⌝ }
@@ -210,8 +221,8 @@ fn normalise(work: &mut [u8], shape: Shape, k: usize, c: usize)
 {
     let n = shape.width + shape.size;
     let at = table::row_offset(shape, k);
-    let factor = Gf256(work[at + c]).inverse();
-    rows::scale_part(work, at, n, factor);
+    let factor = work[at + c];
+    divide(work, at, n, factor);
     work[at + n] = c as u8;
 }
 

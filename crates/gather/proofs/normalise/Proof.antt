@@ -6,13 +6,12 @@ use Rattle.gather.proofs.normalise.Tie as tie
 
 returns : tie.Need-returns
 returns c =
-    let start = c .before .before .before .before .before .before .before .before .before in
+    let start = c .before .before .before .before .before .before .before .before in
     let a = start .args in
-    let at = c .before .before .before .before .before .before .row-offset in
-    let divided = c .before .before .scale-part in
+    let at = c .before .before .before .before .before .row-offset in
+    let divided = c .before .before .divide in
     normalised (a .shape .width) (a .shape .size) (a .k) (a .c) (at .result) (a .work .now) (divided .last .0) _ (start .pre .0) (omega arith)
-    (λ i. c .before .before .before .before .before .before .before .before .slice-known .given i .fits) (at .ensures .start)
-    (rw (c .before .before .before .before .inverse .ensures) at (divided .ensures)) refl
+    (λ i. c .before .before .before .before .before .before .before .slice-known .given i .fits) (at .ensures .start) (divided .ensures) refl
 
 pub normalise-spec : {M : Type 1} → statement M
 normalise-spec =
@@ -22,7 +21,6 @@ normalise-spec =
     (λ c κs. search needs)
     (λ c. search needs)
     (λ c. search needs)
-    (λ c κs. search needs)
     (λ c κs. search needs)
     (λ c. search needs)
     (λ c. search needs)
