@@ -171,7 +171,7 @@ fn reduce_within(work: &mut [u8], shape: Shape, k: usize)
 }
 
 // The first of the rows from `from` on and before `to` that has a coefficient, and the column of its first from the column `first` on. A row
-// whose coefficients or-ed are zero is not searched.
+// whose coefficients or-ed are zero is not searched; the first column is looked at before that.
 fn find_pivot(work: &[u8], shape: Shape, first: usize, from: usize, to: usize) -> Pivot
     requires { ⌜ Works (shape .width) (shape .size) 0 (now work) × (first < shape .width) × (from ≤ to) × (to ≤ shape .width) ⌝ }
     ensures { λ r. ⌜ Searched (shape .width) (shape .size) first from to r (now (work .entry)) ⌝ }
@@ -183,9 +183,11 @@ fn find_pivot(work: &[u8], shape: Shape, first: usize, from: usize, to: usize) -
             break Pivot::Nothing;
         }
         let at = table::row_offset(shape, r);
-        if table::or_all(work, at, at + w) == 0 {
-            r += 1;
-            continue;
+        if work[at + first] == 0 {
+            if table::or_all(work, at, at + w) == 0 {
+                r += 1;
+                continue;
+            }
         }
         let mut i: usize = 0;
         let mut c = first;

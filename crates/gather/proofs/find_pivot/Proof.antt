@@ -44,7 +44,7 @@ loop-again c =
     let r = row-at .before .before .rows .r in
     let zero = ap (λ k. lib.ListN.getD (row (a .shape .width) (a .shape .size) r (a .work .now)) k 0) (sym (turn .inv .2))
     ∙ sym (read-cell (a .shape .width) (a .shape .size) r (row-at .row-offset .result) (turn .c) (a .work .now)
-    (row-at .row-offset .ensures .start) (turn .inv .3)) ∙ c .before .if3 .left in (
+    (row-at .row-offset .ensures .start) (turn .inv .3)) ∙ c .before .if4 .left in (
       search needs,
       refl,
       c .next .ensures .0 ∙ next-column (a .shape .width) (a .first) (turn .i) (turn .c) (turn .inv .2),
@@ -54,7 +54,7 @@ loop-again c =
 
 rows-again : tie.Need-rows-again Inv-loop μ-loop Inv-rows μ-rows
 rows-again c =
-    let row-at = c .before .before in
+    let row-at = c .before .before .before .before in
     let a = row-at .before .before .before .before .args in
     let outer = row-at .before .before .rows in (
       search needs,
@@ -62,7 +62,7 @@ rows-again c =
       refl,
       rows-more (a .shape .width) (a .shape .size) (a .first) (a .from) (outer .r) (a .work .now) (outer .inv .3)
           (leading-none (a .shape .width) (a .shape .size) (a .first) (outer .r) (row-at .row-offset .result) (a .work .now)
-          (row-at .row-offset .ensures .start) (omega arith) (c .before .or-all .ensures .0 (c .if2 .taken))),
+          (row-at .row-offset .ensures .start) (omega arith) (c .before .or-all .ensures .0 (c .if3 .taken))),
     )
 
 rows-again-2 : tie.Need-rows-again-2 Inv-loop μ-loop Inv-rows μ-rows
@@ -98,7 +98,7 @@ returns-2 c =
       omega arith,
       outer .inv .3,
       leading-here (a .shape .width) (a .first) (turn .i) (turn .c) l (omega arith) (turn .inv .2)
-          (λ z. c .if3 .taken (read-cell (a .shape .width) (a .shape .size) (outer .r) (row-at .row-offset .result) (turn .c)
+          (λ z. c .if4 .taken (read-cell (a .shape .width) (a .shape .size) (outer .r) (row-at .row-offset .result) (turn .c)
           (a .work .now) (row-at .row-offset .ensures .start) (turn .inv .3) ∙ z)) (turn .inv .4),
     )
 
@@ -112,6 +112,8 @@ find-pivot-spec =
     μ-rows
     rows-holds
     (λ c κs. search needs)
+    (λ c. search needs)
+    (λ c. search needs)
     (λ c. search needs)
     (λ c κs. search needs)
     (λ c. search needs)
