@@ -1,6 +1,6 @@
 -- A product in GF(2^8) is the sum of the multiples of one factor that the binary digits of the other choose.
 use Rattle.words.specs.Words.{_≡_, arith, ℕ, _≤_, _+_, List, _<_, refl, _∙_, sym, ap, _-_, [], _%_, _∷_, suc, zero, _*_, _^_, ap₂, _/_, bitXor, zero-mul}
-use Rattle.words.specs.Words.{xor-zero-r, one-mul, xor-comm}
+use Rattle.words.specs.Words.{xor-zero-r, one-mul, xor-comm, decLt}
 use native.Mathlib.Nat.{pow-suc}
 use lib.Bits.{xor-shifted}
 use Rattle.field.specs.Gf256.{product, times, remainder}
@@ -68,3 +68,17 @@ twice-high x h l =
     let m : remainder 256 ≡ 29 = unfold remainder in refl in
     xor-comm y 29 ∙ ap₂ bitXor (sym m) (sym (remainder-id y (omega arith))) ∙ sym (remainder-xor 256 y)
     ∙ ap remainder (xor-shifted 1 8 y (omega arith) ∙ e ∙ sym (times-two x))
+
+-- without a case: what passes degree 7 comes back as 29
+pub twice : (x : ℕ) → x < 256 → bitXor (x % 128 * 2) (x / 128 % 2 * 29) ≡ product 2 x
+twice x h = go (decLt x 128)
+  where
+    go : Dec (x < 128) → bitXor (x % 128 * 2) (x / 128 % 2 * 29) ≡ product 2 x
+    go (yes l) =
+        let low : x % 128 ≡ x = omega arith in
+        let none : x / 128 % 2 ≡ 0 = omega arith in
+        rw (low, none, zero-mul) (xor-zero-r (x * 2) ∙ twice-low x l)
+    go (no l) =
+        let high : x % 128 ≡ x - 128 = omega arith in
+        let one : x / 128 % 2 ≡ 1 = omega arith in
+        rw (high, one, one-mul) (twice-high x (omega arith) h)
