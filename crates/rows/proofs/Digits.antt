@@ -1,20 +1,19 @@
 -- A combination of rows, digit by digit of the coefficients: the rows whose coefficients are odd, added to twice the combination that has
 -- the halves of the coefficients.
-use Rattle.words.specs.Words.{_≡_, arith, ℕ, _≤_, _+_, List, length, _<_, refl, _∙_, sym, ap, _%_, suc, zero, getD, _^_, ap₂, _/_, add-one, bitXor, ext-getD}
-use Rattle.words.specs.Words.{xor-comm}
+use Rattle.words.specs.Words.{_≡_, refl, _∙_, sym, ap, ap₂, arith, Bool, List, _%_, _*_, _+_, _/_, _<_, _^_, _≤_, add-one, bitXor, cond, eqb}
+use Rattle.words.specs.Words.{ext-getD, false, getD, length, mod-lt, suc, true, xor-comm, zero, ℕ}
 use native.Mathlib.Nat.{pow-suc, div-div-eq-div-mul, div-eq-of-lt, div-one}
-use Rattle.field.specs.Gf256.{product}
-use Rattle.field.specs.Powers.{power, inverse}
+use Rattle.field.proofs.Laws.{product-sum-right}
 use Rattle.field.proofs.Xor.{xor-assoc}
-use Rattle.field.proofs.Laws.{product-sum-right, product-inverse}
+use Rattle.field.specs.Gf256.{product}
 use Rattle.memory.specs.Number.{Bytes}
-use Rattle.rows.specs.Rows.{scaled}
 use Rattle.rows.specs.Combination.{dot, coefficient}
+use Rattle.rows.specs.Digits.{shifted, digit, is, pairIs, pairOf}
+use Rattle.rows.specs.Rows.{scaled}
 use Rattle.rows.specs.Sums.{combined}
-use Rattle.rows.specs.Digits.{shifted, digit}
-use Rattle.rows.proofs.Sums.{length-scaled, getD-scaled, addScaled-zero, scaled-scaled, scaled-one}
-use Rattle.rows.proofs.Dot.{dot-halves}
 use Rattle.rows.proofs.Combinations.{length-combined, getD-combined}
+use Rattle.rows.proofs.Dot.{dot-halves}
+use Rattle.rows.proofs.Sums.{length-scaled, getD-scaled, addScaled-zero}
 
 -- no row is added
 combined-none : (row : ℕ → List ℕ) (c : ℕ → ℕ) (n : ℕ) (d : List ℕ) → ((k : ℕ) → c k ≡ 0) → combined c row n d ≡ d
@@ -66,22 +65,54 @@ pub combined-end : (row : ℕ → List ℕ) (cs : List ℕ) (n : ℕ) (d : List 
 unfolding shifted
 combined-end row cs n d = ap (λ (f : ℕ → ℕ). combined f row n d) (λ i k. div-one (coefficient cs k) i)
 
--- ---- eight doublings, and back
+-- ---- pairs of digits
 
-pub scaled-next : (j : ℕ) (d : List ℕ) → scaled 2 (scaled (power j) d) ≡ scaled (power (j + 1)) d
-unfolding power
-scaled-next j d = rw add-one (scaled-scaled 2 (power j) d)
+-- none or one
+pub pair-bit : (cs : List ℕ) (e v k : ℕ) → pairIs cs e v k < 2
+unfolding pairIs
+pair-bit cs e v k = go (eqb (pairOf (coefficient cs k) e) v)
+  where
+    go : (b : Bool) → cond b 1 0 < 2
+    go true = omega arith
+    go false = omega arith
 
-pub scaled-start : (d : List ℕ) → Bytes d → scaled (power 0) d ≡ d
-unfolding power
-scaled-start d h = scaled-one d h
+-- 2 and 3 have the higher digit, 1 and 3 the lower
+higher-of : (x : ℕ) → x < 4 → bitXor (is x 2) (is x 3) ≡ x / 2
+higher-of zero h = refl
+higher-of (suc zero) h = refl
+higher-of (suc (suc zero)) h = refl
+higher-of (suc (suc (suc zero))) h = refl
+higher-of (suc (suc (suc (suc x)))) h = absurd (omega arith)
 
--- what was divided by 2^8 = 2 * 128 comes back
-pub scaled-back : (d : List ℕ) → Bytes d → scaled (power 8) (scaled (inverse (product 2 128)) d) ≡ d
-scaled-back d h =
-    let e : product 2 128 ≡ 29 = unfold product in refl in
-    let p : power 8 ≡ product 2 128 = unfold power product in refl in
-    scaled-scaled (power 8) (inverse (product 2 128)) d
-    ∙ ap (λ (k : ℕ). scaled k d)
-    (ap (λ (x : ℕ). product x (inverse (product 2 128))) p ∙ product-inverse (product 2 128) (omega arith) (omega arith))
-    ∙ scaled-one d h
+lower-of : (x : ℕ) → x < 4 → bitXor (is x 1) (is x 3) ≡ x % 2
+lower-of zero h = refl
+lower-of (suc zero) h = refl
+lower-of (suc (suc zero)) h = refl
+lower-of (suc (suc (suc zero))) h = refl
+lower-of (suc (suc (suc (suc x)))) h = absurd (omega arith)
+
+pub higher-digit : (cs : List ℕ) (p k : ℕ)
+    → bitXor (pairIs cs ((3 * p + 1) / 3 * 2) ((3 * p + 1) % 3 + 1) k) (pairIs cs ((3 * p + 2) / 3 * 2) ((3 * p + 2) % 3 + 1) k) ≡ digit cs (2 * p + 1) k
+unfolding pairIs digit
+higher-digit cs p k =
+    let a : (3 * p + 1) / 3 * 2 ≡ 2 * p = omega arith in
+    let b : (3 * p + 1) % 3 + 1 ≡ 2 = omega arith in
+    let c : (3 * p + 2) / 3 * 2 ≡ 2 * p = omega arith in
+    let d : (3 * p + 2) % 3 + 1 ≡ 3 = omega arith in
+    let q = coefficient cs k / 2 ^ (2 * p) in
+    let e : q % 4 / 2 ≡ q / 2 % 2 = omega arith in
+    let next : coefficient cs k / 2 ^ (2 * p + 1) ≡ q / 2 =
+    ap (λ (x : ℕ). coefficient cs k / 2 ^ x) (add-one (2 * p)) ∙ ap (λ (x : ℕ). coefficient cs k / x) (pow-suc 2 (2 * p)) ∙ sym (div-div-eq-div-mul (coefficient cs k) (2 ^ (2 * p)) 2) in
+    rw (a, b, c, d) (higher-of (q % 4) (mod-lt q (omega arith)) ∙ e ∙ ap (λ (x : ℕ). x % 2) (sym next))
+
+pub lower-digit : (cs : List ℕ) (p k : ℕ)
+    → bitXor (pairIs cs (3 * p / 3 * 2) (3 * p % 3 + 1) k) (pairIs cs ((3 * p + 2) / 3 * 2) ((3 * p + 2) % 3 + 1) k) ≡ digit cs (2 * p) k
+unfolding pairIs digit
+lower-digit cs p k =
+    let a : 3 * p / 3 * 2 ≡ 2 * p = omega arith in
+    let b : 3 * p % 3 + 1 ≡ 1 = omega arith in
+    let c : (3 * p + 2) / 3 * 2 ≡ 2 * p = omega arith in
+    let d : (3 * p + 2) % 3 + 1 ≡ 3 = omega arith in
+    let q = coefficient cs k / 2 ^ (2 * p) in
+    let e : q % 4 % 2 ≡ q % 2 = omega arith in
+    rw (a, b, c, d) (lower-of (q % 4) (mod-lt q (omega arith)) ∙ e)

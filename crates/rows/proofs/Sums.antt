@@ -1,12 +1,20 @@
 -- Laws of `addScaled` and `scaled`.
-use Rattle.words.specs.Words.{_≡_, ℕ, List, length, _<_, refl, _∙_, sym, ap, [], _∷_, suc, zero, getD, bitXor, not-suc-le-zero, le-of-suc-le-suc, replicate}
-use Rattle.words.specs.Words.{xor-zero-r}
+use Rattle.words.specs.Words.{_≡_, refl, _∙_, sym, ap, arith, List, [], _<_, _∷_, bitXor, drop, getD, le-of-suc-le-suc, length, not-suc-le-zero}
+use Rattle.words.specs.Words.{replicate, suc, take, xor-zero-r, zero, ℕ}
 use lib.ListN.{length-map}
+use Rattle.field.proofs.Laws.{product-zero, product-zero-right, product-one, product-assoc, product-sum-right}
+use Rattle.field.proofs.Xor.{xor-assoc}
 use Rattle.field.specs.Gf256.{product}
-use Rattle.field.proofs.Laws.{product-zero, product-zero-right, product-one, product-assoc}
-use Rattle.memory.specs.Number.{Bytes}
 use Rattle.memory.proofs.Parts.{cons-eq}
+use Rattle.memory.specs.Number.{Bytes}
+use Rattle.memory.specs.Part.{part}
 use Rattle.rows.specs.Rows.{addScaled, scaled}
+
+-- no partner, no change
+pub addScaled-none : (c : ℕ) (d : List ℕ) → addScaled c d [] ≡ d
+unfolding addScaled
+addScaled-none c [] = refl
+addScaled-none c (x ∷ d) = refl
 
 module _ (c : ℕ) where
   pub length-addScaled : (d s : List ℕ) → length (addScaled c d s) ≡ length d
@@ -33,6 +41,25 @@ module _ (c : ℕ) where
   getD-scaled (x ∷ row) zero h = refl
   getD-scaled (x ∷ row) (suc i) h = getD-scaled row i (le-of-suc-le-suc h)
 
+  -- pieces of a sum are the sums of the pieces
+  take-addScaled : (n : ℕ) (d s : List ℕ) → take n (addScaled c d s) ≡ addScaled c (take n d) (take n s)
+  unfolding addScaled
+  take-addScaled zero d s = refl
+  take-addScaled (suc n) [] s = refl
+  take-addScaled (suc n) (x ∷ d) [] = refl
+  take-addScaled (suc n) (x ∷ d) (y ∷ s) = cons-eq refl (take-addScaled n d s)
+
+  drop-addScaled : (n : ℕ) (d s : List ℕ) → drop n (addScaled c d s) ≡ addScaled c (drop n d) (drop n s)
+  unfolding addScaled
+  drop-addScaled zero d s = refl
+  drop-addScaled (suc n) [] s = refl
+  drop-addScaled (suc n) (x ∷ d) [] = sym (addScaled-none c (drop n d))
+  drop-addScaled (suc n) (x ∷ d) (y ∷ s) = drop-addScaled n d s
+
+  pub part-addScaled : (a n : ℕ) (d s : List ℕ) → part a n (addScaled c d s) ≡ addScaled c (part a n d) (part a n s)
+  unfolding part
+  part-addScaled a n d s = rw (drop-addScaled, take-addScaled)
+
 -- nothing is added
 pub addScaled-zero : (d s : List ℕ) → addScaled 0 d s ≡ d
 unfolding addScaled
@@ -40,11 +67,25 @@ addScaled-zero [] s = refl
 addScaled-zero (x ∷ d) [] = refl
 addScaled-zero (x ∷ d) (y ∷ s) = cons-eq (ap (bitXor x) (product-zero y) ∙ xor-zero-r x) (addScaled-zero d s)
 
--- a multiple of a multiple
-pub scaled-scaled : (a b : ℕ) (row : List ℕ) → scaled a (scaled b row) ≡ scaled (product a b) row
-unfolding scaled
-scaled-scaled a b [] = refl
-scaled-scaled a b (x ∷ row) = cons-eq (sym (product-assoc a b x)) (scaled-scaled a b row)
+-- zeros are added
+pub addScaled-zeros : (c : ℕ) (d : List ℕ) → addScaled c d (replicate (length d) 0) ≡ d
+unfolding addScaled
+addScaled-zeros c [] = refl
+addScaled-zeros c (x ∷ d) = cons-eq (ap (bitXor x) (product-zero-right c) ∙ xor-zero-r x) (addScaled-zeros c d)
+
+-- a sum, added
+pub addScaled-sum : (c : ℕ) → c < 256 → (d z s : List ℕ) → length d ≡ length z → addScaled 1 d (addScaled c z s) ≡ addScaled c (addScaled 1 d z) s
+unfolding addScaled
+addScaled-sum c h [] z s e = refl
+addScaled-sum c h (x ∷ d) [] s e = absurd (omega arith)
+addScaled-sum c h (x ∷ d) (y ∷ z) [] e = refl
+addScaled-sum c h (x ∷ d) (y ∷ z) (u ∷ s) e =
+    cons-eq
+    (ap (bitXor x)
+    (product-sum-right 1 y (product c u)
+    ∙ ap (bitXor (product 1 y)) (sym (product-assoc 1 c u) ∙ ap (λ (k : ℕ). product k u) (product-one c h)))
+    ∙ sym (xor-assoc x (product 1 y) (product c u)))
+    (addScaled-sum c h d z s (omega arith))
 
 pub scaled-one : (row : List ℕ) → Bytes row → scaled 1 row ≡ row
 unfolding scaled

@@ -1,5 +1,5 @@
 -- `rows::combination::add_row` meets its contract.
-use Rattle.words.specs.Words.{_≡_, arith, _+_, length, needs, sym, _*_}
+use Rattle.words.specs.Words.{_≡_, sym, length, arith, _+_, _*_, needs}
 use Rattle.rows.proofs.Sums.{addScaled-zero}
 use Rattle.memory.proofs.Parts.{cut}
 use Rattle.rows.specs.Sums.{rowAt}
@@ -15,7 +15,14 @@ returns c =
 returns-2 : tie.Need-returns-2
 unfolding rowAt
 returns-2 c =
-    let a = c .before .before .before .before .before .before .before .before .before .args in
+    let a = c .before .before .before .before .before .before .before .before .before .before .before .args in
+    let e : a .c .0 ≡ 1 = omega arith in
+    rw e (rw (cut (a .a + a .k * a .s) (length (a .dst .now)) (a .mem .now)) at (c .before .before .add .ensures))
+
+returns-3 : tie.Need-returns-3
+unfolding rowAt
+returns-3 c =
+    let a = c .before .before .before .before .before .before .before .before .before .before .before .args in
     rw (cut (a .a + a .k * a .s) (length (a .dst .now)) (a .mem .now)) at (c .before .before .add-scaled .ensures)
 
 pub add-row-spec : {M : Type 1} → statement M
@@ -31,4 +38,11 @@ add-row-spec =
     (λ c. search needs)
     (λ c κs. search needs)
     (λ c. search needs)
-    returns-2)
+    returns-2
+    (λ c. search needs)
+    (λ c. search needs)
+    (λ c. search needs)
+    (λ c. search needs)
+    (λ c κs. search needs)
+    (λ c. search needs)
+    returns-3)

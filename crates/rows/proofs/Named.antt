@@ -1,0 +1,237 @@
+-- Laws of rows that a list names.
+use Rattle.words.specs.Words.{_≡_, refl, _∙_, sym, ap, ap₂, arith, List, _%_, _*_, _++_, _+_, _-_, _/_, _<_, _≤_, add-one, add-zero, bitXor, ext-getD}
+use Rattle.words.specs.Words.{getD, length, length-replicate, replicate, set, suc, zero, zero-add, ℕ, ⊎-elim}
+use native.Mathlib.Nat.{eq-or-lt-of-le}
+use lib.ListN.{getD-replicate}
+use lib.Seq.{getD-set-same}
+use borrow.Author.Needs.{read-below}
+use Rattle.memory.proofs.Parts.{part-none, part-add, part-past, part-before, part-splice, splice-part, splice-next, length-part, length-splice, getD-part, whole}
+use Rattle.memory.specs.Number.{Bytes}
+use Rattle.memory.specs.Part.{part, splice}
+use Rattle.rows.specs.Combination.{coefficient}
+use Rattle.rows.specs.Digits.{shifted, digit, pairIs}
+use Rattle.rows.specs.Named.{added, Listed, listOf, Room, listAdded, pairsAdded, ListedPairs, pairAdded}
+use Rattle.rows.specs.Rows.{addScaled, scaled}
+use Rattle.rows.specs.Sums.{combined, rowAt, rowsAdded}
+use Rattle.rows.proofs.Combinations.{length-combined, part-combined, sum-onto, combined-both}
+use Rattle.rows.proofs.Digits.{combined-shifted, combined-start, combined-end, higher-digit, lower-digit, pair-bit}
+use Rattle.rows.proofs.Sums.{addScaled-zero, scaled-zeros, length-scaled}
+
+-- an element that is not among the first m changes nothing
+added-set : (row : ℕ → List ℕ) (l : List ℕ) (i x m : ℕ) (d : List ℕ) → m ≤ i → added row (set l i x) m d ≡ added row l m d
+unfolding added
+added-set row l i x zero d h = refl
+added-set row l i x (suc m) d h =
+    let e : getD (set l i x) m 0 ≡ getD l m 0 = read-below ℕ l i m x 0 (getD l m 0) (omega arith) refl in
+    rw (e, added-set row l i x m d (omega arith))
+
+-- nothing is listed
+pub listed-none : (c : ℕ → ℕ) (l : List ℕ) → Listed c 0 0 l
+unfolding added combined
+listed-none c l = record { few = omega arith; below = λ j h. absurd (omega arith); sums = λ row d. refl }
+
+-- one more row
+pub listed-turn : (c : ℕ → ℕ) (k n b : ℕ) (l : List ℕ) → Listed c k n l → c k ≡ b → b < 2 → n < length l → Listed c (k + 1) (n + b) (set l n k)
+unfolding added combined
+listed-turn c k n zero l h e t g =
+    record {
+      few = omega (arith, h .few);
+      below = λ j q.
+          let same : getD (set l n k) j 0 ≡ getD l j 0 = read-below ℕ l n j k 0 (getD l j 0) (omega arith) refl in
+          let old : getD l j 0 < k = h .below j (omega arith) in
+          omega (arith, same, old);
+      sums = λ row d.
+          rw (add-zero, add-one) (added-set row l n k n d (omega arith) ∙ h .sums row d ∙ sym (ap (λ (x : ℕ). addScaled x (combined c row k d) (row k)) e ∙ addScaled-zero (combined c row k d) (row k)));
+    }
+listed-turn c k n (suc zero) l h e t g =
+    record {
+      few = omega (arith, h .few);
+      below = λ j q.
+          ⊎-elim
+          (λ f. let same : getD (set l n k) j 0 ≡ k = ap (λ (x : ℕ). getD (set l n k) x 0) f ∙ getD-set-same l n k 0 g in omega (arith, same))
+          (λ f.
+          let same : getD (set l n k) j 0 ≡ getD l j 0 = read-below ℕ l n j k 0 (getD l j 0) f refl in
+          let old : getD l j 0 < k = h .below j f in
+          omega (arith, same, old))
+          (let le : j ≤ n = omega arith in eq-or-lt-of-le le);
+      sums = λ row d.
+          rw (add-one, add-one) (
+          ap (λ (x : ℕ). addScaled 1 (added row (set l n k) n d) (row x)) (getD-set-same l n k 0 g)
+          ∙ ap (λ (x : List ℕ). addScaled 1 x (row k)) (added-set row l n k n d (omega arith) ∙ h .sums row d)
+          ∙ sym (ap (λ (x : ℕ). addScaled x (combined c row k d) (row k)) e));
+    }
+listed-turn c k n (suc (suc b)) l h e t g = absurd (omega arith)
+
+-- one more row that the list names
+pub added-turn : (m : List ℕ) (a s w : ℕ) (l : List ℕ) (n : ℕ) (d₀ d r : List ℕ) → d ≡ added (rowAt m a s w) l n d₀
+    → r ≡ addScaled 1 d (part (a + getD l n 0 * s) w m) → r ≡ added (rowAt m a s w) l (n + 1) d₀
+unfolding added rowAt
+added-turn m a s w l n d₀ d r p e = rw (e, p, add-one)
+
+-- ---- strips
+
+-- the first `at` bytes are those of the result
+abbrev pub done : (r d : List ℕ) (at : ℕ) → List ℕ
+done r d at = splice 0 (part 0 at r) d
+
+pub done-none : (r d : List ℕ) → done r d 0 ≡ d
+done-none r d = ap (λ (x : List ℕ). splice 0 x d) (part-none 0 r ∙ sym (part-none 0 d)) ∙ splice-part 0 0 d (omega arith)
+
+-- a strip more
+pub done-more : (r d : List ℕ) (at w : ℕ) → at + w ≤ length r → splice at (part at w r) (done r d at) ≡ done r d (at + w)
+done-more r d at w h =
+    let l : length (part 0 at r) ≡ at = length-part 0 at r (omega arith) in
+    ap (λ (x : ℕ). splice x (part at w r) (done r d at)) (sym l) ∙ ap (λ (x : ℕ). splice x (part at w r) (done r d at)) (sym (zero-add (length (part 0 at r)))) ∙ splice-next 0 (part 0 at r) (part at w r) d (omega arith)
+    ∙ ap (λ (x : List ℕ). splice 0 x d) (ap (λ (x : ℕ). part 0 at r ++ part x w r) (sym (zero-add at)) ∙ sym (part-add 0 at w r))
+
+-- what comes after is as it was
+pub done-rest : (r d : List ℕ) (at w : ℕ) → at ≤ length r → part at w (done r d at) ≡ part at w d
+done-rest r d at w h =
+    let l : length (part 0 at r) ≡ at = length-part 0 at r (omega arith) in
+    part-past at w 0 (part 0 at r) d (omega arith) (omega arith)
+
+pub done-all : (r d : List ℕ) (n : ℕ) → length r ≡ n → length d ≡ n → done r d n ≡ r
+done-all r d n e f =
+    let l : length (splice 0 r d) ≡ n = length-splice 0 r d (omega arith) ∙ f in
+    ap (λ (x : List ℕ). splice 0 x d) (whole n r e) ∙ sym (whole n (splice 0 r d) l) ∙ ap (λ (x : ℕ). part 0 x (splice 0 r d)) (sym e) ∙ part-splice 0 r d (omega arith)
+
+-- ---- the lists of all pairs
+
+-- one more list
+pub listed-pair : (cs lists counts new : List ℕ) (t n : ℕ) → t < 12 → length lists ≡ 768 → length counts ≡ 12 → length new ≡ 64
+    → ((i : ℕ) → i < t → Listed (pairIs cs (i / 3 * 2) (i % 3 + 1)) (length cs) (getD counts i 0) (listOf lists i))
+    → Listed (pairIs cs (t / 3 * 2) (t % 3 + 1)) (length cs) n new
+    → (i : ℕ) → i < t + 1
+    → Listed (pairIs cs (i / 3 * 2) (i % 3 + 1)) (length cs) (getD (set counts t n) i 0) (listOf (splice (t * 64) new lists) i)
+listed-pair cs lists counts new t n lt ll lc ln old h i g =
+    ⊎-elim
+    (λ f.
+    let p : getD (set counts t n) i 0 ≡ n = ap (λ (x : ℕ). getD (set counts t n) x 0) f ∙ getD-set-same counts t n 0 (omega arith) in
+    let q : part (i * 64) 64 (splice (t * 64) new lists) ≡ new =
+    ap₂ (λ (x y : ℕ). part (x * 64) y (splice (t * 64) new lists)) f (sym ln) ∙ part-splice (t * 64) new lists (omega arith) in
+    rw (p, q, f) h)
+    (λ f.
+    let p : getD (set counts t n) i 0 ≡ getD counts i 0 = read-below ℕ counts t i n 0 (getD counts i 0) f refl in
+    let q : part (i * 64) 64 (splice (t * 64) new lists) ≡ part (i * 64) 64 lists =
+    part-before (i * 64) 64 (t * 64) new lists (omega arith) (omega arith) in
+    rw (p, q) (old i f))
+    (let le : i ≤ t = omega arith in eq-or-lt-of-le le)
+
+-- every row that is listed has room
+pub listed-room : (cs lists counts : List ℕ) (a s size : ℕ) → ListedPairs cs lists counts → length cs ≤ 64 → length lists ≡ 768 → length counts ≡ 12
+    → ((k : ℕ) → k < length cs → a + k * s + 64 ≤ size) → Room lists counts a s size
+listed-room cs lists counts a s size h l ll lc fits =
+    record {
+      all = ll;
+      twelve = lc;
+      few = λ t g. omega (arith, h t g .few);
+      fits = λ t j g q. fits (getD (listOf lists t) j 0) (h t g .below j q);
+    }
+
+-- a pair more is added
+pub pairs-turn : (row : ℕ → List ℕ) (lists counts : List ℕ) (j : ℕ) (d₀ d r : List ℕ) → d ≡ pairsAdded row lists counts j d₀
+    → r ≡ pairAdded row lists counts (3 - j) d → r ≡ pairsAdded row lists counts (j + 1) d₀
+unfolding pairsAdded
+pairs-turn row lists counts j d₀ d r p e = rw (e, p, add-one)
+
+-- from no row on, the lists of the pairs sum up to the combination
+module _ (row : ℕ → List ℕ) (cs lists counts : List ℕ) (long : (k : ℕ) → k < length cs → 64 ≤ length (row k))
+    (listed : ListedPairs cs lists counts) (bytes : Bytes cs) where
+  -- the rows of the list of one digit of pair p alone, added to those with both, are the rows with that digit
+  digit-added : (t u e : ℕ) → t < 12 → u < 12 → ((k : ℕ) → bitXor (pairIs cs (t / 3 * 2) (t % 3 + 1) k) (pairIs cs (u / 3 * 2) (u % 3 + 1) k) ≡ digit cs e k)
+      → (d : List ℕ) → length d ≡ 64
+      → listAdded row lists counts t (addScaled 1 d (listAdded row lists counts u (replicate 64 0))) ≡ combined (digit cs e) row (length cs) d
+  digit-added t u e ht hu same d l =
+      let n : ℕ = length cs in
+      let c : ℕ → ℕ = pairIs cs (u / 3 * 2) (u % 3 + 1) in
+      listed t ht .sums row (addScaled 1 d (listAdded row lists counts u (replicate 64 0)))
+      ∙ ap (combined (pairIs cs (t / 3 * 2) (t % 3 + 1)) row n)
+      (ap (addScaled 1 d) (listed u hu .sums row (replicate 64 0) ∙ ap (λ (x : ℕ). combined c row n (replicate x 0)) (sym l))
+      ∙ sum-onto c (λ k. omega (arith, pair-bit cs (u / 3 * 2) (u % 3 + 1) k)) row n d)
+      ∙ combined-both row 64 (pairIs cs (t / 3 * 2) (t % 3 + 1)) c (digit cs e) n long same d l
+
+  pair-shifted : (p : ℕ) → p < 4 → (d : List ℕ) → length d ≡ 64
+      → pairAdded row lists counts p (combined (shifted cs (2 * p + 2)) row (length cs) d)
+      ≡ combined (shifted cs (2 * p)) row (length cs) (scaled 2 (scaled 2 d))
+  unfolding pairAdded
+  pair-shifted p h d l =
+      let n : ℕ = length cs in
+      let y : List ℕ = combined (shifted cs (2 * p + 2)) row n d in
+      let ly : length y ≡ 64 = length-combined row (shifted cs (2 * p + 2)) n d ∙ l in
+      let ls : length (scaled 2 y) ≡ 64 = length-scaled 2 y ∙ ly in
+      let z : List ℕ = combined (digit cs (2 * p + 1)) row n (scaled 2 y) in
+      let lz : length z ≡ 64 = length-combined row (digit cs (2 * p + 1)) n (scaled 2 y) ∙ ls in
+      let both : List ℕ = listAdded row lists counts (3 * p + 2) (replicate 64 0) in
+      let upper : listAdded row lists counts (3 * p + 1) (addScaled 1 (scaled 2 y) both) ≡ z =
+      digit-added (3 * p + 1) (3 * p + 2) (2 * p + 1) (omega arith) (omega arith) (higher-digit cs p) (scaled 2 y) ls in
+      let two-more : 2 * p + 2 ≡ suc (suc (2 * p)) = omega arith in
+      let next : z ≡ combined (shifted cs (suc (2 * p))) row n (scaled 2 d) =
+      rw (add-one, two-more) (combined-shifted row 64 n long cs (suc (2 * p)) d l) in
+      ap (λ (x : List ℕ). listAdded row lists counts (3 * p) (addScaled 1 (scaled 2 x) both)) upper
+      ∙ digit-added (3 * p) (3 * p + 2) (2 * p) (omega arith) (omega arith) (lower-digit cs p) (scaled 2 z) (length-scaled 2 z ∙ lz)
+      ∙ ap (λ (x : List ℕ). combined (digit cs (2 * p)) row n (scaled 2 x)) next
+      ∙ combined-shifted row 64 n long cs (2 * p) (scaled 2 d) (length-scaled 2 d ∙ l)
+
+  pairs-shifted : (j : ℕ) → j ≤ 4
+      → pairsAdded row lists counts j (replicate 64 0) ≡ combined (shifted cs (8 - 2 * j)) row (length cs) (replicate 64 0)
+  unfolding pairsAdded
+  pairs-shifted zero g = sym (combined-start row cs (length cs) (replicate 64 0) bytes)
+  pairs-shifted (suc j) g =
+      let z : List ℕ = replicate 64 0 in
+      let n : ℕ = length cs in
+      let e : 8 - 2 * j ≡ 2 * (3 - j) + 2 = omega arith in
+      let f : 2 * (3 - j) ≡ 8 - 2 * suc j = omega arith in
+      ap (pairAdded row lists counts (3 - j)) (pairs-shifted j (omega arith) ∙ ap (λ (y : ℕ). combined (shifted cs y) row n z) e)
+      ∙ pair-shifted (3 - j) (omega arith) z (length-replicate {A = ℕ} 64 0)
+      ∙ ap (combined (shifted cs (2 * (3 - j))) row n) (ap (scaled 2) (scaled-zeros 2 64) ∙ scaled-zeros 2 64)
+      ∙ ap (λ (y : ℕ). combined (shifted cs y) row n z) f
+
+  pub pairs-sum : pairsAdded row lists counts 4 (replicate 64 0) ≡ combined (coefficient cs) row (length cs) (replicate 64 0)
+  pairs-sum = pairs-shifted 4 (omega arith) ∙ combined-end row cs (length cs) (replicate 64 0)
+
+part-zeros : (a n : ℕ) → part a n (replicate (a + n) 0) ≡ replicate n 0
+part-zeros a n =
+    let l : length (part a n (replicate (a + n) 0)) ≡ n = length-part a n (replicate (a + n) 0) (omega (arith, length-replicate {A = ℕ} (a + n) 0)) in
+    ext-getD 0 (part a n (replicate (a + n) 0)) (replicate n 0) (l ∙ sym (length-replicate n 0))
+    (λ i h.
+    let g : i < n = omega arith in
+    getD-part a n i (replicate (a + n) 0) g ∙ getD-replicate (a + n) (a + i) 0 0 (omega arith) ∙ sym (getD-replicate n i 0 0 g))
+
+-- a whole strip more
+pub strip-whole : (cs m : List ℕ) (a s : ℕ) (d x y : List ℕ) (at : ℕ) → at + 64 ≤ length d
+    → x ≡ done (rowsAdded cs m a s (length d) d) d at → y ≡ rowsAdded cs m (a + at) s 64 (part at 64 x)
+    → splice at y x ≡ done (rowsAdded cs m a s (length d) d) d (at + 64)
+strip-whole cs m a s d x y at h p e =
+    let n : ℕ = length cs in
+    let c : ℕ → ℕ = coefficient cs in
+    let r : List ℕ = rowsAdded cs m a s (length d) d in
+    let lr : length r ≡ length d = length-combined (rowAt m a s (length d)) c n d in
+    let old : part at 64 x ≡ part at 64 d = ap (part at 64) p ∙ done-rest r d at 64 (omega arith) in
+    let z : y ≡ part at 64 r =
+    e ∙ ap (combined c (rowAt m (a + at) s 64) n) old ∙ part-combined c m a s (length d) at 64 n d h in
+    rw (z, p) (done-more r d at 64 (omega arith))
+
+-- the last v bytes of a strip that starts at b
+pub strip-rest : (cs m : List ℕ) (a s : ℕ) (d x y : List ℕ) (at b v : ℕ) → Bytes cs → v ≤ 64 → b + (64 - v) ≡ a + at → at + v ≤ length d
+    → x ≡ done (rowsAdded cs m a s (length d) d) d at
+    → y ≡ addScaled 1 (part at v x) (part (64 - v) v (rowsAdded cs m b s 64 (replicate 64 0)))
+    → splice at y x ≡ done (rowsAdded cs m a s (length d) d) d (at + v)
+strip-rest cs m a s d x y at b v bytes few place h p e =
+    let n : ℕ = length cs in
+    let c : ℕ → ℕ = coefficient cs in
+    let r : List ℕ = rowsAdded cs m a s (length d) d in
+    let lr : length r ≡ length d = length-combined (rowAt m a s (length d)) c n d in
+    let skip : ℕ = 64 - v in
+    let all : 64 ≡ skip + v = omega arith in
+    let stretch = part-combined c m b s 64 skip v n (replicate 64 0) (omega arith) in
+    let old : part at v x ≡ part at v d = ap (part at v) p ∙ done-rest r d at v (omega arith) in
+    let lv : length (part at v d) ≡ v = length-part at v d h in
+    let z : y ≡ part at v r =
+    e
+    ∙ ap₂ (addScaled 1) old
+    (sym stretch
+    ∙ ap₂ (λ (i : ℕ) (l : List ℕ). combined c (rowAt m i s v) n l) place
+    (ap (λ (i : ℕ). part skip v (replicate i 0)) all ∙ part-zeros skip v ∙ ap (λ (i : ℕ). replicate i 0) (sym lv)))
+    ∙ sum-onto c bytes (rowAt m (a + at) s v) n (part at v d)
+    ∙ part-combined c m a s (length d) at v n d h in
+    rw (z, p) (done-more r d at v (omega arith))

@@ -1,0 +1,60 @@
+-- `rows::strips::prepare` meets its contract.
+use Rattle.words.specs.Words.{refl, subst, arith, _≤_, length, needs}
+use Rattle.rows.specs.Buckets.{weights, mostRows, Prepared}
+use Rattle.rows.proofs.Filling.{most-few, prepared-lists, prepared-buckets, prepared-sorted}
+use Rattle.rows.proofs.strips.prepare.Statement.{statement}
+use Rattle.rows.proofs.strips.prepare.Tie as tie
+
+list-pairs-requires : tie.Need-list-pairs-requires
+unfolding mostRows
+list-pairs-requires c κs =
+    let s = c .before .before .before .before .before .before .before .before .before in
+    (s .pre .0, s .pre .1, subst (λ w. length (s .args .cs .now) ≤ mostRows w) (c .before .before .enum-told .given .1) (s .pre .4))
+
+sort-requires : tie.Need-sort-requires
+sort-requires c κs =
+    let s = c .before .before .before .before .before .before .before .before .before .before .before .before .before .before .before .before .before .before in
+    (s .pre .2, s .pre .3, refl, omega (arith, s .pre .4, most-few (s .args .way)))
+
+returns : tie.Need-returns
+returns c =
+    let r = c .before .before .before .before .list-pairs .ensures in
+    rw (c .before .before .before .before .before .before .before .enum-told .given .1) (prepared-lists (r .0) (r .1))
+
+returns-2 : tie.Need-returns-2
+unfolding weights
+returns-2 c =
+    let r = c .before .before .before .before .list-pairs2 .ensures in
+    rw (c .before .before .before .before .before .before .before .before .enum-told2 .given .1) (prepared-buckets (r .0) (r .1))
+
+returns-3 : tie.Need-returns-3
+unfolding weights
+returns-3 c =
+    let r = c .before .before .before .before .before .before .before .before .before .before .before .before .before .list-pairs3 .ensures in
+    rw (c .before .before .before .before .before .before .before .before .before .before .before .before .before .before .before .before .before .enum-told3 .given .1) (prepared-sorted (r .0) (r .1) (c .before .before .before .before .before .sort .ensures))
+
+pub prepare-spec : {M : Type 1} → statement M
+prepare-spec =
+    tie.close
+    (tie.spec
+    (λ c. search needs)
+    list-pairs-requires
+    (λ c. search needs)
+    (λ c. search needs)
+    (λ c κs. search needs)
+    (λ c. search needs)
+    (λ c. search needs)
+    (λ c κs. search needs)
+    (λ c. search needs)
+    sort-requires
+    (λ c. search needs)
+    (λ c. search needs)
+    returns
+    (λ c. search needs)
+    (λ c. search needs)
+    returns-2
+    (λ c. search needs)
+    (λ c. search needs)
+    (λ c. search needs)
+    (λ c. search needs)
+    returns-3)
