@@ -2,38 +2,47 @@
 #include "library.h"
 #include "table.h"
 #include "isal.h"
+#include "limit.h"
+#define OPERATIONS 16
 
-// `count` rows of n bytes, one after the other, their coefficients, and what they are added to.
+// `count` rows of n bytes, one after the other; coefficients, those of a key `step` after those of the key before, and the rows that they meet; and
+// what the rows are added to.
 struct rows {
   const struct library *library;
-  size_t n, count;
-  u8 *bytes, *coefficients, *dst;
+  size_t n, count, step;
+  u8 *bytes, *coefficients;
+  struct met *met;
+  u8 *dst;
 };
 
-static void run_add(void *of) {
+static void run_add(void *of, size_t key) {
   struct rows *r = of;
-  for (size_t k = 0; k < r->count; k++) r->library->add_scaled(r->dst, r->n, r->bytes + k * r->n, r->n, r->coefficients[k]);
+  const u8 *c = r->coefficients + key * r->step;
+  for (size_t k = 0; k < r->count; k++) r->library->add_scaled(r->dst, r->n, r->bytes + k * r->n, r->n, c[k]);
 }
-static void run_tables(void *of) {
+static void run_tables(void *of, size_t key) {
   struct rows *r = of;
-  for (size_t k = 0; k < r->count; k++) r->library->add_by_tables(r->dst, r->n, r->bytes + k * r->n, r->n, r->coefficients[k]);
+  const u8 *c = r->coefficients + key * r->step;
+  for (size_t k = 0; k < r->count; k++) r->library->add_by_tables(r->dst, r->n, r->bytes + k * r->n, r->n, c[k]);
 }
-static void run_copies(void *of) {
+static void run_combine(void *of, size_t key) {
   struct rows *r = of;
-  for (size_t k = 0; k < r->count; k++) memcpy(r->dst, r->bytes + k * r->n, r->n);
+  r->library->combine(r->dst, r->n, r->coefficients + key * r->step, r->count, r->bytes, r->count * r->n);
 }
-static void run_combine(void *of) {
-  struct rows *r = of;
-  r->library->combine(r->dst, r->n, r->coefficients, r->count, r->bytes, r->count * r->n);
-}
-static void run_each(void *of) {
+static void run_each(void *of, size_t key) {
   struct rows *r = of;
   memset(r->dst, 0, r->n);
-  run_add(r);
+  run_add(r, key);
 }
-static void run_copy(void *of) {
+// The limit of a row operation: both rows are read, one is written; here one after the other of the rows, to which the same row is added.
+static void limit_operation(void *of, size_t key) {
   struct rows *r = of;
-  memcpy(r->dst, r->bytes, r->n);
+  for (size_t k = 0; k < r->count; k++) limit_add(r->bytes + k * r->n, r->dst, r->n);
+}
+// The limit of a sum: the rows whose coefficients are not 0 are read, and a row is written. Which rows these are is listed beforehand.
+static void limit_combine(void *of, size_t key) {
+  struct rows *r = of;
+  limit_sum(r->dst, r->n, r->bytes, r->n, r->met[key].rows, r->met[key].count);
 }
 
 static u8 *noise(size_t n) {
@@ -43,9 +52,11 @@ static u8 *noise(size_t n) {
 }
 
 // Rows with coefficients from `lowest` to `highest`.
-static struct rows some_rows(size_t n, size_t count, int lowest, int highest) {
-  struct rows r = {0, n, count, noise(n * count), room(count), 0};
-  for (size_t k = 0; k < count; k++) r.coefficients[k] = lowest + rand() % (highest - lowest + 1);
+static struct rows some_rows(size_t n, size_t count, size_t step, int lowest, int highest) {
+  size_t all = (KEYS - 1) * step + count;
+  struct rows r = {0, n, count, step, noise(n * count), room(all), (struct met *)room(KEYS * sizeof *r.met), 0};
+  for (size_t k = 0; k < all; k++) r.coefficients[k] = lowest + rand() % (highest - lowest + 1);
+  for (size_t key = 0; key < KEYS; key++) r.met[key] = met_by(r.coefficients + key * step, count);
   return r;
 }
 
@@ -55,37 +66,40 @@ static u8 **pointers(const struct rows *r) {
   return rows;
 }
 
-// A way of a library on the rows; memcpy's gives other bytes.
-static void add_way(struct line *l, int way, void (*run)(void *), const struct library *library, struct rows like) {
+// A way of a library on the rows; the limit's gives other bytes.
+static void add_way(struct line *l, int way, void (*run)(void *, size_t), const struct library *library, struct rows like) {
   struct rows *r = (struct rows *)room(sizeof *r);
   *r = like, r->library = library, r->dst = room(r->n);
   l->ways[way] = (struct way){run, r, 0, library ? r->dst : 0, r->n};
 }
 
+// With each key so many operations: with the key's coefficient, the next key's and so on. KEYS coefficients of scheme 10 are all different.
 static void fill_operation(struct table *t, struct setting s) {
   struct line *l = add_line(t, s);
-  struct rows r = s.scheme == 9 ? some_rows(s.width + s.size, 16, 1, 1) : some_rows(s.width + s.size, 16, 2, 255);
-  l->operations = r.count;
+  struct rows r = some_rows(s.width + s.size, OPERATIONS, 1, 1, 1);
+  if (s.scheme == 10) for (size_t k = 0; k < KEYS - 1 + OPERATIONS; k++) r.coefficients[k] = 2 + k % KEYS * 67 % 254;
+  l->operations = OPERATIONS;
   add_way(l, 0, run_add, &proved, r);
   add_way(l, 1, run_add, &plain, r);
   add_way(l, 2, run_tables, &proved, r);
-  if (s.scheme == 10) add_isal(l, 3, 1, r.n, r.count, r.coefficients, pointers(&r));
-  add_way(l, 7, run_copies, 0, r);
+  if (s.scheme == 10) add_isal(l, 3, 1, r.n, r.count, r.step, r.coefficients, pointers(&r));
+  r.bytes = noise(r.n * r.count);
+  add_way(l, LIMIT, limit_operation, 0, r);
 }
 
 static void fill_sum(struct table *t, struct setting s) {
   struct line *l = add_line(t, s);
-  struct rows r = s.scheme == 9 ? some_rows(s.size, s.width, 0, 1) : some_rows(s.size, s.width, 1, 255);
+  struct rows r = s.scheme == 9 ? some_rows(s.size, s.width, s.width, 0, 1) : some_rows(s.size, s.width, s.width, 1, 255);
   add_way(l, 0, run_combine, &proved, r);
   add_way(l, 1, run_combine, &plain, r);
   add_way(l, 2, run_each, &proved, r);
-  if (s.scheme == 10) add_isal(l, 3, 0, r.n, r.count, r.coefficients, pointers(&r));
-  add_way(l, 7, run_copy, 0, r);
+  if (s.scheme == 10) add_isal(l, 3, 0, r.n, r.count, r.step, r.coefficients, pointers(&r));
+  add_way(l, LIMIT, limit_combine, 0, r);
 }
 
-// The operations that no table has give the same bytes too.
-static void check_others(void) {
-  struct rows r = some_rows(1400, 64, 0, 255);
+// The operations that no table has give the same bytes too, and sums do in rows of any length.
+static void check_others(size_t n, int highest) {
+  struct rows r = some_rows(n, 255, 0, 0, highest);
   size_t all = r.n * r.count;
   u8 *ours = memcpy(room(all), r.bytes, all), *theirs = memcpy(room(all), r.bytes, all);
   for (size_t k = 0; k + 1 < r.count; k++) {
@@ -102,12 +116,11 @@ static void check_others(void) {
 }
 
 int main(void) {
-  static struct table operation = {"Row operation: a row of width + E bytes += c × another",
-    {"", "plain Rust", "products", ISAL_NAMES, "memcpy"}};
-  static struct table sum = {"Repair symbol: the sum of `width` rows of E bytes, each times a coefficient",
-    {"", "plain Rust", "rows", ISAL_NAMES, "memcpy"}};
+  static struct table operation = {"Row operation: a row of width + E bytes += c × another", {"", "plain Rust", "products", ISAL_NAMES}};
+  static struct table sum = {"Repair symbol: the sum of `width` rows of E bytes, each times a coefficient", {"", "plain Rust", "rows", ISAL_NAMES}};
+  static const size_t lengths[] = {1, 63, 64, 65, 319, 320, 321, 512, 1400};
   srand(8681);
-  check_others();
+  for (int k = 0; k < 9; k++) check_others(lengths[k], 1), check_others(lengths[k], 2), check_others(lengths[k], 255);
   make(&operation, fill_operation);
   make(&sum, fill_sum);
 }

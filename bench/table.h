@@ -1,22 +1,25 @@
-// Tables of measurements: one line for each scheme, width and E; on a line the ways to do the same thing, crate `bench`'s first. The ways must
-// give the same bytes before they are measured. Each way's time is the best of ROUNDS rounds, in which all ways of all lines take turns.
+// Tables of measurements: one line for each scheme, width and E; on a line the ways to do the same thing, crate `bench`'s first. All take the same KEYS
+// keys in turn, so that no coefficients are learnt by heart. With each key the ways must give the same bytes before they are measured. Each way's time
+// is the best of ROUNDS rounds, in which all ways of all lines take turns.
 #include <stdint.h>
 #include <stdio.h>
 #include <stdlib.h>
 #include <string.h>
 #include <time.h>
 typedef uint8_t u8;
+#define KEYS 64
 #define ROUNDS 40
 #define ROUND_NS 200000.0
 #define WAYS 8
+#define LIMIT 7
 #define LINES 32
 
-// A way: what is run, on what; what makes it ready, not measured (or 0); the bytes that it leaves (or 0), which are those that the first way leaves,
-// from byte `from` on; and its time.
+// A way: what is run with a key, on what; what makes it ready for the key, not measured (or 0); the bytes that it leaves (or 0), which are those that
+// the first way leaves, from byte `from` on; and its time. The way LIMIT is the physical limit, see limit.h: its time is printed, not its ratio.
 struct way {
-  void (*run)(void *);
+  void (*run)(void *, size_t);
   void *of;
-  void (*ready)(void *);
+  void (*ready)(void *, size_t);
   const u8 *left;
   size_t count, from;
   double ns;
@@ -24,7 +27,7 @@ struct way {
 
 // A line: how many operations a run has, how many symbols of `size` bytes one operation is about, and its ways. A way that is not there has no `run`.
 struct line {
-  char name[80];
+  char name[120];
   int operations, symbols;
   size_t size;
   struct way ways[WAYS];
@@ -74,32 +77,31 @@ static double now(void) {
   return t.tv_sec * 1e9 + t.tv_nsec;
 }
 
-static double batch(const struct way *w, int times) {
+// The time of a run, in so many turns of all keys. Where nothing makes it ready, a turn before them is not measured.
+static double batch(const struct way *w, int turns) {
   double spent = 0;
-  if (!w->ready) {
-    w->run(w->of);
+  for (int turn = w->ready ? 0 : -1; turn < turns; turn++) {
     double start = now();
-    for (int i = 0; i < times; i++) w->run(w->of);
-    return (now() - start) / times;
+    for (size_t key = 0; key < KEYS; key++) {
+      if (w->ready) w->ready(w->of, key), start = now();
+      w->run(w->of, key);
+      if (w->ready) spent += now() - start;
+    }
+    if (!w->ready && turn >= 0) spent += now() - start;
   }
-  for (int i = 0; i < times; i++) {
-    w->ready(w->of);
-    double start = now();
-    w->run(w->of);
-    spent += now() - start;
-  }
-  return spent / times;
+  return spent / turns / KEYS;
 }
 
-// Each way once; then the bytes that it left are those of the first.
+// Each way once with each key; then the bytes that it left are those of the first.
 static void check(const struct table *t) {
   for (const struct line *l = t->lines; l < t->lines + t->count; l++)
-    for (const struct way *w = l->ways; w < l->ways + WAYS; w++) {
-      if (!w->run) continue;
-      if (w->ready) w->ready(w->of);
-      w->run(w->of);
-      if (w->left && memcmp(w->left, l->ways->left + w->from, w->count)) wrong(t->title, l->name, t->ways[w - l->ways]);
-    }
+    for (size_t key = 0; key < KEYS; key++)
+      for (const struct way *w = l->ways; w < l->ways + WAYS; w++) {
+        if (!w->run) continue;
+        if (w->ready) w->ready(w->of, key);
+        w->run(w->of, key);
+        if (w->left && memcmp(w->left, l->ways->left + w->from, w->count)) wrong(t->title, l->name, t->ways[w - l->ways]);
+      }
 }
 
 static void measure(struct table *t) {
@@ -107,7 +109,7 @@ static void measure(struct table *t) {
     for (struct line *l = t->lines; l < t->lines + t->count; l++)
       for (struct way *w = l->ways; w < l->ways + WAYS; w++) {
         if (!w->run) continue;
-        double ns = batch(w, round < 0 ? 3 : (int)(ROUND_NS / w->ns) + 1);
+        double ns = batch(w, round < 0 ? 1 : (int)(ROUND_NS / KEYS / w->ns) + 1);
         if (round < 0 || ns < w->ns) w->ns = ns;
       }
 }
@@ -119,15 +121,16 @@ static void print(const struct table *t) {
   int present[WAYS] = {0};
   for (const struct line *l = t->lines; l < t->lines + t->count; l++)
     for (int w = 1; w < WAYS; w++) present[w] |= l->ways[w].run != 0;
-  printf("\n### %s\n\n| what | ns |", t->title);
-  for (int w = 1; w < WAYS; w++) if (present[w]) printf(" to %s |", t->ways[w]);
+  printf("\n### %s\n\n| what | ns |%s", t->title, present[LIMIT] ? " limit, ns |" : "");
+  for (int w = 1; w < LIMIT; w++) if (present[w]) printf(" to %s |", t->ways[w]);
   printf(" share |\n|---|---|");
   for (int w = 1; w < WAYS; w++) if (present[w]) printf("---|");
   printf("---|\n");
   for (const struct line *l = t->lines; l < t->lines + t->count; l++) {
     double ns = l->ways->ns / l->operations;
     printf("| %s | %s |", l->name, with_comma(ns));
-    for (int w = 1; w < WAYS; w++)
+    if (present[LIMIT]) printf(" %s |", with_comma(l->ways[LIMIT].ns / l->operations));
+    for (int w = 1; w < LIMIT; w++)
       if (present[w] && l->ways[w].run) printf(" %.2f |", l->ways->ns / l->ways[w].ns);
       else if (present[w]) printf(" |");
     printf(" %.2f %% |\n", 100 * ns / l->symbols / symbol_time(l->size));
