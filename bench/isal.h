@@ -53,8 +53,8 @@ ADD(run_mad_tables, gf_vect_mad, in_the_call)
 ADD(run_mad_sse, gf_vect_mad_sse, beforehand)
 ADD(run_mad_base, gf_vect_mad_base, beforehand)
 
-static void (*const encodings[])(void *, size_t) = {run_encode, run_encode_tables, run_encode_sse, run_encode_base};
-static void (*const additions[])(void *, size_t) = {run_mad, run_mad_tables, run_mad_sse, run_mad_base};
+static action *const encodings[] = {run_encode, run_encode_tables, run_encode_sse, run_encode_base};
+static action *const additions[] = {run_mad, run_mad_tables, run_mad_sse, run_mad_base};
 #endif
 
 // The four ways of ISA-L, from `way` on.

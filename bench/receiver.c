@@ -1,31 +1,42 @@
 // The receiver's calls: a source packet that is new or known already, a repair packet over known symbols, the repair packets that recover what a
-// burst took, the repair packet that solves a whole window, and handing out an ADU of one symbol; and the work on marks in a new source packet.
+// burst took, the longest call of those tried, and handing out an ADU of one symbol; and the work on marks in a new source packet.
 #include "library.h"
 #include "table.h"
-#define PACKETS 64
+#include "limit.h"
+#define PACKETS 40
+#define TRIED 3
+#define ADU_MOST 65535
 
-// A receiver, its answer before its memory and an ADU after it, so that all three are compared; a source packet; repair packets, of which
-// `repairs` recover what was lost; and the memory as it was before them.
+// What comes to a line's receivers with a key: `count` source or repair packets of `size` bytes, one after the other, with which `known` symbols become
+// known; the memory before them; and of each repair packet the known rows that its coefficients meet.
+struct arrival {
+  int source;
+  size_t count, size, known;
+  u8 *packets, *before;
+  struct met *met;
+};
+
+// A receiver, its answer before its memory and an ADU after it, so that all three are compared.
 struct receiver {
   const struct library *library;
   struct setting setting;
-  size_t memory_size, work_size, repairs, lost, slot, *answer;
-  u8 *memory, *adu, *work, *source, *repair, *before;
+  struct arrival *arrivals;
+  size_t memory_size, work_size, slot, *answer;
+  u8 *memory, *adu, *work, coefficients[255];
   uint32_t esi;
 };
 
 static size_t adu_size(struct setting s) { return s.size - 3; }
-static size_t repair_size(struct setting s) { return 8 + s.size; }
+static size_t source_size(struct setting s) { return adu_size(s) + 4; }
+static size_t repair_size(struct setting s, size_t symbols) { return 8 + symbols * s.size; }
 static size_t row_size(struct setting s) { return s.width + s.size + 4; }
-
 static size_t compared(const struct receiver *r) { return sizeof(size_t) + r->memory_size + adu_size(r->setting); }
+static u8 *row_of(const struct receiver *r, size_t row) { return r->memory + 64 + row * row_size(r->setting); }
+static u8 *symbol_of(const struct receiver *r, size_t row) { return row_of(r, row) + r->setting.width; }
 
-static size_t take(struct receiver *r) {
-  return r->library->receive_source(r->memory, r->memory_size, r->work, r->work_size, 1, r->source, r->setting.size + 1);
-}
-static size_t mend(struct receiver *r, size_t k) {
-  size_t n = repair_size(r->setting);
-  return r->library->receive_repair(r->memory, r->memory_size, r->work, r->work_size, r->repair + k * n, n);
+static size_t take(struct receiver *r, int source, const u8 *packet, size_t n) {
+  if (source) return r->library->receive_source(r->memory, r->memory_size, r->work, r->work_size, 1, packet, n);
+  return r->library->receive_repair(r->memory, r->memory_size, r->work, r->work_size, packet, n);
 }
 
 // What the receiver answered, of several packets added up; the draws are compared with the other ways' too.
@@ -34,157 +45,299 @@ static void answer(struct receiver *r, size_t n, size_t expected) {
   expect("the receiver", value(n) == expected);
 }
 
-// The next source packet is the one before with the next ESI.
-static void run_new(void *of) {
+static void run_packets(void *of, size_t key) {
   struct receiver *r = of;
-  u8 *esi = r->source + r->setting.size - 3;
+  const struct arrival *a = &r->arrivals[key];
+  size_t sum = 0;
+  for (size_t k = 0; k < a->count; k++) sum += take(r, a->source, a->packets + k * a->size, a->size);
+  answer(r, sum, a->known);
+}
+static void ready_memory(void *of, size_t key) {
+  struct receiver *r = of;
+  memcpy(r->memory, r->arrivals[key].before, r->memory_size);
+}
+// The packet gets the next ESI.
+static void run_new(void *of, size_t key) {
+  struct receiver *r = of;
+  u8 *packet = r->arrivals[key].packets, *esi = packet + adu_size(r->setting);
   r->esi++;
   esi[0] = r->esi >> 24, esi[1] = r->esi >> 16, esi[2] = r->esi >> 8, esi[3] = r->esi;
-  answer(r, take(r), 1);
+  answer(r, take(r, 1, packet, source_size(r->setting)), 1);
 }
-static void run_repeated(void *of) {
-  struct receiver *r = of;
-  answer(r, take(r), 0);
-}
-static void run_known(void *of) {
-  struct receiver *r = of;
-  answer(r, mend(r, 0), 0);
-}
+// The next row in turn.
+static size_t next_row(struct receiver *r) { return r->slot = r->slot + 1 == r->setting.width ? 0 : r->slot + 1; }
 // The ADU of each position in turn.
-static void run_adu(void *of) {
+static void run_adu(void *of, size_t key) {
   struct receiver *r = of;
   size_t n = adu_size(r->setting);
-  answer(r, r->library->adu(r->memory, r->memory_size, r->esi - r->slot, r->adu, n), n);
-  r->slot = r->slot + 1 == r->setting.width ? 0 : r->slot + 1;
+  answer(r, r->library->adu(r->memory, r->memory_size, r->esi - next_row(r), r->adu, n), n);
 }
 // The window's newest position is taken for one that a packet has just brought: the window began a row before. Bytes 8 and 9 of the memory are one more
 // than the base's row.
-static void run_marks(void *of) {
+static void run_marks(void *of, size_t key) {
   struct receiver *r = of;
   size_t w = r->setting.width, row = r->memory[8] * 256 + r->memory[9] - 1;
   r->library->marks(r->memory, r->memory_size, r->setting.size, w, row ? row - 1 : w - 1);
 }
-static void run_burst(void *of) {
-  struct receiver *r = of;
-  size_t solved = 0;
-  for (size_t k = 0; k < r->repairs; k++) solved += mend(r, k);
-  answer(r, solved, r->lost);
-}
-static void ready_burst(void *of) {
-  struct receiver *r = of;
-  memcpy(r->memory, r->before, r->memory_size);
-}
 
-// What a packet must write: its symbol, into the window's next row; what repair packets must: the lost symbols; what handing out must: the ADU.
-static u8 *next_symbol(struct receiver *r) {
-  r->slot = r->slot + 1 == r->setting.width ? 0 : r->slot + 1;
-  return r->memory + 64 + r->slot * row_size(r->setting) + r->setting.width;
-}
-static void run_copy(void *of) {
+// The limit of a new source packet: its ADU is copied into a row.
+static void limit_new(void *of, size_t key) {
   struct receiver *r = of;
-  memcpy(next_symbol(r), r->source, r->setting.size);
+  memcpy(symbol_of(r, next_row(r)) + 3, r->arrivals[key].packets, adu_size(r->setting));
 }
-static void run_adu_copy(void *of) {
+// The limit of a repeated one: its ADU is compared with the one in its row.
+static size_t position_of(struct setting s, size_t key) { return key * ((s.width + KEYS - 1) / KEYS) % s.width; }
+static void limit_repeated(void *of, size_t key) {
   struct receiver *r = of;
-  memcpy(r->adu, next_symbol(r) + 3, adu_size(r->setting));
+  expect("memcmp", !memcmp(symbol_of(r, position_of(r->setting, key)) + 3, r->arrivals[key].packets, adu_size(r->setting)));
 }
-static void run_copies(void *of) {
+// The limit of handing out: the ADU is copied.
+static void limit_adu(void *of, size_t key) {
   struct receiver *r = of;
-  for (size_t k = 0; k < r->lost; k++) run_copy(r);
+  memcpy(r->adu, symbol_of(r, next_row(r)) + 3, adu_size(r->setting));
 }
-
-// A receiver that took the source packets of `sent` symbols but the last `lost`, and the repair packets that the sender then makes.
-static struct receiver *receiver_of(const struct library *library, struct setting s, size_t sent, size_t lost, size_t dt) {
-  struct receiver *r = (struct receiver *)room(sizeof *r);
-  size_t memory_size = 64 + s.width * row_size(s), sender_size = 32 + s.width * s.size, n = repair_size(s);
-  u8 *sender = room(sender_size), *adu = room(s.size);
-  *r = (struct receiver){.library = library, .setting = s, .memory_size = memory_size, .work_size = memory_size + row_size(s), .lost = lost, .esi = sent - 1};
-  r->answer = (size_t *)room(compared(r)), r->memory = (u8 *)(r->answer + 1), r->adu = r->memory + memory_size, r->work = room(r->work_size);
-  r->source = room(s.size + 1), r->repair = room(PACKETS * n), r->before = room(memory_size);
-  expect("sender_open", proved.sender_open(sender, sender_size, s.scheme, s.size, s.width) == 0);
-  expect("receiver_open", library->receiver_open(r->memory, memory_size, s.scheme, s.size, s.width) == 0);
-  for (size_t k = 0; k < sent; k++) {
-    for (size_t i = 0; i < adu_size(s); i++) adu[i] = i * i + 13 * k;
-    expect("add_adu", proved.add_adu(sender, sender_size, 1, adu, adu_size(s), r->source, s.size + 1) == s.size + 1);
-    if (k + lost < sent) expect("receive_source", value(take(r)) == 1);
+// Draws the coefficients of a repair packet's i-th symbol; all packets here name a whole window.
+static void draw(u8 *coefficients, struct setting s, const u8 *packet, size_t i) {
+  plain_coefficients(coefficients, s.width, s.scheme, packet[0] * 256 + packet[1] + i, packet[2] / 16);
+}
+// The limit of repair packets of one symbol: for each the coefficients are drawn and the known symbols that they meet and the packet's are read; and
+// each symbol that becomes known is read and written once.
+static void limit_repairs(void *of, size_t key) {
+  struct receiver *r = of;
+  const struct arrival *a = &r->arrivals[key];
+  struct setting s = r->setting;
+  for (size_t k = 0; k < a->count; k++) {
+    const u8 *packet = a->packets + k * a->size;
+    draw(r->coefficients, s, packet, 0);
+    limit_sum(r->work, s.size, symbol_of(r, 0), row_size(s), a->met[k].rows, a->met[k].count);
+    limit_add(r->work, packet + 8, s.size);
   }
-  memcpy(r->before, r->memory, memory_size);
-  for (size_t k = 0; k < PACKETS; k++) proved.make_repair(sender, sender_size, k + 1, dt, 1, r->repair + k * n, n);
-  return r;
+  for (size_t k = 0; k < a->known; k++) limit_add(symbol_of(r, s.width - 1 - k), r->work, s.size);
+}
+// The limit of the longest call: the coefficients of a repair packet are drawn, and each row of the window, width + E bytes, is read and written once.
+static void limit_longest(void *of, size_t key) {
+  struct receiver *r = of;
+  const struct arrival *a = &r->arrivals[key];
+  struct setting s = r->setting;
+  if (!a->source) for (size_t i = 0; i < (a->size - 8) / s.size; i++) draw(r->coefficients, s, a->packets, i);
+  for (size_t row = 0; row < s.width; row++) limit_add(row_of(r, row), r->work, s.width + s.size);
 }
 
-static void add_ways(struct line *l, void (*run)(void *), void (*other)(void *), void (*ready)(void *), struct receiver *ends[3]) {
-  for (int k = 0; k < 2; k++) l->ways[k] = (struct way){run, ends[k], ready, (u8 *)ends[k]->answer, compared(ends[k])};
-  l->ways[2] = (struct way){other, ends[2]};
+// A sender, of the proved code: all ways take its packets.
+struct sender {
+  struct setting setting;
+  size_t size;
+  u8 *memory;
+};
+static struct sender sender_of(struct setting s) {
+  size_t size = 32 + s.width * s.size;
+  return (struct sender){s, size, room(size)};
 }
-
-// A line on receivers to which all symbols of two windows came. The third way is one of the proved code too.
-static void fill(struct table *t, struct setting s, void (*run)(void *), void (*other)(void *)) {
-  struct receiver *ends[3];
-  for (int k = 0; k < 3; k++) ends[k] = receiver_of(k == 1 ? &plain : &proved, s, 2 * s.width, 0, 15);
-  add_ways(add_line(t, s), run, other, 0, ends);
+static void open_sender(struct sender *s) {
+  expect("sender_open", proved.sender_open(s->memory, s->size, s->setting.scheme, s->setting.size, s->setting.width) == 0);
 }
-static void fill_new(struct table *t, struct setting s) { fill(t, s, run_new, run_copy); }
-static void fill_repeated(struct table *t, struct setting s) { fill(t, s, run_repeated, run_copy); }
-static void fill_known(struct table *t, struct setting s) { fill(t, s, run_known, run_copy); }
-static void fill_adu(struct table *t, struct setting s) { fill(t, s, run_adu, run_adu_copy); }
-static void fill_marks(struct table *t, struct setting s) { fill(t, s, run_marks, run_new); }
-
-// How many of the repair packets it takes to recover what was lost.
-static size_t needed(struct receiver *r) {
-  size_t solved = 0, k = 0;
-  ready_burst(r);
-  while (solved < r->lost) {
-    expect("receive_repair", k < PACKETS);
-    solved += value(mend(r, k++));
-  }
-  return k;
+// Writes the source packet of an ADU of so many symbols, the k-th. Gives its size.
+static size_t send(struct sender *s, size_t symbols, size_t k, u8 *packet) {
+  static u8 adu[ADU_MOST];
+  size_t n = symbols * s->setting.size - 3;
+  if (ADU_MOST < n) n = ADU_MOST;
+  for (size_t i = 0; i < n; i++) adu[i] = i * i + 13 * k;
+  expect("add_adu", proved.add_adu(s->memory, s->size, 1, adu, n, packet, n + 4) == n + 4);
+  return n + 4;
 }
+// Writes a repair packet of so many symbols. Gives its size.
+static size_t mend(struct sender *s, uint16_t key, size_t dt, size_t symbols, u8 *packet) {
+  size_t n = repair_size(s->setting, symbols);
+  expect("make_repair", value(proved.make_repair(s->memory, s->size, key, dt, symbols, packet, n)) == n);
+  return n;
+}
+// At DT 15 scheme 9 has but one equation; at DT 7 it has half of all.
+static size_t recovering_dt(struct setting s) { return s.scheme == 9 ? 7 : 15; }
 
-// A line on a burst: a quarter, an eighth or a sixteenth of the window is lost. At DT 15 scheme 9 has but one equation; at DT 7 it has half of all.
-static void fill_burst(struct table *t, struct setting s) {
-  size_t lost = s.width == 16 ? 4 : s.width == 64 ? 8 : 16;
-  struct line *l = add_line(t, s);
-  struct receiver *ends[3];
+static void open_receiver(struct receiver *r) {
+  struct setting s = r->setting;
+  expect("receiver_open", r->library->receiver_open(r->memory, r->memory_size, s.scheme, s.size, s.width) == 0);
+}
+// The receivers of a line, of the proved code, of plain Rust and one for the limit or another way of the proved code.
+static void receivers_of(struct receiver *ends[3], struct setting s) {
+  struct arrival *arrivals = (struct arrival *)room(KEYS * sizeof *arrivals);
   for (int k = 0; k < 3; k++) {
-    ends[k] = receiver_of(k ? &plain : &proved, s, s.width, lost, s.scheme == 9 ? 7 : 15);
-    ends[k]->repairs = needed(ends[k]);
+    struct receiver *r = ends[k] = (struct receiver *)room(sizeof *r);
+    r->library = k == 1 ? &plain : &proved, r->setting = s, r->arrivals = arrivals;
+    r->memory_size = 64 + s.width * row_size(s), r->work_size = r->memory_size + row_size(s);
+    r->answer = (size_t *)room(compared(r)), r->memory = (u8 *)(r->answer + 1), r->adu = r->memory + r->memory_size, r->work = room(r->work_size);
+    open_receiver(r);
   }
-  sprintf(l->name + strlen(l->name), ", %zu lost, %zu repair", lost, ends[0]->repairs);
-  l->symbols = lost;
-  add_ways(l, run_burst, run_copies, ready_burst, ends);
+}
+// All take the next of the sender's ADUs, of one symbol, unless it is lost; its source packet is written to `packet`.
+static void hear(struct receiver *ends[3], struct sender *sender, size_t k, int lost, u8 *packet) {
+  size_t n = send(sender, 1, k, packet);
+  for (int e = 0; e < 3; e++) {
+    if (!lost) expect("receive_source", value(take(ends[e], 1, packet, n)) == 1);
+    ends[e]->esi = k;
+  }
+}
+static void add_ways(struct line *l, action *run, action *ready, int third, action *other, struct receiver *ends[3]) {
+  for (int k = 0; k < 2; k++) l->ways[k] = (struct way){run, ends[k], ready, (u8 *)ends[k]->answer, compared(ends[k])};
+  l->ways[third] = (struct way){other, ends[2]};
 }
 
-// A line on the longest call: no source packet came; repair packets of 16 symbols did, and the one is measured with which all are known.
-static size_t longest_size(struct setting s) { return 8 + 16 * s.size; }
-static size_t take_longest(struct receiver *r) {
-  return r->library->receive_repair(r->memory, r->memory_size, r->work, r->work_size, r->repair, longest_size(r->setting));
+// The known rows, of the first `heard`, that the packets' coefficients meet.
+static void meet(struct arrival *a, struct setting s, size_t heard) {
+  u8 coefficients[255];
+  a->met = (struct met *)room(a->count * sizeof *a->met);
+  for (size_t k = 0; k < a->count; k++) {
+    draw(coefficients, s, a->packets + k * a->size, 0);
+    a->met[k] = met_by(coefficients, heard);
+  }
 }
-static void run_longest(void *of) {
-  struct receiver *r = of;
-  answer(r, take_longest(r), r->lost);
+
+// A line on receivers to which all symbols of two windows came. With each key comes one packet: the source packet of one of the window's positions, or
+// a repair packet.
+static void fill(struct table *t, struct setting s, int source, action *run, int third, action *other) {
+  struct receiver *ends[3];
+  struct sender sender = sender_of(s);
+  size_t n = source_size(s);
+  u8 *sources = room(2 * s.width * n);
+  receivers_of(ends, s);
+  open_sender(&sender);
+  for (size_t k = 0; k < 2 * s.width; k++) hear(ends, &sender, k, 0, sources + k * n);
+  for (size_t key = 0; key < KEYS; key++) {
+    struct arrival *a = &ends[0]->arrivals[key];
+    *a = (struct arrival){source, 1, n, 0, sources + (s.width + position_of(s, key)) * n};
+    if (source) continue;
+    a->packets = room(repair_size(s, 1));
+    a->size = mend(&sender, key, 15, 1, a->packets);
+    meet(a, s, s.width);
+  }
+  add_ways(add_line(t, s), run, 0, third, other, ends);
 }
-static struct receiver *unheard(const struct library *library, struct setting s) {
-  struct receiver *r = receiver_of(library, s, s.width, s.width, 15);
-  size_t sender_size = 32 + s.width * s.size, known = 0;
-  u8 *sender = room(sender_size), *adu = room(s.size);
-  expect("sender_open", proved.sender_open(sender, sender_size, s.scheme, s.size, s.width) == 0);
+static void fill_new(struct table *t, struct setting s) { fill(t, s, 1, run_new, LIMIT, limit_new); }
+static void fill_marks(struct table *t, struct setting s) { fill(t, s, 1, run_marks, 2, run_new); }
+static void fill_repeated(struct table *t, struct setting s) { fill(t, s, 1, run_packets, LIMIT, limit_repeated); }
+static void fill_known(struct table *t, struct setting s) { fill(t, s, 0, run_packets, LIMIT, limit_repairs); }
+static void fill_adu(struct table *t, struct setting s) { fill(t, s, 1, run_adu, LIMIT, limit_adu); }
+
+// A line on a burst: a quarter, an eighth or a sixteenth of the window is lost. With each key come other repair packets, as many as recover it.
+static void fill_burst(struct table *t, struct setting s) {
+  size_t lost = s.width == 16 ? 4 : s.width == 64 ? 8 : 16, all = 0;
+  struct line *l = add_line(t, s);
+  struct receiver *ends[3], *r;
+  struct sender sender = sender_of(s);
+  u8 *packet = room(source_size(s));
+  receivers_of(ends, s);
+  open_sender(&sender);
+  for (size_t k = 0; k < s.width; k++) hear(ends, &sender, k, s.width <= k + lost, packet);
+  r = ends[0];
+  u8 *before = memcpy(room(r->memory_size), r->memory, r->memory_size);
+  for (size_t key = 0; key < KEYS; key++) {
+    struct arrival *a = &r->arrivals[key];
+    *a = (struct arrival){.size = repair_size(s, 1), .packets = room(PACKETS * repair_size(s, 1)), .before = before};
+    ready_memory(r, key);
+    while (a->known < lost) {
+      expect("receive_repair", a->count < PACKETS);
+      u8 *next = a->packets + a->count * a->size;
+      mend(&sender, key * PACKETS + a->count++, recovering_dt(s), 1, next);
+      a->known += value(take(r, 0, next, a->size));
+    }
+    meet(a, s, s.width - lost);
+    all += a->count;
+  }
+  sprintf(l->name + strlen(l->name), ", %zu lost, %.1f repair", lost, (double)all / KEYS);
+  l->symbols = lost;
+  add_ways(l, run_packets, ready_memory, LIMIT, limit_repairs, ends);
+}
+
+// A call that may be the longest: a repair packet of so many symbols, or the source packet of an ADU of so many symbols from a position on. Only repair
+// packets came before, so many that `missing` equations lack to know the whole window; with the call it is known.
+struct call {
+  int source;
+  size_t symbols, position, missing;
+};
+
+// How many rows have a flag that is at least this: from 1 on they are in use, from 2 on known.
+static size_t rows_with(const struct receiver *r, u8 flag) {
+  size_t count = 0;
+  for (size_t row = 0; row < r->setting.width; row++) count += flag <= row_of(r, row)[r->setting.width + r->setting.size];
+  return count;
+}
+
+// Makes an arrival of a call. The repair packets before it, of one symbol, have keys from a random one on.
+static void arrange(struct arrival *a, struct receiver *r, struct sender *sender, struct call c) {
+  struct setting s = r->setting;
+  size_t dt = recovering_dt(s), known;
+  static u8 packet[ADU_MOST + 4];
+  a->source = c.source, a->count = 1;
+  open_sender(sender);
   for (size_t k = 0; k < s.width; k++) {
-    for (size_t i = 0; i < adu_size(s); i++) adu[i] = i * i + 13 * k;
-    expect("add_adu", proved.add_adu(sender, sender_size, 1, adu, adu_size(s), r->source, s.size + 1) == s.size + 1);
+    if (!c.source || k != c.position) send(sender, 1, k, packet);
+    else a->size = send(sender, c.symbols, k, a->packets), k += c.symbols - 1;
   }
-  for (size_t key = 0; known < s.width; key += 16) {
-    memcpy(r->before, r->memory, r->memory_size);
-    proved.make_repair(sender, sender_size, key, s.scheme == 9 ? 7 : 15, 16, r->repair, longest_size(s));
-    r->lost = value(take_longest(r)), known += r->lost;
-    expect("receive_repair", r->lost <= s.width && key < 4096);
-  }
-  return r;
+  do {
+    uint16_t key = rand();
+    open_receiver(r);
+    while (rows_with(r, 1) + c.missing < s.width) take(r, 0, packet, mend(sender, key++, dt, 1, packet));
+    memcpy(a->before, r->memory, r->memory_size);
+    known = rows_with(r, 2);
+    if (!c.source) a->size = mend(sender, key, dt, c.symbols, a->packets);
+    a->known = value(take(r, a->source, a->packets, a->size));
+  } while (known + a->known < s.width);
 }
+
+// The time of a call with the proved code: the mean of TRIED keys, of each the best of TRIED times.
+static double time_of(struct call c, struct receiver *r, struct sender *sender) {
+  double sum = 0;
+  for (size_t key = 0; key < TRIED; key++) {
+    double best = 0;
+    arrange(&r->arrivals[key], r, sender, c);
+    for (int k = 0; k < TRIED; k++) {
+      ready_memory(r, key);
+      double start = now();
+      run_packets(r, key);
+      double ns = now() - start;
+      if (!k || ns < best) best = ns;
+    }
+    sum += best;
+  }
+  return sum / TRIED;
+}
+
+// Finds the longest call: repair packets of n symbols where n equations lack, and of 16 where fewer do; and the same of source packets, of the oldest or
+// the newest symbols of the window, up to as many as an ADU can have. Where none lacks, the packet's symbols are all known.
+static struct call longest_of(struct receiver *r, struct sender *sender) {
+  size_t w = r->setting.width, most = (3 + ADU_MOST + r->setting.size - 1) / r->setting.size, count = 0;
+  struct call calls[100], longest = {0};
+  double ns = 0;
+  if (w < most) most = w;
+  for (size_t n = 1; n <= 16; n++) calls[count++] = (struct call){0, n, 0, n}, calls[count++] = (struct call){0, 16, 0, n - 1};
+  for (size_t k = 0; k <= 16; k++)
+    for (int newest = 0; newest < 2; newest++) {
+      size_t n = most * k / 16;
+      if (n) calls[count++] = (struct call){1, n, newest ? w - n : 0, n};
+      if (n < most && (!newest || most < w)) calls[count++] = (struct call){1, most, newest ? w - most : 0, n};
+    }
+  for (size_t k = 0; k < count; k++) {
+    double t = time_of(calls[k], r, sender);
+    if (ns < t) ns = t, longest = calls[k];
+  }
+  return longest;
+}
+
 static void fill_longest(struct table *t, struct setting s) {
   struct receiver *ends[3];
-  for (int k = 0; k < 3; k++) ends[k] = unheard(k ? &plain : &proved, s);
-  add_ways(add_line(t, s), run_longest, run_copies, ready_burst, ends);
+  struct sender sender = sender_of(s);
+  struct line *l = add_line(t, s);
+  receivers_of(ends, s);
+  for (size_t key = 0; key < KEYS; key++) {
+    struct arrival *a = &ends[0]->arrivals[key];
+    a->before = room(ends[0]->memory_size), a->packets = room(ADU_MOST + 4);
+  }
+  struct call c = longest_of(ends[0], &sender);
+  for (size_t key = 0; key < KEYS; key++) arrange(&ends[0]->arrivals[key], ends[0], &sender, c);
+  sprintf(l->name + strlen(l->name), ": %s packet of %s%zu symbols after %zu equation%s", c.source ? "source" : "repair",
+    !c.source || c.symbols == s.width ? "" : c.position ? "the newest " : "the oldest ", c.symbols, s.width - c.missing,
+    s.width - c.missing == 1 ? "" : "s");
+  add_ways(l, run_packets, ready_memory, LIMIT, limit_longest, ends);
 }
 
 // Both join alike, just below the wrap: nothing is shown before, and a repair packet of two unlike symbols sets no base.
@@ -209,13 +362,14 @@ static void check_joining(void) {
   expect("joining", !memcmp(memory[0], memory[1], size));
 }
 
-#define NAMES {"", "plain Rust", "memcpy"}
+#define NAMES {"", "plain Rust"}
 int main(void) {
   static struct table news = {"New source packet of one symbol", NAMES}, repeated = {"Repeated source packet of one symbol", NAMES},
     known = {"Repair packet of one symbol, DT 15, all symbols of the window known", NAMES}, burst = {"Recovery after a burst", NAMES},
     adu = {"Handing out an ADU of one symbol", NAMES},
-    longest = {"Longest call: a repair packet of 16 symbols with which all symbols of the window become known, none of them heard", NAMES},
+    longest = {"Longest call: of those tried, a packet with which the whole window is known, after equations of repair packets alone", NAMES},
     marks = {"The work on marks in a new source packet of one symbol, all positions marked and known", {"", "plain Rust", "the whole call for a new source packet"}};
+  srand(8681);
   check_joining();
   make(&news, fill_new);
   make(&marks, fill_marks);

@@ -67,7 +67,7 @@ static u8 **pointers(const struct rows *r) {
 }
 
 // A way of a library on the rows; the limit's gives other bytes.
-static void add_way(struct line *l, int way, void (*run)(void *, size_t), const struct library *library, struct rows like) {
+static void add_way(struct line *l, int way, action *run, const struct library *library, struct rows like) {
   struct rows *r = (struct rows *)room(sizeof *r);
   *r = like, r->library = library, r->dst = room(r->n);
   l->ways[way] = (struct way){run, r, 0, library ? r->dst : 0, r->n};

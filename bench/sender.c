@@ -55,7 +55,7 @@ static struct sender *sender_of(const struct library *library, struct setting se
   return s;
 }
 
-static void add_ways(struct line *l, struct setting s, void (*run)(void *, size_t), void (*limit)(void *, size_t)) {
+static void add_ways(struct line *l, struct setting s, action *run, action *limit) {
   struct sender *ours = sender_of(&proved, s), *theirs = sender_of(&plain, s);
   size_t compared = ours->packet_size + ours->memory_size;
   l->ways[0] = (struct way){run, ours, 0, ours->packet, compared};

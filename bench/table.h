@@ -14,12 +14,15 @@ typedef uint8_t u8;
 #define LIMIT 7
 #define LINES 32
 
+// What is done with a key, and on what.
+typedef void action(void *of, size_t key);
+
 // A way: what is run with a key, on what; what makes it ready for the key, not measured (or 0); the bytes that it leaves (or 0), which are those that
 // the first way leaves, from byte `from` on; and its time. The way LIMIT is the physical limit, see limit.h: its time is printed, not its ratio.
 struct way {
-  void (*run)(void *, size_t);
+  action *run;
   void *of;
-  void (*ready)(void *, size_t);
+  action *ready;
   const u8 *left;
   size_t count, from;
   double ns;
