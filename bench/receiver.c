@@ -253,6 +253,7 @@ static void fill_burst(struct table *t, struct setting s) {
 struct call {
   int source;
   size_t symbols, position, missing;
+  double ns;
 };
 
 // How many rows have a flag that is at least this: from 1 on they are in use, from 2 on known.
@@ -262,10 +263,11 @@ static size_t rows_with(const struct receiver *r, u8 flag) {
   return count;
 }
 
-// Makes an arrival of a call. The repair packets before it, of one symbol, have keys from a random one on.
+// Makes an arrival of a call. The repair packets before it, of one symbol, have keys from one on that no other arrival begins with.
 static void arrange(struct arrival *a, struct receiver *r, struct sender *sender, struct call c) {
   struct setting s = r->setting;
   size_t dt = recovering_dt(s), known;
+  uint16_t key = (a - r->arrivals) * (65536 / KEYS);
   static u8 packet[ADU_MOST + 4];
   a->source = c.source, a->count = 1;
   open_sender(sender);
@@ -274,12 +276,11 @@ static void arrange(struct arrival *a, struct receiver *r, struct sender *sender
     else a->size = send(sender, c.symbols, k, a->packets), k += c.symbols - 1;
   }
   do {
-    uint16_t key = rand();
     open_receiver(r);
     while (rows_with(r, 1) + c.missing < s.width) take(r, 0, packet, mend(sender, key++, dt, 1, packet));
     memcpy(a->before, r->memory, r->memory_size);
     known = rows_with(r, 2);
-    if (!c.source) a->size = mend(sender, key, dt, c.symbols, a->packets);
+    if (!c.source) a->size = mend(sender, key, dt, c.symbols, a->packets), key += c.symbols;
     a->known = value(take(r, a->source, a->packets, a->size));
   } while (known + a->known < s.width);
 }
@@ -302,12 +303,17 @@ static double time_of(struct call c, struct receiver *r, struct sender *sender) 
   return sum / TRIED;
 }
 
+static int longer_first(const void *a, const void *b) {
+  double x = ((const struct call *)a)->ns, y = ((const struct call *)b)->ns;
+  return (x < y) - (y < x);
+}
+
 // Finds the longest call: repair packets of n symbols where n equations lack, and of 16 where fewer do; and the same of source packets, of the oldest or
-// the newest symbols of the window, up to as many as an ADU can have. Where none lacks, the packet's symbols are all known.
+// the newest symbols of the window, up to as many as an ADU can have. Where none lacks, the packet's symbols are all known. All are tried, then again
+// and again the longest third of them, and the least time of each counts.
 static struct call longest_of(struct receiver *r, struct sender *sender) {
   size_t w = r->setting.width, most = (3 + ADU_MOST + r->setting.size - 1) / r->setting.size, count = 0;
-  struct call calls[100], longest = {0};
-  double ns = 0;
+  struct call calls[100];
   if (w < most) most = w;
   for (size_t n = 1; n <= 16; n++) calls[count++] = (struct call){0, n, 0, n}, calls[count++] = (struct call){0, 16, 0, n - 1};
   for (size_t k = 0; k <= 16; k++)
@@ -316,11 +322,14 @@ static struct call longest_of(struct receiver *r, struct sender *sender) {
       if (n) calls[count++] = (struct call){1, n, newest ? w - n : 0, n};
       if (n < most && (!newest || most < w)) calls[count++] = (struct call){1, most, newest ? w - most : 0, n};
     }
-  for (size_t k = 0; k < count; k++) {
-    double t = time_of(calls[k], r, sender);
-    if (ns < t) ns = t, longest = calls[k];
+  for (size_t left = count; left; left /= 3) {
+    for (struct call *c = calls; c < calls + left; c++) {
+      double ns = time_of(*c, r, sender);
+      if (!c->ns || ns < c->ns) c->ns = ns;
+    }
+    qsort(calls, left, sizeof *calls, longer_first);
   }
-  return longest;
+  return calls[0];
 }
 
 static void fill_longest(struct table *t, struct setting s) {
@@ -369,7 +378,6 @@ int main(void) {
     adu = {"Handing out an ADU of one symbol", NAMES},
     longest = {"Longest call: of those tried, a packet with which the whole window is known, after equations of repair packets alone", NAMES},
     marks = {"The work on marks in a new source packet of one symbol, all positions marked and known", {"", "plain Rust", "the whole call for a new source packet"}};
-  srand(8681);
   check_joining();
   make(&news, fill_new);
   make(&marks, fill_marks);
