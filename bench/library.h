@@ -35,5 +35,5 @@ static const struct library proved = {FUNCTIONS(PROVED_NAME)}, plain = {FUNCTION
 // The number that make_repair, receive_source or receive_repair answers, without the draws, which stand from bit 32 on.
 static inline size_t value(size_t answer) { return answer & 0xffffffff; }
 
-// The coefficients of a key and a DT, for ISA-L, which doesn't draw them.
+// The coefficients of a key and a DT: for ISA-L, which doesn't draw them, and for the limits of calls that must.
 size_t plain_coefficients(uint8_t *, size_t, size_t, uint16_t, uint8_t);

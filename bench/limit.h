@@ -4,7 +4,7 @@
 #define HELD 8
 
 // So many registers of `bytes` bytes at a time: dst, of n bytes, becomes the sum of rows of mem, one every `stride` bytes; dst becomes dst + src.
-// The last register's bytes begin early enough to be within the n.
+// The last register's bytes begin early enough to be within the n, which are at least as many.
 #define READING(name, isa, bytes)                                                                                                              \
   typedef uint64_t name##_block __attribute__((vector_size(bytes), aligned(1), may_alias));                                                    \
   static __attribute__((target(isa))) void name##_sum(u8 *dst, size_t n, const u8 *mem, size_t stride, const u8 *rows, size_t count) {         \
