@@ -1,8 +1,9 @@
 -- A combination of rows, digit by digit of the coefficients: the rows whose coefficients are odd, added to twice the combination that has
 -- the halves of the coefficients.
-use Rattle.words.specs.Words.{_≡_, refl, _∙_, sym, ap, ap₂, arith, Bool, List, _%_, _*_, _+_, _/_, _<_, _^_, _≤_, add-one, bitXor, cond, eqb}
+use Rattle.words.specs.Words.{_≡_, refl, _∙_, sym, ap, ap₂, arith, Bool, List, _%_, _*_, _+_, _/_, _<_, _^_, _≤_, add-one, bitXor, cond, decLt, eqb}
 use Rattle.words.specs.Words.{ext-getD, false, getD, length, mod-lt, suc, true, xor-comm, zero, ℕ}
 use native.Mathlib.Nat.{pow-suc, div-div-eq-div-mul, div-eq-of-lt, div-one}
+use lib.ListN.{List·getD-eq-default}
 use Rattle.field.proofs.Laws.{product-sum-right}
 use Rattle.field.proofs.Xor.{xor-assoc}
 use Rattle.field.specs.Gf256.{product}
@@ -16,7 +17,7 @@ use Rattle.rows.proofs.Dot.{dot-halves}
 use Rattle.rows.proofs.Sums.{length-scaled, getD-scaled, addScaled-zero}
 
 -- no row is added
-combined-none : (row : ℕ → List ℕ) (c : ℕ → ℕ) (n : ℕ) (d : List ℕ) → ((k : ℕ) → c k ≡ 0) → combined c row n d ≡ d
+pub combined-none : (row : ℕ → List ℕ) (c : ℕ → ℕ) (n : ℕ) (d : List ℕ) → ((k : ℕ) → c k ≡ 0) → combined c row n d ≡ d
 unfolding combined
 combined-none row c zero d z = refl
 combined-none row c (suc n) d z = rw (z n, addScaled-zero) (combined-none row c n d z)
@@ -55,17 +56,25 @@ module _ (row : ℕ → List ℕ) (l n : ℕ) (long : (k : ℕ) → k < n → l 
       (λ i k. (ap (λ (x : ℕ). coefficient cs k / x) (pow-suc 2 e) ∙ sym (div-div-eq-div-mul (coefficient cs k) (2 ^ e) 2)) i)
       ∙ combined-digit (shifted cs e) d q
 
--- no digit has been added
-pub combined-start : (row : ℕ → List ℕ) (cs : List ℕ) (n : ℕ) (d : List ℕ) → Bytes cs → combined (shifted cs 8) row n d ≡ d
-unfolding shifted
-combined-start row cs n d h = combined-none row (shifted cs 8) n d (λ k. div-eq-of-lt (h k))
-
 -- all digits have been added
 pub combined-end : (row : ℕ → List ℕ) (cs : List ℕ) (n : ℕ) (d : List ℕ) → combined (shifted cs 0) row n d ≡ combined (coefficient cs) row n d
 unfolding shifted
 combined-end row cs n d = ap (λ (f : ℕ → ℕ). combined f row n d) (λ i k. div-one (coefficient cs k) i)
 
 -- ---- pairs of digits
+
+-- all digits of a byte are in four pairs, and those of a number below 4 in one
+pub above-four : (cs : List ℕ) → Bytes cs → (k : ℕ) → shifted cs (2 * 4) k ≡ 0
+unfolding shifted
+above-four cs h k = div-eq-of-lt (h k)
+
+pub above-one : (cs : List ℕ) → ((k : ℕ) → k < length cs → getD cs k 0 < 4) → (k : ℕ) → shifted cs (2 * 1) k ≡ 0
+unfolding shifted
+above-one cs h k = go (decLt k (length cs))
+  where
+    go : Dec (k < length cs) → coefficient cs k / 2 ^ (2 * 1) ≡ 0
+    go (yes l) = div-eq-of-lt (h k l)
+    go (no l) = ap (λ (x : ℕ). x / 2 ^ (2 * 1)) (List·getD-eq-default cs 0 (omega arith))
 
 -- none or one
 pub pair-bit : (cs : List ℕ) (e v k : ℕ) → pairIs cs e v k < 2

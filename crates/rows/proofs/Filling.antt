@@ -70,18 +70,18 @@ most-few Buckets = omega arith
 most-few SortedBuckets = omega arith
 
 -- what is prepared
-pub prepared-lists : {cs lists counts order ends : List ℕ} → ListedPairs cs lists counts → Bytes cs → Prepared Lists cs lists counts order ends
+pub prepared-lists : {cs lists counts order ends : List ℕ} {n : ℕ} → ListedPairs cs lists counts n → Prepared Lists cs lists counts order ends n
 unfolding listedFor sorts
-prepared-lists l b = record { listed = l; bytes = b; sorted = λ h. absurd (true≢false (sym h)) }
+prepared-lists l = record { listed = l; sorted = λ h. absurd (true≢false (sym h)) }
 
-pub prepared-buckets : {cs lists counts order ends : List ℕ} → ListedPairs weights lists counts → Bytes weights → Prepared Buckets cs lists counts order ends
+pub prepared-buckets : {cs lists counts order ends : List ℕ} {n : ℕ} → ListedPairs weights lists counts n → Prepared Buckets cs lists counts order ends n
 unfolding listedFor sorts
-prepared-buckets l b = record { listed = l; bytes = b; sorted = λ h. absurd (true≢false (sym h)) }
+prepared-buckets l = record { listed = l; sorted = λ h. absurd (true≢false (sym h)) }
 
-pub prepared-sorted : {cs lists counts order ends : List ℕ} → ListedPairs weights lists counts → Bytes weights → SortedHalves cs order ends
-    → Prepared SortedBuckets cs lists counts order ends
+pub prepared-sorted : {cs lists counts order ends : List ℕ} {n : ℕ} → ListedPairs weights lists counts n → SortedHalves cs order ends
+    → Prepared SortedBuckets cs lists counts order ends n
 unfolding listedFor
-prepared-sorted l b s = record { listed = l; bytes = b; sorted = λ h. s }
+prepared-sorted l s = record { listed = l; sorted = λ h. s }
 
 -- what is listed is short
 listed-few : (way : Way) (cs : List ℕ) → length cs ≤ mostRows way → length (listedFor way cs) ≤ 64
@@ -91,13 +91,12 @@ listed-few Buckets cs h = omega (arith, length-weights)
 listed-few SortedBuckets cs h = omega (arith, length-weights)
 
 -- a strip that ends where the first row's n bytes end, or before
-pub ready-at : {way : Way} {cs lists counts order ends : List ℕ} (a b n s size : ℕ) → Prepared way cs lists counts order ends → length cs ≤ mostRows way
+pub ready-at : {way : Way} {cs lists counts order ends : List ℕ} {pairs : ℕ} (a b n s size : ℕ) → Prepared way cs lists counts order ends pairs → length cs ≤ mostRows way
     → length lists ≡ 768 → length counts ≡ 12 → length order ≡ 510 → length ends ≡ 32 → n ≤ s → a + length cs * s ≤ size → b + 64 ≤ a + n
-    → Ready way cs lists counts order ends b s size
+    → Ready way cs lists counts order ends pairs b s size
 ready-at {way} {cs} a b n s size p few all twelve places both h room within =
     record {
       listed = p .listed;
-      bytes = p .bytes;
       short = listed-few way cs few;
       all = all;
       twelve = twelve;
@@ -212,13 +211,13 @@ bucket-sum cs m a s b lb fits h =
     ∙ sym (getD-alone (rowAt m a s 64) 64 (coefficient cs) n long′ i f))
 
 -- and so do the lists of the weights' pairs
-pub buckets-sum : (cs m lists counts : List ℕ) (a s : ℕ) (b : List ℕ) → ListedPairs weights lists counts → Bytes weights
-    → length b ≡ 2048 → ((k : ℕ) → k < length cs → a + k * s + 64 ≤ length m) → Filled cs (length cs) m a s b
-    → pairsAdded (rowAt b 0 64 64) lists counts 4 (replicate 64 0) ≡ rowsAdded cs m a s 64 (replicate 64 0)
+pub buckets-sum : (cs m lists counts : List ℕ) (n a s : ℕ) (b : List ℕ) → ListedPairs weights lists counts n → length b ≡ 2048
+    → ((k : ℕ) → k < length cs → a + k * s + 64 ≤ length m) → Filled cs (length cs) m a s b
+    → pairsAdded (rowAt b 0 64 64) lists counts n n (replicate 64 0) ≡ rowsAdded cs m a s 64 (replicate 64 0)
 unfolding rowAt
-buckets-sum cs m lists counts a s b listed bytes lb fits h =
+buckets-sum cs m lists counts n a s b listed lb fits h =
     let lw = length-weights in
     let long : (v : ℕ) → v < length weights → 64 ≤ length (rowAt b 0 64 64 v) = λ v g. omega (arith, length-part (0 + v * 64) 64 b (omega arith)) in
-    pairs-sum (rowAt b 0 64 64) weights lists counts long listed bytes
-    ∙ ap (λ (n : ℕ). combined (coefficient weights) (rowAt b 0 64 64) n (replicate 64 0)) lw
+    pairs-sum (rowAt b 0 64 64) weights lists counts n long listed
+    ∙ ap (λ (k : ℕ). combined (coefficient weights) (rowAt b 0 64 64) k (replicate 64 0)) lw
     ∙ bucket-sum cs m a s b lb fits h

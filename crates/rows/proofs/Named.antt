@@ -1,9 +1,9 @@
 -- Laws of rows that a list names.
-use Rattle.words.specs.Words.{_≡_, refl, _∙_, sym, ap, ap₂, arith, List, _%_, _*_, _++_, _+_, _-_, _/_, _<_, _≤_, add-one, add-zero, bitXor, ext-getD}
-use Rattle.words.specs.Words.{getD, length, length-replicate, replicate, set, suc, zero, zero-add, ℕ, ⊎-elim}
+use Rattle.words.specs.Words.{_≡_, refl, _∙_, sym, ap, ap₂, arith, List, _%_, _*_, _++_, _+_, _-_, _/_, _<_, _≤_, add-one, add-zero, bitXor, decLt}
+use Rattle.words.specs.Words.{ext-getD, getD, length, length-replicate, length-set, replicate, set, suc, zero, zero-add, ℕ, ⊎-elim}
 use native.Mathlib.Nat.{eq-or-lt-of-le}
 use lib.ListN.{getD-replicate}
-use lib.Seq.{getD-set-same}
+use lib.Seq.{getD-set-same, getD-set-other}
 use borrow.Author.Needs.{read-below}
 use Rattle.memory.proofs.Parts.{part-none, part-add, part-past, part-before, part-splice, splice-part, splice-next, length-part, length-splice, getD-part, whole}
 use Rattle.memory.specs.Number.{Bytes}
@@ -14,8 +14,13 @@ use Rattle.rows.specs.Named.{added, Listed, listOf, Room, listAdded, pai
 use Rattle.rows.specs.Rows.{addScaled, scaled}
 use Rattle.rows.specs.Sums.{combined, rowAt, rowsAdded}
 use Rattle.rows.proofs.Combinations.{length-combined, part-combined, sum-onto, combined-both}
-use Rattle.rows.proofs.Digits.{combined-shifted, combined-start, combined-end, higher-digit, lower-digit, pair-bit}
+use Rattle.rows.proofs.Digits.{combined-shifted, combined-end, higher-digit, lower-digit, pair-bit, combined-none}
 use Rattle.rows.proofs.Sums.{addScaled-zero, scaled-zeros, length-scaled}
+
+getD-zeros : (n i : ℕ) → getD {A = ℕ} (replicate n 0) i 0 ≡ 0
+getD-zeros zero i = refl
+getD-zeros (suc n) zero = refl
+getD-zeros (suc n) (suc i) = getD-zeros n i
 
 -- an element that is not among the first m changes nothing
 added-set : (row : ℕ → List ℕ) (l : List ℕ) (i x m : ℕ) (d : List ℕ) → m ≤ i → added row (set l i x) m d ≡ added row l m d
@@ -95,62 +100,92 @@ done-all r d n e f =
     let l : length (splice 0 r d) ≡ n = length-splice 0 r d (omega arith) ∙ f in
     ap (λ (x : List ℕ). splice 0 x d) (whole n r e) ∙ sym (whole n (splice 0 r d) l) ∙ ap (λ (x : ℕ). part 0 x (splice 0 r d)) (sym e) ∙ part-splice 0 r d (omega arith)
 
--- ---- the lists of all pairs
+-- ---- the lists of the pairs
+
+-- the first t lists are made, and the others have no rows
+pub record ListedFirst (cs lists counts : List ℕ) (t : ℕ) : Type 0 where
+  pub listed : (i : ℕ) → i < t → Listed (pairIs cs (i / 3 * 2) (i % 3 + 1)) (length cs) (getD counts i 0) (listOf lists i)
+  pub others : (i : ℕ) → t ≤ i → getD counts i 0 ≡ 0
+  pub all : length lists ≡ 768
+  pub twelve : length counts ≡ 12
+
+pub listed-first : (cs lists counts : List ℕ) → length lists ≡ 768 → counts ≡ replicate 12 0 → ListedFirst cs lists counts 0
+listed-first cs lists counts l e =
+    record {
+      listed = λ i h. absurd (omega arith);
+      others = λ i h. ap (λ (x : List ℕ). getD x i 0) e ∙ getD-zeros 12 i;
+      all = l;
+      twelve = ap length e;
+    }
 
 -- one more list
-pub listed-pair : (cs lists counts new : List ℕ) (t n : ℕ) → t < 12 → length lists ≡ 768 → length counts ≡ 12 → length new ≡ 64
-    → ((i : ℕ) → i < t → Listed (pairIs cs (i / 3 * 2) (i % 3 + 1)) (length cs) (getD counts i 0) (listOf lists i))
-    → Listed (pairIs cs (t / 3 * 2) (t % 3 + 1)) (length cs) n new
-    → (i : ℕ) → i < t + 1
-    → Listed (pairIs cs (i / 3 * 2) (i % 3 + 1)) (length cs) (getD (set counts t n) i 0) (listOf (splice (t * 64) new lists) i)
-listed-pair cs lists counts new t n lt ll lc ln old h i g =
-    ⊎-elim
-    (λ f.
-    let p : getD (set counts t n) i 0 ≡ n = ap (λ (x : ℕ). getD (set counts t n) x 0) f ∙ getD-set-same counts t n 0 (omega arith) in
-    let q : part (i * 64) 64 (splice (t * 64) new lists) ≡ new =
-    ap₂ (λ (x y : ℕ). part (x * 64) y (splice (t * 64) new lists)) f (sym ln) ∙ part-splice (t * 64) new lists (omega arith) in
-    rw (p, q, f) h)
-    (λ f.
-    let p : getD (set counts t n) i 0 ≡ getD counts i 0 = read-below ℕ counts t i n 0 (getD counts i 0) f refl in
-    let q : part (i * 64) 64 (splice (t * 64) new lists) ≡ part (i * 64) 64 lists =
-    part-before (i * 64) 64 (t * 64) new lists (omega arith) (omega arith) in
-    rw (p, q) (old i f))
-    (let le : i ≤ t = omega arith in eq-or-lt-of-le le)
+pub listed-pair : (cs lists counts new : List ℕ) (t n : ℕ) → t < 12 → length new ≡ 64 → ListedFirst cs lists counts t
+    → Listed (pairIs cs (t / 3 * 2) (t % 3 + 1)) (length cs) n new → ListedFirst cs (splice (t * 64) new lists) (set counts t n) (t + 1)
+listed-pair cs lists counts new t n lt ln old h =
+    let ll = old .all in
+    let lc = old .twelve in
+    record {
+      listed = λ i g.
+          ⊎-elim
+          (λ f.
+          let p : getD (set counts t n) i 0 ≡ n = ap (λ (x : ℕ). getD (set counts t n) x 0) f ∙ getD-set-same counts t n 0 (omega arith) in
+          let q : part (i * 64) 64 (splice (t * 64) new lists) ≡ new =
+          ap₂ (λ (x y : ℕ). part (x * 64) y (splice (t * 64) new lists)) f (sym ln) ∙ part-splice (t * 64) new lists (omega arith) in
+          rw (p, q, f) h)
+          (λ f.
+          let p : getD (set counts t n) i 0 ≡ getD counts i 0 = getD-set-other counts t i n 0 (λ q. omega arith) in
+          let q : part (i * 64) 64 (splice (t * 64) new lists) ≡ part (i * 64) 64 lists =
+          part-before (i * 64) 64 (t * 64) new lists (omega arith) (omega arith) in
+          rw (p, q) (old .listed i f))
+          (let le : i ≤ t = omega arith in eq-or-lt-of-le le);
+      others = λ i g. getD-set-other counts t i n 0 (λ q. omega arith) ∙ old .others i (omega arith);
+      all = length-splice (t * 64) new lists (omega arith) ∙ ll;
+      twelve = length-set counts t n ∙ lc;
+    }
 
 -- every row that is listed has room
-pub listed-room : (cs lists counts : List ℕ) (a s size : ℕ) → ListedPairs cs lists counts → length cs ≤ 64 → length lists ≡ 768 → length counts ≡ 12
+pub listed-room : (cs lists counts : List ℕ) (n a s size : ℕ) → ListedPairs cs lists counts n → length cs ≤ 64 → length lists ≡ 768 → length counts ≡ 12
     → ((k : ℕ) → k < length cs → a + k * s + 64 ≤ size) → Room lists counts a s size
-listed-room cs lists counts a s size h l ll lc fits =
+listed-room cs lists counts n a s size h l ll lc fits =
     record {
       all = ll;
       twelve = lc;
-      few = λ t g. omega (arith, h t g .few);
-      fits = λ t j g q. fits (getD (listOf lists t) j 0) (h t g .below j q);
+      few = λ t g. go t (decLt t (3 * n));
+      fits = λ t j g q. at t j q (decLt t (3 * n));
     }
+  where
+    go : (t : ℕ) → Dec (t < 3 * n) → getD counts t 0 ≤ 64
+    go t (yes g) = omega (arith, h .listed t g .few)
+    go t (no g) = omega (arith, h .others t (omega arith))
+
+    at : (t j : ℕ) → j < getD counts t 0 → Dec (t < 3 * n) → a + getD (listOf lists t) j 0 * s + 64 ≤ size
+    at t j q (yes g) = fits (getD (listOf lists t) j 0) (h .listed t g .below j q)
+    at t j q (no g) = absurd (omega (arith, h .others t (omega arith)))
 
 -- a pair more is added
-pub pairs-turn : (row : ℕ → List ℕ) (lists counts : List ℕ) (j : ℕ) (d₀ d r : List ℕ) → d ≡ pairsAdded row lists counts j d₀
-    → r ≡ pairAdded row lists counts (3 - j) d → r ≡ pairsAdded row lists counts (j + 1) d₀
+pub pairs-turn : (row : ℕ → List ℕ) (lists counts : List ℕ) (n j : ℕ) (d₀ d r : List ℕ) → d ≡ pairsAdded row lists counts n j d₀
+    → r ≡ pairAdded row lists counts (n - 1 - j) d → r ≡ pairsAdded row lists counts n (j + 1) d₀
 unfolding pairsAdded
-pairs-turn row lists counts j d₀ d r p e = rw (e, p, add-one)
+pairs-turn row lists counts n j d₀ d r p e = rw (e, p, add-one)
 
 -- from no row on, the lists of the pairs sum up to the combination
-module _ (row : ℕ → List ℕ) (cs lists counts : List ℕ) (long : (k : ℕ) → k < length cs → 64 ≤ length (row k))
-    (listed : ListedPairs cs lists counts) (bytes : Bytes cs) where
+module _ (row : ℕ → List ℕ) (cs lists counts : List ℕ) (m : ℕ) (long : (k : ℕ) → k < length cs → 64 ≤ length (row k))
+    (pairs : ListedPairs cs lists counts m) where
   -- the rows of the list of one digit of pair p alone, added to those with both, are the rows with that digit
-  digit-added : (t u e : ℕ) → t < 12 → u < 12 → ((k : ℕ) → bitXor (pairIs cs (t / 3 * 2) (t % 3 + 1) k) (pairIs cs (u / 3 * 2) (u % 3 + 1) k) ≡ digit cs e k)
+  digit-added : (t u e : ℕ) → t < 3 * m → u < 3 * m
+      → ((k : ℕ) → bitXor (pairIs cs (t / 3 * 2) (t % 3 + 1) k) (pairIs cs (u / 3 * 2) (u % 3 + 1) k) ≡ digit cs e k)
       → (d : List ℕ) → length d ≡ 64
       → listAdded row lists counts t (addScaled 1 d (listAdded row lists counts u (replicate 64 0))) ≡ combined (digit cs e) row (length cs) d
   digit-added t u e ht hu same d l =
       let n : ℕ = length cs in
       let c : ℕ → ℕ = pairIs cs (u / 3 * 2) (u % 3 + 1) in
-      listed t ht .sums row (addScaled 1 d (listAdded row lists counts u (replicate 64 0)))
+      pairs .listed t ht .sums row (addScaled 1 d (listAdded row lists counts u (replicate 64 0)))
       ∙ ap (combined (pairIs cs (t / 3 * 2) (t % 3 + 1)) row n)
-      (ap (addScaled 1 d) (listed u hu .sums row (replicate 64 0) ∙ ap (λ (x : ℕ). combined c row n (replicate x 0)) (sym l))
+      (ap (addScaled 1 d) (pairs .listed u hu .sums row (replicate 64 0) ∙ ap (λ (x : ℕ). combined c row n (replicate x 0)) (sym l))
       ∙ sum-onto c (λ k. omega (arith, pair-bit cs (u / 3 * 2) (u % 3 + 1) k)) row n d)
       ∙ combined-both row 64 (pairIs cs (t / 3 * 2) (t % 3 + 1)) c (digit cs e) n long same d l
 
-  pair-shifted : (p : ℕ) → p < 4 → (d : List ℕ) → length d ≡ 64
+  pair-shifted : (p : ℕ) → p < m → (d : List ℕ) → length d ≡ 64
       → pairAdded row lists counts p (combined (shifted cs (2 * p + 2)) row (length cs) d)
       ≡ combined (shifted cs (2 * p)) row (length cs) (scaled 2 (scaled 2 d))
   unfolding pairAdded
@@ -172,22 +207,28 @@ module _ (row : ℕ → List ℕ) (cs lists counts : List ℕ) (long : (k : ℕ)
       ∙ ap (λ (x : List ℕ). combined (digit cs (2 * p)) row n (scaled 2 x)) next
       ∙ combined-shifted row 64 n long cs (2 * p) (scaled 2 d) (length-scaled 2 d ∙ l)
 
-  pairs-shifted : (j : ℕ) → j ≤ 4
-      → pairsAdded row lists counts j (replicate 64 0) ≡ combined (shifted cs (8 - 2 * j)) row (length cs) (replicate 64 0)
+  pairs-shifted : (j : ℕ) → j ≤ m
+      → pairsAdded row lists counts m j (replicate 64 0) ≡ combined (shifted cs (2 * m - 2 * j)) row (length cs) (replicate 64 0)
   unfolding pairsAdded
-  pairs-shifted zero g = sym (combined-start row cs (length cs) (replicate 64 0) bytes)
+  pairs-shifted zero g =
+      let e : 2 * m ≡ 2 * m - 2 * 0 = omega arith in
+      rw (sym e) (sym (combined-none row (shifted cs (2 * m)) (length cs) (replicate 64 0) (pairs .above)))
   pairs-shifted (suc j) g =
       let z : List ℕ = replicate 64 0 in
       let n : ℕ = length cs in
-      let e : 8 - 2 * j ≡ 2 * (3 - j) + 2 = omega arith in
-      let f : 2 * (3 - j) ≡ 8 - 2 * suc j = omega arith in
-      ap (pairAdded row lists counts (3 - j)) (pairs-shifted j (omega arith) ∙ ap (λ (y : ℕ). combined (shifted cs y) row n z) e)
-      ∙ pair-shifted (3 - j) (omega arith) z (length-replicate {A = ℕ} 64 0)
-      ∙ ap (combined (shifted cs (2 * (3 - j))) row n) (ap (scaled 2) (scaled-zeros 2 64) ∙ scaled-zeros 2 64)
+      let p : ℕ = m - 1 - j in
+      let e : 2 * m - 2 * j ≡ 2 * p + 2 = omega arith in
+      let f : 2 * p ≡ 2 * m - 2 * suc j = omega arith in
+      ap (pairAdded row lists counts p) (pairs-shifted j (omega arith) ∙ ap (λ (y : ℕ). combined (shifted cs y) row n z) e)
+      ∙ pair-shifted p (omega arith) z (length-replicate {A = ℕ} 64 0)
+      ∙ ap (combined (shifted cs (2 * p)) row n) (ap (scaled 2) (scaled-zeros 2 64) ∙ scaled-zeros 2 64)
       ∙ ap (λ (y : ℕ). combined (shifted cs y) row n z) f
 
-  pub pairs-sum : pairsAdded row lists counts 4 (replicate 64 0) ≡ combined (coefficient cs) row (length cs) (replicate 64 0)
-  pairs-sum = pairs-shifted 4 (omega arith) ∙ combined-end row cs (length cs) (replicate 64 0)
+  pub pairs-sum : pairsAdded row lists counts m m (replicate 64 0) ≡ combined (coefficient cs) row (length cs) (replicate 64 0)
+  pairs-sum =
+      let e : 2 * m - 2 * m ≡ 0 = omega arith in
+      pairs-shifted m (omega arith) ∙ ap (λ (y : ℕ). combined (shifted cs y) row (length cs) (replicate 64 0)) e
+      ∙ combined-end row cs (length cs) (replicate 64 0)
 
 part-zeros : (a n : ℕ) → part a n (replicate (a + n) 0) ≡ replicate n 0
 part-zeros a n =

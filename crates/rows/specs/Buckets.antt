@@ -1,6 +1,5 @@
 -- Contracts of inner functions: a reader need not believe these. Rows in buckets by the halves of their coefficients.
 use Rattle.words.specs.Words.{_≡_, List, Bool, true, false, _*_, _++_, _+_, _<_, _≤_, getD, length, ℕ}
-use Rattle.memory.specs.Number.{Bytes}
 use Rattle.rows.specs.Combination.{dot, coefficient, tabulate}
 use Rattle.rows.specs.Named.{ListedPairs}
 use Rattle.rows.specs.Sorted.{SortedHalves}
@@ -40,10 +39,9 @@ mostRows Lists = 64
 mostRows Buckets = 255
 mostRows SortedBuckets = 255
 
--- the lists are made and, where it is needed, the order
-pub record Prepared (way : Way) (cs lists counts order ends : List ℕ) : Type 0 where
-  pub listed : ListedPairs (listedFor way cs) lists counts
-  pub bytes : Bytes (listedFor way cs)
+-- the lists of n pairs are made and, where it is needed, the order
+pub record Prepared (way : Way) (cs lists counts order ends : List ℕ) (n : ℕ) : Type 0 where
+  pub listed : ListedPairs (listedFor way cs) lists counts n
   pub sorted : sorts way ≡ true → SortedHalves cs order ends
 
 -- the order, where it is needed, and every row has room: 64 bytes in a memory of `size` bytes
@@ -55,9 +53,8 @@ pub record Placed (way : Way) (cs order ends : List ℕ) (a s size : ℕ) : Type
   pub fits : (k : ℕ) → k < length cs → a + k * s + 64 ≤ size
 
 -- all is ready for strips
-pub record Ready (way : Way) (cs lists counts order ends : List ℕ) (a s size : ℕ) : Type 0 where
-  pub listed : ListedPairs (listedFor way cs) lists counts
-  pub bytes : Bytes (listedFor way cs)
+pub record Ready (way : Way) (cs lists counts order ends : List ℕ) (n a s size : ℕ) : Type 0 where
+  pub listed : ListedPairs (listedFor way cs) lists counts n
   pub short : length (listedFor way cs) ≤ 64
   pub all : length lists ≡ 768
   pub twelve : length counts ≡ 12

@@ -1,7 +1,7 @@
 -- Contracts of inner functions: a reader need not believe these. Rows that a list names are added one after the other.
 use Rattle.words.specs.Words.{_≡_, List, _%_, _*_, _+_, _-_, _/_, _<_, _≤_, getD, length, replicate, suc, zero, ℕ}
 use Rattle.memory.specs.Part.{part}
-use Rattle.rows.specs.Digits.{pairIs}
+use Rattle.rows.specs.Digits.{shifted, pairIs}
 use Rattle.rows.specs.Rows.{addScaled, scaled}
 use Rattle.rows.specs.Sums.{combined}
 
@@ -20,9 +20,13 @@ pub record Listed (c : ℕ → ℕ) (k n : ℕ) (l : List ℕ) : Type 0 where
 abbrev pub listOf : List ℕ → ℕ → List ℕ
 listOf lists t = part (t * 64) 64 lists
 
--- list t names the rows in whose coefficients pair t / 3 is t % 3 + 1: the lower digit alone, the higher alone, both
-abbrev pub ListedPairs : (cs lists counts : List ℕ) → Type 0
-ListedPairs cs lists counts = (t : ℕ) → t < 12 → Listed (pairIs cs (t / 3 * 2) (t % 3 + 1)) (length cs) (getD counts t 0) (listOf lists t)
+-- the n lowest pairs have all digits of the coefficients, and list t names the rows in whose coefficients pair t / 3 is t % 3 + 1: the lower digit
+-- alone, the higher alone, both
+pub record ListedPairs (cs lists counts : List ℕ) (n : ℕ) : Type 0 where
+  pub most : n ≤ 4
+  pub above : (k : ℕ) → shifted cs (2 * n) k ≡ 0
+  pub listed : (t : ℕ) → t < 3 * n → Listed (pairIs cs (t / 3 * 2) (t % 3 + 1)) (length cs) (getD counts t 0) (listOf lists t)
+  pub others : (t : ℕ) → 3 * n ≤ t → getD counts t 0 ≡ 0
 
 -- twelve lists, and every row that one of them names has room: 64 bytes in a memory of `size` bytes
 pub record Room (lists counts : List ℕ) (a s size : ℕ) : Type 0 where
@@ -45,7 +49,7 @@ pairAdded row lists counts p d =
     let both = listAdded row lists counts (3 * p + 2) (replicate 64 0) in
     digitAdded row lists counts (3 * p) both (digitAdded row lists counts (3 * p + 1) both d)
 
--- the j highest pairs
-unfoldable pub pairsAdded : (row : ℕ → List ℕ) (lists counts : List ℕ) (j : ℕ) → List ℕ → List ℕ
-pairsAdded row lists counts zero d = d
-pairsAdded row lists counts (suc j) d = pairAdded row lists counts (3 - j) (pairsAdded row lists counts j d)
+-- the j highest of n pairs
+unfoldable pub pairsAdded : (row : ℕ → List ℕ) (lists counts : List ℕ) (n j : ℕ) → List ℕ → List ℕ
+pairsAdded row lists counts n zero d = d
+pairsAdded row lists counts n (suc j) d = pairAdded row lists counts (n - 1 - j) (pairsAdded row lists counts n j d)

@@ -1,12 +1,11 @@
 // The sum of rows, each times a coefficient, by lists. The eight binary digits of a coefficient are four pairs; for each pair there are three
 // lists, of the rows whose coefficients have its lower digit alone, its higher digit alone, and both. From the highest pair to the lowest the sum
 // so far is doubled twice, and the rows of the lists are added, in strips of 64 bytes, each of which stays in registers.
-ghost use Rattle.words.specs.Words.{_≡_, ℕ, _≤_, _+_, _-_, length, _<_, replicate, getD};
-ghost use Rattle.memory.specs.Number.{Bytes};
+ghost use Rattle.words.specs.Words.{_≡_, ℕ, _≤_, _+_, _-_, _*_, length, _<_, replicate, getD};
 ghost use Rattle.memory.specs.Part.{part};
 ghost use Rattle.rows.specs.Rows.{addScaled, scaled};
 ghost use Rattle.rows.specs.Sums.{rowAt};
-ghost use Rattle.rows.specs.Digits.{is, pairOf, pairIs};
+ghost use Rattle.rows.specs.Digits.{shifted, is, pairOf, pairIs};
 ghost use Rattle.rows.specs.Named.{added, Listed, listOf, ListedPairs, Room, digitAdded, pairAdded, pairsAdded};
 use field::Gf256;
 
@@ -31,12 +30,25 @@ fn rows_with(list: &mut [u8], cs: &[u8], e: u32, v: u8) -> usize
     n
 }
 
-// The lists of all pairs, 64 elements each, and how many rows each has.
-pub fn list_pairs(lists: &mut [u8], counts: &mut [usize], cs: &[u8])
-    requires { ⌜ (length (now lists) ≡ 768) × (length (now counts) ≡ 12) × (length (now cs) ≤ 64) ⌝ }
-    ensures { λ _. ⌜ ListedPairs (now (cs .entry)) (now (lists .exit)) (now (counts .exit)) × Bytes (now (cs .entry)) ⌝ }
+// How many of the lowest pairs have all digits of the coefficients: one, as where all are 0 or 1, or all four.
+fn pairs_of(cs: &[u8]) -> usize
+    ensures { λ n. ⌜ (n ≤ 4) × ((k : ℕ) → shifted (now (cs .entry)) (2 * n) k ≡ 0) ⌝ }
 {
-    for t in 0..12usize {
+    for k in 0..cs.len() {
+        if 4 <= cs[k] {
+            return 4;
+        }
+    }
+    1
+}
+
+// The lists of the pairs, 64 elements each, and how many rows each has: none at first. Gives how many pairs there are.
+pub fn list_pairs(lists: &mut [u8], counts: &mut [usize], cs: &[u8]) -> usize
+    requires { ⌜ (length (now lists) ≡ 768) × (now counts ≡ replicate 12 0) × (length (now cs) ≤ 64) ⌝ }
+    ensures { λ n. ⌜ ListedPairs (now (cs .entry)) (now (lists .exit)) (now (counts .exit)) n ⌝ }
+{
+    let pairs = pairs_of(cs);
+    for t in 0..3 * pairs {
         let at = t * 64;
         let n = rows_with(
             &mut lists[at..at + 64],
@@ -46,6 +58,7 @@ pub fn list_pairs(lists: &mut [u8], counts: &mut [usize], cs: &[u8])
         );
         counts[t] = n;
     }
+    pairs
 }
 
 // acc, of 64 bytes, becomes 2 * acc.
@@ -130,24 +143,41 @@ fn add_pair(
     add_digit(acc, &both, lists, counts, 3 * p, mem, a, s);
 }
 
-// From the highest pair to the lowest.
-fn add_pairs(acc: &mut [u8], lists: &[u8], counts: &[usize], mem: &[u8], a: usize, s: usize)
-    requires { ⌜ (length (now acc) ≡ 64) × Room (now lists) (now counts) a s (length (now mem)) ⌝ }
+// From the highest of the pairs to the lowest.
+fn add_pairs(
+    acc: &mut [u8],
+    lists: &[u8],
+    counts: &[usize],
+    pairs: usize,
+    mem: &[u8],
+    a: usize,
+    s: usize,
+)
+    requires { ⌜ (length (now acc) ≡ 64) × (pairs ≤ 4) × Room (now lists) (now counts) a s (length (now mem)) ⌝ }
     ensures { λ _. ⌜ now (acc .exit)
-        ≡ pairsAdded (rowAt (now (mem .entry)) a s 64) (now (lists .entry)) (now (counts .entry)) 4 (now (acc .entry)) ⌝ }
+        ≡ pairsAdded (rowAt (now (mem .entry)) a s 64) (now (lists .entry)) (now (counts .entry)) pairs pairs (now (acc .entry)) ⌝ }
 {
-    for j in 0..4usize {
-        add_pair(acc, lists, counts, 3 - j, mem, a, s);
+    for j in 0..pairs {
+        add_pair(acc, lists, counts, pairs - 1 - j, mem, a, s);
     }
 }
 
 // Adds to dst, of 64 bytes, what the lists sum up to: 64 bytes of each row, the first row's from a on.
-pub fn add_sum(dst: &mut [u8], lists: &[u8], counts: &[usize], mem: &[u8], a: usize, s: usize)
-    requires { ⌜ (length (now dst) ≡ 64) × Room (now lists) (now counts) a s (length (now mem)) ⌝ }
+pub fn add_sum(
+    dst: &mut [u8],
+    lists: &[u8],
+    counts: &[usize],
+    pairs: usize,
+    mem: &[u8],
+    a: usize,
+    s: usize,
+)
+    requires { ⌜ (length (now dst) ≡ 64) × (pairs ≤ 4) × Room (now lists) (now counts) a s (length (now mem)) ⌝ }
     ensures { λ _. ⌜ now (dst .exit)
-        ≡ addScaled 1 (now (dst .entry)) (pairsAdded (rowAt (now (mem .entry)) a s 64) (now (lists .entry)) (now (counts .entry)) 4 (replicate 64 0)) ⌝ }
+        ≡ addScaled 1 (now (dst .entry))
+        (pairsAdded (rowAt (now (mem .entry)) a s 64) (now (lists .entry)) (now (counts .entry)) pairs pairs (replicate 64 0)) ⌝ }
 {
     let mut acc = [0u8; 64];
-    add_pairs(&mut acc, lists, counts, mem, a, s);
+    add_pairs(&mut acc, lists, counts, pairs, mem, a, s);
     add_strip(dst, &acc, 0);
 }

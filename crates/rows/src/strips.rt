@@ -23,6 +23,7 @@ fn in_buckets(way: Way) -> bool
 }
 
 // Lists the pairs of digits of the coefficients or, where rows go into buckets, of the buckets' weights; and sorts the rows where that is needed.
+// Gives how many pairs are listed.
 fn prepare(
     lists: &mut [u8],
     counts: &mut [usize],
@@ -30,23 +31,19 @@ fn prepare(
     ends: &mut [u8],
     cs: &[u8],
     way: Way,
-)
-    requires { ⌜ (length (now lists) ≡ 768) × (length (now counts) ≡ 12) × (length (now order) ≡ 510) × (length (now ends) ≡ 32)
+) -> usize
+    requires { ⌜ (length (now lists) ≡ 768) × (now counts ≡ replicate 12 0) × (length (now order) ≡ 510) × (length (now ends) ≡ 32)
         × (length (now cs) ≤ mostRows way) ⌝ }
-    ensures { λ _. ⌜ Prepared way (now (cs .entry)) (now (lists .exit)) (now (counts .exit)) (now (order .exit)) (now (ends .exit)) ⌝ }
+    ensures { λ n. ⌜ Prepared way (now (cs .entry)) (now (lists .exit)) (now (counts .exit)) (now (order .exit)) (now (ends .exit)) n ⌝ }
 {
     let weights = super::buckets::WEIGHTS;
     match way {
-        Way::Lists => {
-            super::lists::list_pairs(lists, counts, cs);
-        }
-        Way::Buckets => {
-            super::lists::list_pairs(lists, counts, &weights);
-        }
+        Way::Lists => super::lists::list_pairs(lists, counts, cs),
+        Way::Buckets => super::lists::list_pairs(lists, counts, &weights),
         Way::SortedBuckets => {
             let mut classes = [0u8; 255];
-            super::lists::list_pairs(lists, counts, &weights);
             super::sorted::sort(order, ends, &mut classes, cs);
+            super::lists::list_pairs(lists, counts, &weights)
         }
     }
 }
@@ -79,6 +76,7 @@ fn add_strip(
     way: Way,
     lists: &[u8],
     counts: &[usize],
+    pairs: usize,
     order: &[u8],
     ends: &[u8],
     cs: &[u8],
@@ -86,16 +84,16 @@ fn add_strip(
     a: usize,
     s: usize,
 )
-    requires { ⌜ (length (now dst) ≡ 64) × Ready way (now cs) (now lists) (now counts) (now order) (now ends) a s (length (now mem)) ⌝ }
+    requires { ⌜ (length (now dst) ≡ 64) × Ready way (now cs) (now lists) (now counts) (now order) (now ends) pairs a s (length (now mem)) ⌝ }
     ensures { λ _. ⌜ now (dst .exit) ≡ rowsAdded (now (cs .entry)) (now (mem .entry)) a s 64 (now (dst .entry)) ⌝ }
 {
     if !in_buckets(way) {
-        super::lists::add_sum(dst, lists, counts, mem, a, s);
+        super::lists::add_sum(dst, lists, counts, pairs, mem, a, s);
         return;
     }
     let mut buckets = [0u8; 2048];
     fill(&mut buckets, way, order, ends, cs, mem, a, s);
-    super::lists::add_sum(dst, lists, counts, &buckets, 0, 64);
+    super::lists::add_sum(dst, lists, counts, pairs, &buckets, 0, 64);
 }
 
 // Adds to dst the rows of mem, row k times cs[k], in strips. The last one starts early enough to be whole, before the row if need be, and of it only
@@ -111,7 +109,7 @@ pub fn add_rows(dst: &mut [u8], cs: &[u8], mem: &[u8], a: usize, s: usize, way: 
     let mut order = [0u8; 510];
     let mut ends = [0u8; 32];
     let end = dst.len();
-    prepare(&mut lists, &mut counts, &mut order, &mut ends, cs, way);
+    let pairs = prepare(&mut lists, &mut counts, &mut order, &mut ends, cs, way);
     let mut at: usize = 0;
     while 64 <= end - at {
         add_strip(
@@ -119,6 +117,7 @@ pub fn add_rows(dst: &mut [u8], cs: &[u8], mem: &[u8], a: usize, s: usize, way: 
             way,
             &lists,
             &counts,
+            pairs,
             &order,
             &ends,
             cs,
@@ -139,6 +138,7 @@ pub fn add_rows(dst: &mut [u8], cs: &[u8], mem: &[u8], a: usize, s: usize, way: 
         way,
         &lists,
         &counts,
+        pairs,
         &order,
         &ends,
         cs,

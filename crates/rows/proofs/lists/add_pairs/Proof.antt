@@ -1,4 +1,4 @@
--- `rows::lists::add_pairs` meets its contract. The loop: the j highest pairs have been added.
+-- `rows::lists::add_pairs` meets its contract. The loop: the j highest of the pairs have been added.
 use Rattle.words.specs.Words.{_≡_, refl, arith, _≤_, _-_, length, needs}
 use Rattle.rows.specs.Sums.{rowAt}
 use Rattle.rows.specs.Named.{pairsAdded}
@@ -7,31 +7,32 @@ use Rattle.rows.proofs.lists.add_pairs.Statement.{statement}
 use Rattle.rows.proofs.lists.add_pairs.Tie as tie
 
 abbrev Inv-loop : tie.InvT-loop
-Inv-loop acc₀ lists counts mem a s j₀ acc j = (j ≤ 4) × (acc ≡ pairsAdded (rowAt mem a s 64) lists counts j acc₀) × (length acc ≡ 64)
+Inv-loop acc₀ lists counts pairs mem a s j₀ acc j =
+    (j ≤ pairs) × (acc ≡ pairsAdded (rowAt mem a s 64) lists counts pairs j acc₀) × (length acc ≡ 64)
 
 abbrev μ-loop : tie.MeasureT-loop
-μ-loop acc₀ lists counts mem a s j₀ acc j = 4 - j
+μ-loop acc₀ lists counts pairs mem a s j₀ acc j = pairs - j
 
 loop-holds : tie.Need-loop-holds Inv-loop μ-loop
 unfolding pairsAdded
 loop-holds c = (omega arith, refl, c .before .before .before .before .pre .0)
 
 add-pair-requires : tie.Need-add-pair-requires Inv-loop μ-loop
-add-pair-requires c κs = (c .before .before .loop .inv .2, omega arith, c .before .before .before .before .before .before .before .pre .1)
+add-pair-requires c κs = (c .before .before .loop .inv .2, omega arith, c .before .before .before .before .before .before .before .pre .2)
 
 loop-again : tie.Need-loop-again Inv-loop μ-loop
 loop-again c =
     let a = c .before .before .before .before .before .before .before .before .before .before .args in
     let t = c .before .before .before .before .before .loop in (
       search needs,
-      pairs-turn (rowAt (a .mem .now) (a .a) (a .s) 64) (a .lists .now) (a .counts .now) (t .j) (a .acc .now) (t .acc) _ (t .inv .1)
+      pairs-turn (rowAt (a .mem .now) (a .a) (a .s) 64) (a .lists .now) (a .counts .now) (a .pairs) (t .j) (a .acc .now) (t .acc) _ (t .inv .1)
           (c .before .before .add-pair .ensures),
       search needs,
     )
 
 returns : tie.Need-returns Inv-loop μ-loop
 returns c =
-    let e : c .before .loop .j ≡ 4 = omega arith in
+    let e : c .before .loop .j ≡ c .before .before .before .before .before .before .args .pairs = omega arith in
     rw e at (c .before .loop .inv .1)
 
 pub add-pairs-spec : {M : Type 1} → statement M
@@ -41,6 +42,7 @@ add-pairs-spec =
     Inv-loop
     μ-loop
     loop-holds
+    (λ c. search needs)
     (λ c. search needs)
     add-pair-requires
     (λ c. search needs)

@@ -12,11 +12,11 @@ use Rattle.rows.proofs.strips.add_rows.Statement.{statement}
 use Rattle.rows.proofs.strips.add_rows.Tie as tie
 
 abbrev Inv-loop : tie.InvT-loop
-Inv-loop dst₀ cs mem a s way lists counts order ends end at₀ dst at =
+Inv-loop dst₀ cs mem a s way lists counts order ends end pairs at₀ dst at =
     (at ≤ length dst₀) × (dst ≡ done (rowsAdded cs mem a s (length dst₀) dst₀) dst₀ at) × (length dst ≡ length dst₀)
 
 abbrev μ-loop : tie.MeasureT-loop
-μ-loop dst₀ cs mem a s way lists counts order ends end at₀ dst at = end - at
+μ-loop dst₀ cs mem a s way lists counts order ends end pairs at₀ dst at = end - at
 
 prepare-requires : tie.Need-prepare-requires Inv-loop μ-loop
 prepare-requires c κs = (refl, refl, refl, refl, c .before .before .before .before .before .before .before .pre .2)

@@ -20,7 +20,8 @@ add-sum-requires c κs =
     let r = s .pre .1 in
     let e : listedFor (a .way) (a .cs .now) ≡ a .cs .now = listed-own (a .way) (a .cs .now) (sym (c .before .before .in-buckets .ensures) ∙ not-true _ (c .before .if1 .taken)) in (
       s .pre .0,
-      listed-room (a .cs .now) (a .lists .now) (a .counts .now) (a .a) (a .s) (length (a .mem .now)) (rw e at (r .listed)) (rw e at (r .short)) (r .all)
+      r .listed .most,
+      listed-room (a .cs .now) (a .lists .now) (a .counts .now) (a .pairs) (a .a) (a .s) (length (a .mem .now)) (rw e at (r .listed)) (rw e at (r .short)) (r .all)
           (r .twelve) (r .placed .fits),
     )
 
@@ -35,8 +36,8 @@ returns c =
     let row = rowAt (a .mem .now) (a .a) (a .s) 64 in
     c .before .before .add-sum .ensures
     ∙ ap (addScaled 1 (a .dst .now))
-    (pairs-sum row (a .cs .now) (a .lists .now) (a .counts .now)
-    (λ k g. omega (arith, length-part (a .a + k * a .s) 64 (a .mem .now) (r .placed .fits k g))) (rw e at (r .listed)) (rw e at (r .bytes))
+    (pairs-sum row (a .cs .now) (a .lists .now) (a .counts .now) (a .pairs)
+    (λ k g. omega (arith, length-part (a .a + k * a .s) 64 (a .mem .now) (r .placed .fits k g))) (rw e at (r .listed))
     ∙ ap (λ (n : ℕ). combined (coefficient (a .cs .now)) row (length (a .cs .now)) (replicate n 0)) (sym (s .pre .0)))
     ∙ sum-onto (coefficient (a .cs .now)) bytes row (length (a .cs .now)) (a .dst .now)
 
@@ -49,7 +50,8 @@ add-sum-requires-2 c κs =
     let f = c .before .before .before .fill in
     let lb = f .ensures .0 in (
       s .pre .0,
-      listed-room weights (a .lists .now) (a .counts .now) 0 64 (length (f .last .0)) (rw e at (r .listed)) (rw e at (r .short)) (r .all) (r .twelve)
+      r .listed .most,
+      listed-room weights (a .lists .now) (a .counts .now) (a .pairs) 0 64 (length (f .last .0)) (rw e at (r .listed)) (rw e at (r .short)) (r .all) (r .twelve)
           (λ k g. omega (arith, length-weights)),
     )
 
@@ -64,7 +66,7 @@ returns-2 c =
     let row = rowAt (a .mem .now) (a .a) (a .s) 64 in
     c .before .before .add-sum2 .ensures
     ∙ ap (addScaled 1 (a .dst .now))
-    (buckets-sum (a .cs .now) (a .mem .now) (a .lists .now) (a .counts .now) (a .a) (a .s) (f .last .0) (rw e at (r .listed)) (rw e at (r .bytes))
+    (buckets-sum (a .cs .now) (a .mem .now) (a .lists .now) (a .counts .now) (a .pairs) (a .a) (a .s) (f .last .0) (rw e at (r .listed))
     (f .ensures .0) (r .placed .fits) (f .ensures .1)
     ∙ ap (λ (n : ℕ). combined (coefficient (a .cs .now)) row (length (a .cs .now)) (replicate n 0)) (sym (s .pre .0)))
     ∙ sum-onto (coefficient (a .cs .now)) bytes row (length (a .cs .now)) (a .dst .now)

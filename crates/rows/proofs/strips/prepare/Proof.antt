@@ -1,6 +1,6 @@
 -- `rows::strips::prepare` meets its contract.
 use Rattle.words.specs.Words.{refl, subst, arith, _≤_, length, needs}
-use Rattle.rows.specs.Buckets.{weights, mostRows, Prepared}
+use Rattle.rows.specs.Buckets.{weights, mostRows}
 use Rattle.rows.proofs.Filling.{most-few, prepared-lists, prepared-buckets, prepared-sorted}
 use Rattle.rows.proofs.strips.prepare.Statement.{statement}
 use Rattle.rows.proofs.strips.prepare.Tie as tie
@@ -13,25 +13,19 @@ list-pairs-requires c κs =
 
 sort-requires : tie.Need-sort-requires
 sort-requires c κs =
-    let s = c .before .before .before .before .before .before .before .before .before .before .before .before .before .before .before .before .before .before in
+    let s = c .before .before .before .before .before .before .before .before .before .before in
     (s .pre .2, s .pre .3, refl, omega (arith, s .pre .4, most-few (s .args .way)))
 
 returns : tie.Need-returns
-returns c =
-    let r = c .before .before .before .before .list-pairs .ensures in
-    rw (c .before .before .before .before .before .before .before .enum-told .given .1) (prepared-lists (r .0) (r .1))
+returns c = rw (c .before .before .before .before .before .before .before .enum-told .given .1) (prepared-lists (c .before .before .before .before .list-pairs .ensures))
 
 returns-2 : tie.Need-returns-2
 unfolding weights
-returns-2 c =
-    let r = c .before .before .before .before .list-pairs2 .ensures in
-    rw (c .before .before .before .before .before .before .before .before .enum-told2 .given .1) (prepared-buckets (r .0) (r .1))
+returns-2 c = rw (c .before .before .before .before .before .before .before .before .enum-told2 .given .1) (prepared-buckets (c .before .before .before .before .list-pairs2 .ensures))
 
 returns-3 : tie.Need-returns-3
 unfolding weights
-returns-3 c =
-    let r = c .before .before .before .before .before .before .before .before .before .before .before .before .before .list-pairs3 .ensures in
-    rw (c .before .before .before .before .before .before .before .before .before .before .before .before .before .before .before .before .before .enum-told3 .given .1) (prepared-sorted (r .0) (r .1) (c .before .before .before .before .before .sort .ensures))
+returns-3 c = rw (c .before .before .before .before .before .before .before .before .before .before .before .before .before .before .before .before .before .enum-told3 .given .1) (prepared-sorted (c .before .before .before .before .list-pairs3 .ensures) (c .before .before .before .before .before .before .before .before .before .before .before .before .before .sort .ensures))
 
 pub prepare-spec : {M : Type 1} → statement M
 prepare-spec =
@@ -44,9 +38,9 @@ prepare-spec =
     (λ c κs. search needs)
     (λ c. search needs)
     (λ c. search needs)
-    (λ c κs. search needs)
-    (λ c. search needs)
     sort-requires
+    (λ c. search needs)
+    (λ c κs. search needs)
     (λ c. search needs)
     (λ c. search needs)
     returns
