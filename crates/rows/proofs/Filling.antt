@@ -26,22 +26,25 @@ use Rattle.rows.proofs.Sums.{length-addScaled, getD-addScaled}
 
 -- ---- the weights
 
-pub weight-low : (v : ℕ) → v < 16 → coefficient weights v ≡ v
+weight-low : (v : ℕ) → v < 16 → coefficient weights v ≡ v
 unfolding weights
 weight-low v h = List·getD-append (tabulate (λ v. v) 16) (tabulate (λ v. v * 16) 16) 0 v h ∙ getD-tabulate (λ v. v) 16 v h
 
-pub weight-high : (v : ℕ) → v < 16 → coefficient weights (16 + v) ≡ v * 16
+weight-high : (v : ℕ) → v < 16 → coefficient weights (16 + v) ≡ v * 16
 unfolding weights
 weight-high v h = getD-append-add (tabulate (λ v. v) 16) (tabulate (λ v. v * 16) 16) v 0 ∙ getD-tabulate (λ v. v * 16) 16 v h
+
+-- the weights of the halves of c sum up to c
+pub weights-join : (c : ℕ) → c < 256 → bitXor (coefficient weights (c % 16)) (coefficient weights (16 + c / 16)) ≡ c
+weights-join c h =
+    let low : c % 16 < 16 = mod-lt c (omega arith) in
+    rw (weight-low (c % 16) low, weight-high (c / 16) (omega arith))
+    (xor-comm (c % 16) (c / 16 * 16) ∙ xor-shifted (c / 16) 4 (c % 16) low ∙ div-add-mod' c 16)
 
 -- c y = (the low half of c) y + (16 times the high half of c) y
 halves : (c y : ℕ) → c < 256 → bitXor (product (coefficient weights (c % 16)) y) (product (coefficient weights (16 + c / 16)) y) ≡ product c y
 halves c y h =
-    let low : c % 16 < 16 = mod-lt c (omega arith) in
-    let high : c / 16 < 16 = omega arith in
-    let join : bitXor (c % 16) (c / 16 * 16) ≡ c = xor-comm (c % 16) (c / 16 * 16) ∙ xor-shifted (c / 16) 4 (c % 16) low ∙ div-add-mod' c 16 in
-    ap₂ (λ (u v : ℕ). bitXor (product u y) (product v y)) (weight-low (c % 16) low) (weight-high (c / 16) high)
-    ∙ sym (product-sum (c % 16) (c / 16 * 16) y) ∙ ap (λ (x : ℕ). product x y) join
+    sym (product-sum (coefficient weights (c % 16)) (coefficient weights (16 + c / 16)) y) ∙ ap (λ (x : ℕ). product x y) (weights-join c h)
 
 pub length-weights : length weights ≡ 32
 unfolding weights

@@ -22,13 +22,14 @@ getD-zeros zero i = refl
 getD-zeros (suc n) zero = refl
 getD-zeros (suc n) (suc i) = getD-zeros n i
 
--- an element that is not among the first m changes nothing
-added-set : (row : ℕ → List ℕ) (l : List ℕ) (i x m : ℕ) (d : List ℕ) → m ≤ i → added row (set l i x) m d ≡ added row l m d
+-- the first n elements of the list alone count
+pub added-same : (row : ℕ → List ℕ) (l k : List ℕ) (n : ℕ) (d : List ℕ) → ((i : ℕ) → i < n → getD l i 0 ≡ getD k i 0) → added row l n d ≡ added row k n d
 unfolding added
-added-set row l i x zero d h = refl
-added-set row l i x (suc m) d h =
-    let e : getD (set l i x) m 0 ≡ getD l m 0 = read-below ℕ l i m x 0 (getD l m 0) (omega arith) refl in
-    rw (e, added-set row l i x m d (omega arith))
+added-same row l k zero d h = refl
+added-same row l k (suc n) d h = rw (h n (omega arith), added-same row l k n d (λ i g. h i (omega arith)))
+
+added-set : (row : ℕ → List ℕ) (l : List ℕ) (i x m : ℕ) (d : List ℕ) → m ≤ i → added row (set l i x) m d ≡ added row l m d
+added-set row l i x m d h = added-same row (set l i x) l m d (λ j g. getD-set-other l i j x 0 (λ q. omega arith))
 
 -- nothing is listed
 pub listed-none : (c : ℕ → ℕ) (l : List ℕ) → Listed c 0 0 l

@@ -4,7 +4,7 @@
 ghost use Rattle.words.specs.Words.{_≡_, ℕ, _+_, _*_, _≤_, _<_, length, replicate};
 ghost use Rattle.memory.specs.Part.{part, splice};
 ghost use Rattle.rows.specs.Rows.{addScaled};
-ghost use Rattle.rows.specs.Buckets.{weights, Filled};
+ghost use Rattle.rows.specs.Buckets.{Filled};
 
 pub const WEIGHTS: [u8; 32] = [
     0,

@@ -1,5 +1,5 @@
 -- `gather::divide` meets its contract.
-use Rattle.words.specs.Words.{arith, needs}
+use Rattle.words.specs.Words.{needs}
 use Rattle.gather.proofs.Admitting.{divided-one}
 use Rattle.gather.proofs.divide.Statement.{statement}
 use Rattle.gather.proofs.divide.Tie as tie

@@ -1,5 +1,5 @@
 -- `gather::reduce` meets its contract.
-use Rattle.words.specs.Words.{arith, needs, subst, sym}
+use Rattle.words.specs.Words.{needs, subst, sym}
 use Rattle.gather.specs.GatherSteps.{StateReduced}
 use Rattle.gather.proofs.Reducing.{state-empty}
 use Rattle.gather.proofs.reduce.Statement.{statement}

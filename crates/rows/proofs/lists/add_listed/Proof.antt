@@ -1,5 +1,5 @@
 -- `rows::lists::add_listed` meets its contract. The loop: the rows of the first j elements of the list have been added.
-use Rattle.words.specs.Words.{_≡_, refl, arith, _≤_, _<_, _-_, _*_, _+_, length, getD, needs}
+use Rattle.words.specs.Words.{_≡_, refl, arith, _≤_, _-_, _*_, _+_, length, getD, needs}
 use Rattle.memory.proofs.Parts.{getD-part}
 use Rattle.rows.specs.Sums.{rowAt}
 use Rattle.rows.specs.Named.{added, listOf}

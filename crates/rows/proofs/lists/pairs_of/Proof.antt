@@ -1,5 +1,5 @@
 -- `rows::lists::pairs_of` meets its contract. The loop: the first k coefficients are below 4.
-use Rattle.words.specs.Words.{_≡_, arith, ℕ, _≤_, _<_, _-_, length, getD, ⊎-elim, ap, sym, subst, needs}
+use Rattle.words.specs.Words.{arith, ℕ, _≤_, _<_, _-_, length, getD, ⊎-elim, sym, subst, needs}
 use native.Mathlib.Nat.{eq-or-lt-of-le}
 use Rattle.rows.proofs.Digits.{above-four, above-one}
 use Rattle.rows.proofs.lists.pairs_of.Statement.{statement}

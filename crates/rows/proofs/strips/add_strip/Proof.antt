@@ -4,9 +4,8 @@ use Rattle.memory.specs.Number.{Bytes}
 use Rattle.memory.proofs.Parts.{length-part}
 use Rattle.rows.specs.Rows.{addScaled}
 use Rattle.rows.specs.Combination.{coefficient}
-use Rattle.rows.specs.Sums.{combined, rowAt, rowsAdded}
-use Rattle.rows.specs.Named.{pairsAdded}
-use Rattle.rows.specs.Buckets.{weights, inBuckets, listedFor}
+use Rattle.rows.specs.Sums.{combined, rowAt}
+use Rattle.rows.specs.Buckets.{weights, listedFor}
 use Rattle.rows.proofs.Combinations.{sum-onto}
 use Rattle.rows.proofs.Named.{pairs-sum, listed-room}
 use Rattle.rows.proofs.Filling.{length-weights, listed-weights, listed-own, buckets-sum}

@@ -1,5 +1,5 @@
 -- `rows::strips::fill` meets its contract.
-use Rattle.words.specs.Words.{_≡_, ap, _∙_, subst, sym, arith, length, length-replicate, true, needs}
+use Rattle.words.specs.Words.{ap, arith, length, needs}
 use Rattle.rows.specs.Buckets.{sorts}
 use Rattle.rows.proofs.Filling.{most-few}
 use Rattle.rows.proofs.Sorting.{sorted-ordered, sorted-filled}
