@@ -54,9 +54,8 @@ static u8 *noise(size_t n) {
 // Rows with coefficients from `lowest` to `highest`.
 static struct rows some_rows(size_t n, size_t count, size_t step, int lowest, int highest) {
   size_t all = (KEYS - 1) * step + count;
-  struct rows r = {0, n, count, step, noise(n * count), room(all), (struct met *)room(KEYS * sizeof *r.met), 0};
+  struct rows r = {0, n, count, step, noise(n * count), room(all)};
   for (size_t k = 0; k < all; k++) r.coefficients[k] = lowest + rand() % (highest - lowest + 1);
-  for (size_t key = 0; key < KEYS; key++) r.met[key] = met_by(r.coefficients + key * step, count);
   return r;
 }
 
@@ -94,12 +93,15 @@ static void fill_sum(struct table *t, struct setting s) {
   add_way(l, 1, run_combine, &plain, r);
   add_way(l, 2, run_each, &proved, r);
   if (s.scheme == 10) add_isal(l, 3, 0, r.n, r.count, r.step, r.coefficients, pointers(&r));
+  r.met = (struct met *)room(KEYS * sizeof *r.met);
+  for (size_t key = 0; key < KEYS; key++) r.met[key] = met_by(r.coefficients + key * r.step, r.count);
   add_way(l, LIMIT, limit_combine, 0, r);
 }
 
-// The operations that no table has give the same bytes too, and sums do in rows of any length.
+// The operations that no table has give the same bytes too, and sums do in rows of any length and of any number: one after the other, by lists, in
+// buckets and in buckets from sorted rows, each of these in more than one block.
 static void check_others(size_t n, int highest) {
-  struct rows r = some_rows(n, 255, 0, 0, highest);
+  struct rows r = some_rows(n, 300, 0, 0, highest);
   size_t all = r.n * r.count;
   u8 *ours = memcpy(room(all), r.bytes, all), *theirs = memcpy(room(all), r.bytes, all);
   for (size_t k = 0; k + 1 < r.count; k++) {
@@ -118,9 +120,9 @@ static void check_others(size_t n, int highest) {
 int main(void) {
   static struct table operation = {"Row operation: a row of width + E bytes += c × another", {"", "plain Rust", "products", ISAL_NAMES}};
   static struct table sum = {"Repair symbol: the sum of `width` rows of E bytes, each times a coefficient", {"", "plain Rust", "rows", ISAL_NAMES}};
-  static const size_t lengths[] = {1, 63, 64, 65, 319, 320, 321, 512, 1400};
+  static const size_t lengths[] = {1, 4, 33, 63, 64, 65, 100, 319, 320, 321, 512, 1400};
   srand(8681);
-  for (int k = 0; k < 9; k++) check_others(lengths[k], 1), check_others(lengths[k], 2), check_others(lengths[k], 255);
+  for (int k = 0; k < 12; k++) check_others(lengths[k], 1), check_others(lengths[k], 2), check_others(lengths[k], 255);
   make(&operation, fill_operation);
   make(&sum, fill_sum);
 }
