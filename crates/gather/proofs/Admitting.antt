@@ -1,7 +1,7 @@
 -- A reduced equation settled, and what that says of the packet's equations.
 -- A row divided by its coefficient in a column: divided-one, normalised.
 -- What becomes of a reduced equation: settled-kept, settled-implied, settled-contradiction.
--- The packet's rows: gathered-same, gathered-only, gathered-none. The whole call: admitted.
+-- The packet's rows: gathered-same, gathered-only, gathered-none. The whole call: admitted, admitted-zero.
 use Rattle.words.specs.Words.{_≡_, arith, ℕ, _≤_, _+_, List, length, _<_, refl, _∙_, sym, ap, _-_, [], some, _%_, _∷_, getD, _++_, subst, _≢_, mod-lt}
 use Rattle.words.specs.Words.{ℕ-discrete, decLt, add-one, mod-add-mod, set, add-mod-right, lit<}
 use Rattle.field.specs.Gf256.{product}
@@ -30,7 +30,7 @@ use Rattle.table.specs.Window.{stride, rowOffset, row, line, equation, Window, 
 use Rattle.table.specs.Packet.{Works, spelled, PivotMarked, Gathered}
 use Rattle.table.specs.RowSteps.{Zero-from}
 use Rattle.gather.specs.Gather.{Only, Spans, Agrees, Admitted}
-use Rattle.gather.specs.GatherSteps.{Leading, Divided, Normalised, Outcome, Concluded, StateReduced, PacketReduced, Staying}
+use Rattle.gather.specs.GatherSteps.{Leading, Divided, Normalised, Outcome, Concluded, StateReduced, ZeroIf, PacketReduced, Staying}
 use Rattle.gather.specs.declared.Verdict.{Verdict}
 use Rattle.gather.specs.declared.Verdict.the-variants.{Kept, Implied, Contradiction}
 use Rattle.table.proofs.Rows.{set-splice}
@@ -38,7 +38,8 @@ use Rattle.table.proofs.Zero.{else-zero}
 use Rattle.table.proofs.Offsets.{flags-fit}
 use Rattle.memory.proofs.Number.{bytes-part}
 use Rattle.gather.proofs.Framing.{only-refl, only-trans, only-wider, only-splice, only-row, works-only, row-room}
-use Rattle.gather.proofs.Reducing.{part-row, state-only, state-reduced, no-coefficient}
+use Rattle.gather.proofs.Reducing.{part-row, state-only, state-reduced, no-coefficient, packet-none}
+use Rattle.gather.proofs.Searching.{leading-none}
 use Rattle.gather.proofs.Rank.{full-lead}
 use Rattle.gather.proofs.Front.{Front, reduce-front, read-front, front-read}
 
@@ -409,3 +410,21 @@ module _ (w E oldest stay kept first count n : ℕ) (verdict : Verdict) (m work 
         agrees b rise d S es here stays from in-window room held rref spans f verdict
         (f₃ .outcome (b + rise) d in-window from (front b rise d S es here stays from in-window room held rref spans f));
   }
+
+-- With no rows before, a row that the state's rows make zero is implied at once.
+module _ (w E oldest stay kept first count n any : ℕ) (m work work′ : List ℕ) (fits : Fits w E m) (bytes : Bytes m) (g : Works w E kept work)
+    (small : Bytes work) (small′ : Bytes work′) (near : Staying w oldest first count stay n) (f : StateReduced w E kept first n m work work′)
+    (zero : ZeroIf w E kept any work′) (none : kept ≡ 0) (nothing : any ≡ 0) where
+  zero-row : Zero-from (rowOffset w E kept) (rowOffset w E kept + (w + E)) work′
+  zero-row i l u =
+      let e : rowOffset w E kept + (i - rowOffset w E kept) ≡ i = omega arith in
+      ap (λ a. getD work′ a 0) (sym e) ∙ zero nothing (i - rowOffset w E kept) (omega arith)
+
+  pub admitted-zero : Admitted w E oldest stay kept first count Implied m work work′
+  admitted-zero =
+      admitted w E oldest stay kept first count n Implied m work work′ work′ work′ fits bytes g small near f
+      (subst (λ j. PacketReduced w E kept j work′ work′) (sym none) (packet-none w E kept work′))
+      (settled-implied w E first kept work′
+      (works-only (omega (arith, flags-fit w E)) (state-only w E kept first n m work work′ g f) g) small′ (rowOffset w E kept + w) refl
+      (λ h. leading-none w E first kept (rowOffset w E kept) work′ refl (fits .some-width) (λ i l u. zero-row i l (omega arith)))
+      (λ i l u. zero-row i (omega arith) (omega arith)))

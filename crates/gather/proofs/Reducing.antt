@@ -1,7 +1,7 @@
 -- A row of working memory reduced: by the state's rows that stay, all at once, and by the packet's rows before it, one after the other.
 -- A row that has been replaced: new-cell, new-line, part-row, bytes-addScaled.
 -- By the packet's rows: flag-lt, rows-apart, eliminated, packet-none, packet-more.
--- By the state's rows: zeros, length-lent, rows-added, state-none, state-some, state-empty, state-one, state-only, no-coefficient, state-reduced.
+-- By the state's rows: zeros, length-lent, rows-added, state-none, state-some, state-empty, state-one, zero-if, state-only, no-coefficient, state-reduced.
 use Rattle.words.specs.Words.{_≡_, arith, ℕ, _≤_, _+_, List, length, _<_, refl, _∙_, sym, ap, _-_, [], _%_, _∷_, suc, true, zero, getD, false, _++_, subst}
 use Rattle.words.specs.Words.{drop, _≢_, take, ap₂, mod-lt, decLt, add-one, bitXor, mod-add-mod, lit<, replicate, add-mod-right, xor-lt, length-take-le}
 use Rattle.words.specs.Words.{getD-take, set, ℕ-discrete, length-replicate, add-zero, mod-eq-of-lt}
@@ -31,7 +31,7 @@ use Rattle.table.specs.Window.{headerSize, stride, rowOffset, row, inUse, line,
 use Rattle.table.specs.Packet.{Works, spelled, PivotMarked}
 use Rattle.table.proofs.Offsets.{flags-fit}
 use Rattle.gather.specs.Gather.{Only, Spans}
-use Rattle.gather.specs.GatherSteps.{if-used, multiplier, Zeros, Collected, StateReduced, Eliminated, PacketReduced, Staying}
+use Rattle.gather.specs.GatherSteps.{if-used, multiplier, Zeros, Collected, StateReduced, ZeroIf, Eliminated, PacketReduced, Staying}
 use Rattle.memory.proofs.Number.{bytes-part}
 use Rattle.gather.proofs.Collecting.{collected-none, collected-more}
 use Rattle.gather.proofs.Framing.{only-refl, only-trans, only-splice, only-row, row-room}
@@ -268,6 +268,11 @@ state-one w E k c v at from m work work′ here there g h byte q s =
     ∙ ap (λ x. splice (rowOffset w E k) (addScaled x (part (rowOffset w E k) (w + E) work) (part (rowOffset w E c) (w + E) m)) work) (sym on)
     ∙ ap (λ x. splice (rowOffset w E k) x work)
     (sym (combined-alone (take w cs) (rowAt m headerSize (stride w E) (w + E)) c w (part (rowOffset w E k) (w + E) work) h off)))
+
+-- The code reads the row from `at` on.
+pub zero-if : (w E k any at : ℕ) (work : List ℕ) → at ≡ rowOffset w E k → (any ≡ 0 → (i : ℕ) → i < w + E → getD work (at + i) 0 ≡ 0)
+    → ZeroIf w E k any work
+zero-if w E k any at work here f z i h = ap (λ a. getD work (a + i) 0) (sym here) ∙ f z i h
 
 -- The sum of the rows as lines.
 module _ (w E : ℕ) (m : List ℕ) (fits : Fits w E m) (bytes : Bytes m) where

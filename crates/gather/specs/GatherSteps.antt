@@ -53,6 +53,10 @@ pub record StateReduced (w E k first n : ℕ) (m work work′ : List ℕ) : Type
   pub off : (j : ℕ) → j < w → ((i : ℕ) → i < n → (first + i) % w ≢ j) → getD multipliers j 0 ≡ 0
   pub sum : RowsAdded w E k multipliers m work work′
 
+-- Where `any` is zero, so is the row `k` of working memory.
+abbrev pub ZeroIf : (w E k any : ℕ) → List ℕ → Type 0
+ZeroIf w E k any work = any ≡ 0 → (i : ℕ) → i < w + E → getD work (rowOffset w E k + i) 0 ≡ 0
+
 -- The pivot of the row `j` of working memory has been eliminated from the row `k`.
 abbrev pub Eliminated : (w E k j : ℕ) (work work′ : List ℕ) → Type 0
 Eliminated w E k j work work′ =

@@ -5,7 +5,7 @@ ghost use Rattle.table.specs.Window.{row, inUse, Fits};
 ghost use Rattle.table.specs.Packet.{Works};
 ghost use Rattle.gather.specs.Gather.{LaidIn, Admitted};
 ghost use Rattle.gather.specs.GatherSteps.{if-used, Collected, RowsAdded, StateReduced, Eliminated, PacketReduced, Searched, Normalised, Concluded};
-ghost use Rattle.gather.specs.GatherSteps.{Staying, Divided};
+ghost use Rattle.gather.specs.GatherSteps.{ZeroIf, Staying, Divided};
 use field::Gf256;
 use table::Shape;
 
@@ -102,16 +102,21 @@ fn add_rows(mem: &[u8], work: &mut [u8], multipliers: &[u8], shape: Shape, k: us
     );
 }
 
-// Reduces the row `k` of working memory by the state's row of the column `c`.
-fn reduce_column(mem: &[u8], work: &mut [u8], shape: Shape, k: usize, c: usize)
+// Reduces the row `k` of working memory by the state's row of the column `c`. Gives zero only if the row is zero then.
+fn reduce_column(mem: &[u8], work: &mut [u8], shape: Shape, k: usize, c: usize) -> u8
     requires { ⌜ Fits (shape .width) (shape .size) (now mem) × Works (shape .width) (shape .size) k (now work) × (c < shape .width) ⌝ }
-    ensures { λ _. ⌜ StateReduced (shape .width) (shape .size) k c 1 (now (mem .entry)) (now (work .entry)) (now (work .exit)) ⌝ }
+    ensures { λ any. ⌜ StateReduced (shape .width) (shape .size) k c 1 (now (mem .entry)) (now (work .entry)) (now (work .exit))
+        × ZeroIf (shape .width) (shape .size) k any (now (work .exit)) ⌝ }
 {
     let n = shape.width + shape.size;
     let at = table::row_offset(shape, k);
     let from = table::row_offset(shape, c);
     let factor = multiplier(mem, shape, c, work[at + c]);
+    if factor == 1 {
+        return rows::add_part_or(work, at, mem, from, n);
+    }
     rows::add_part(work, at, mem, from, n, Gf256(factor));
+    1
 }
 
 // Reduces the row `k` of working memory by the state's rows of `n` of its columns, from `first` on. Since the state is reduced, the multipliers
@@ -131,20 +136,21 @@ fn reduce_columns(mem: &[u8], work: &mut [u8], shape: Shape, k: usize, first: us
     add_rows(mem, work, &multipliers, shape, k);
 }
 
-// The same; no multipliers are laid out for one column, as a source packet of one symbol has.
-fn reduce(mem: &[u8], work: &mut [u8], shape: Shape, k: usize, first: usize, n: usize)
+// The same; no multipliers are laid out for one column, as a source packet of one symbol has. Gives zero only if the row is zero then.
+fn reduce(mem: &[u8], work: &mut [u8], shape: Shape, k: usize, first: usize, n: usize) -> u8
     requires { ⌜ Fits (shape .width) (shape .size) (now mem) × Works (shape .width) (shape .size) k (now work)
         × (first < shape .width) × (n ≤ shape .width) ⌝ }
-    ensures { λ _. ⌜ StateReduced (shape .width) (shape .size) k first n (now (mem .entry)) (now (work .entry)) (now (work .exit)) ⌝ }
+    ensures { λ any. ⌜ StateReduced (shape .width) (shape .size) k first n (now (mem .entry)) (now (work .entry)) (now (work .exit))
+        × ZeroIf (shape .width) (shape .size) k any (now (work .exit)) ⌝ }
 {
     if n == 0 {
-        return;
+        return 1;
     }
     if n == 1 {
-        reduce_column(mem, work, shape, k, first);
-        return;
+        return reduce_column(mem, work, shape, k, first);
     }
     reduce_columns(mem, work, shape, k, first, n);
+    1
 }
 
 // Eliminates the pivot of the row `j` of working memory from the row `k`.
@@ -287,7 +293,11 @@ pub fn admit(
         (now (mem .entry)) (now (work .entry)) (now (work .exit)) ⌝ }
 {
     let n = staying(shape, first, count, stay);
-    reduce(mem, work, shape, kept, first, n);
-    reduce_within(work, shape, kept);
-    settle(work, shape, kept, first)
+    let any = reduce(mem, work, shape, kept, first, n);
+    if kept == 0 && any == 0 {
+        Verdict::Implied
+    } else {
+        reduce_within(work, shape, kept);
+        settle(work, shape, kept, first)
+    }
 }
