@@ -109,7 +109,7 @@ module _ (s : Setting) (some-bytes : 0 < s .size) where
   base-after b (some S) t′ h = sym (ap (λ (x : Joined s). x .base) (Option·some-injective _ _ h))
 
   -- The model's base rises as the history says.
-  rises : (t t′ : Joined s) (q : Located) → decoder.receive t (packetOf E q) ≡ some t′ → t′ .base ≡ max (t .base) (first q + named q - width)
+  pub rises : (t t′ : Joined s) (q : Located) → decoder.receive t (packetOf E q) ≡ some t′ → t′ .base ≡ max (t .base) (first q + named q - width)
   unfolding decoder.receive decoder.rise
   rises t t′ q h =
       let d : ℕ = (packetOf E q .first + packetOf E q .count) - (t .base + width) in

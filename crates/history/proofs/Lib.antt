@@ -4,6 +4,7 @@ pub mod Says
 pub mod Answers
 pub mod Starting
 pub mod Naming
+pub mod Origins
 pub mod Sides
 pub mod Readings
 pub mod Checking

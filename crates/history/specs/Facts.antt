@@ -1,6 +1,6 @@
 -- Computed from the definitions, from the packets' bytes on: the sizes; the order of the checks, and their limits; every DT, and keys over 65,535; and where
--- calls bring the base, the count and the marks in cases that are easy to take otherwise.
-use Rattle.words.specs.Words.{_≡_, ℕ, _+_, List, refl, [], some, _∷_, suc, true, zero, none, _*_, false, _++_, Bool, Option, cond, map}
+-- calls bring the base, the count, the marks and the origins in cases that are easy to take otherwise.
+use Rattle.words.specs.Words.{_≡_, ℕ, _+_, List, refl, [], some, _∷_, suc, true, zero, none, _*_, false, _++_, Bool, Option, cond, map, _&&_}
 use Rattle.tinymt.specs.Computing.{computing}
 use Rattle.field.specs.Gf256.{product}
 use Rattle.field.specs.Powers.{inverse, inverse-below}
@@ -14,22 +14,23 @@ use Rattle.coefficients.specs.Coefficients.{nonzeroFrom, bitOf, byteOf, extend,
 use Rattle.starts.specs.Starts.{Starts, nowhere, pass}
 use Rattle.history.specs.History.{source, repair, Call, source-call, repair-call, esiOf, sideOf, Reading, fails, located, check, fromSide}
 use Rattle.history.specs.History.{readSource, readRepair, reading, memorySize, workingSize, halfway, farthest}
-use Rattle.history.specs.Model.{State, opened, foundBy, saidOf, stateAfter, answering, receiving, startsAfter, marking}
+use Rattle.history.specs.Model.{State, opened, foundBy, saidOf, stateAfter, answering, receiving, startsAfter, marking, Origins, unheard, originsAfter}
 use Rattle.decoder.specs.Model as model
 use Rattle.decoder.specs.Receiver as decoder
 use Rattle.decoder.specs.Packets as packets
 
 -- ---- Calls
 
--- What calls have come to: what they answered, the state, and the marks.
+-- What calls have come to: what they answered, the state, the marks, and what is heard.
 pub record Progress (s : Setting) : Type 0 where
   pub answers : List Said
   pub state : State s
   pub marks : Starts
+  pub heard : Origins
 
 -- A fresh receiver.
 abbrev pub begun : (s : Setting) → Progress s
-begun s = record { answers = []; state = opened s; marks = nowhere }
+begun s = record { answers = []; state = opened s; marks = nowhere; heard = unheard }
 
 -- One more call, with working memory enough; and the calls of a list.
 abbrev pub call : (s : Setting) → Progress s → Call → Progress s
@@ -38,7 +39,8 @@ call s a c =
     let r = reading s (j .base) (workingSize s) c in
     let o = receiving s (a .state) (workingSize s) c in
     let M = marking s j (a .marks) r o in
-    record { answers = a .answers ++ saidOf o ∷ []; state = stateAfter (a .state) o; marks = M }
+    let H = originsAfter r o (a .heard) in
+    record { answers = a .answers ++ saidOf o ∷ []; state = stateAfter (a .state) o; marks = M; heard = H }
 
 abbrev pub called : (s : Setting) → Progress s → List Call → Progress s
 called s a [] = a
@@ -47,6 +49,10 @@ called s a (c ∷ cs) = called s (call s a c) cs
 -- What calls have answered, the base after them, and which positions of the window are known and which are marked, by their distance from the base.
 pub data Standing : Type 0 where
   stands : (answers : List Said) (base : Option ℕ) (known marked : List ℕ) → Standing
+
+-- What calls have answered, and which positions of the window are known and which of those are heard.
+pub data Origin : Type 0 where
+  told : (answers : List Said) (known heard : List ℕ) → Origin
 
 -- The numbers below n that pass a test.
 abbrev those : (ℕ → Bool) → (n : ℕ) → List ℕ
@@ -67,6 +73,16 @@ module _ (s : Setting) where
   -- The calls of a list from a fresh receiver.
   abbrev after : List Call → Standing
   after cs = let a = called s (begun s) cs in standing (a .answers) (a .state) (a .marks)
+
+  -- And with the origins in place of the marks.
+  abbrev origin : (answers : List Said) → State s → Origins → Origin
+  origin l none H = told l [] []
+  origin l (some t) H =
+      let known : ℕ → Bool = λ i. isSome (model.known (t .window) i) in
+      told l (those known (s .width)) (those (λ i. known i && H (t .base + i)) (s .width))
+
+  abbrev heard : List Call → Origin
+  heard cs = let a = called s (begun s) cs in origin (a .answers) (a .state) (a .heard)
 
 -- The coefficients that a reading has for a packet's symbols.
 abbrev coefficientsIn : Reading → List (List ℕ)
@@ -116,29 +132,29 @@ empty-at p = located (source p ((1 ∷ zeros 3) ∷ []))
 -- The bytes that a receiver needs and borrows: at E 4 and width 1, at E 4 and width 2, at the largest.
 pub sizes :
     memorySize (gf2 1) ∷ workingSize (gf2 1) ∷ memorySize (gf2 2) ∷ workingSize (gf2 2) ∷ memorySize largest ∷ workingSize largest ∷ []
-    ≡ 73 ∷ 82 ∷ 84 ∷ 94 ∷ 448609 ∷ 450368 ∷ []
+    ≡ 74 ∷ 84 ∷ 86 ∷ 97 ∷ 448864 ∷ 450624 ∷ []
 sizes = refl
 
 -- What the checks before 11 make of packets, at a base and with working memory of a size.
 pub checks :
     -- working memory of exactly the size, and one byte short
-    (reading (gf2 1) 0 82 (adu 0 0 0 0 0) ∷ reading (gf2 1) 0 81 (adu 0 0 0 0 0) ∷ [])
+    (reading (gf2 1) 0 84 (adu 0 0 0 0 0) ∷ reading (gf2 1) 0 83 (adu 0 0 0 0 0) ∷ [])
     -- 2 before 5, 4, 6, 8 and 9
-    ∷ map (reading (gf2 2) 1 93) (source-call 1 (zeros 3) ∷ adu 6 0 0 0 0 ∷ over 0 0 0 0 0 0 4 ∷ adu 0 0 0 0 0 ∷ adu 0 0 1 0 1 ∷ [])
+    ∷ map (reading (gf2 2) 1 96) (source-call 1 (zeros 3) ∷ adu 6 0 0 0 0 ∷ over 0 0 0 0 0 0 4 ∷ adu 0 0 0 0 0 ∷ adu 0 0 1 0 1 ∷ [])
     -- 5 before 6, 8 and 9: source packets of 3 bytes and of none; repair packets of no symbol, of one and a byte, of 17; one of 16 has the form
-    ∷ map (reading (gf2 2) 1 94) (source-call 1 (zeros 3) ∷ source-call 1 (1 ∷ 0 ∷ 1 ∷ []) ∷ source-call 1 [] ∷ [])
-    ∷ map (reading (gf2 2) 1 94) (over 0 0 0 0 0 0 0 ∷ over 0 2 0 0 0 0 5 ∷ over 0 2 0 1 0 1 68 ∷ over 0 0 0 0 0 0 64 ∷ [])
+    ∷ map (reading (gf2 2) 1 97) (source-call 1 (zeros 3) ∷ source-call 1 (1 ∷ 0 ∷ 1 ∷ []) ∷ source-call 1 [] ∷ [])
+    ∷ map (reading (gf2 2) 1 97) (over 0 0 0 0 0 0 0 ∷ over 0 2 0 0 0 0 5 ∷ over 0 2 0 1 0 1 68 ∷ over 0 0 0 0 0 0 64 ∷ [])
     -- 4 and 6 before 8, at their limits; NSS has 12 bits
-    ∷ map (reading (gf2 2) 1 94) (adu 5 0 0 0 0 ∷ adu 6 0 0 0 0 ∷ [])
-    ∷ map (reading largest 1 450368) (adu 65535 0 0 0 0 ∷ adu 65536 0 0 0 0 ∷ [])
-    ∷ map (reading (gf2 2) 1 94) (over 0 0 0 0 0 0 4 ∷ over 0 1 0 0 0 0 4 ∷ over 0 2 0 0 0 0 4 ∷ over 0 3 0 0 0 0 4 ∷ over 1 1 0 0 0 0 4 ∷ [])
+    ∷ map (reading (gf2 2) 1 97) (adu 5 0 0 0 0 ∷ adu 6 0 0 0 0 ∷ [])
+    ∷ map (reading largest 1 450624) (adu 65535 0 0 0 0 ∷ adu 65536 0 0 0 0 ∷ [])
+    ∷ map (reading (gf2 2) 1 97) (over 0 0 0 0 0 0 4 ∷ over 0 1 0 0 0 0 4 ∷ over 0 2 0 0 0 0 4 ∷ over 0 3 0 0 0 0 4 ∷ over 1 1 0 0 0 0 4 ∷ [])
     -- 4 and 6 before 9
-    ∷ map (reading (gf2 2) 0 94) (adu 5 0 1 0 0 ∷ adu 6 0 1 0 0 ∷ over 0 0 0 1 0 0 4 ∷ over 0 2 0 1 0 0 4 ∷ over 0 3 0 1 0 0 4 ∷ [])
+    ∷ map (reading (gf2 2) 0 97) (adu 5 0 1 0 0 ∷ adu 6 0 1 0 0 ∷ over 0 0 0 1 0 0 4 ∷ over 0 2 0 1 0 0 4 ∷ over 0 3 0 1 0 0 4 ∷ [])
     -- the last position 65,535 and 65,536 past the base; the first 2^31 - 1 and 2^31 past it; the base at the last ESI, and past 2^32
-    ∷ map (reading (gf2 2) 0 94) (adu 0 0 0 0xFF 0xFF ∷ adu 0 0 1 0 0 ∷ adu 2 0 0 0xFF 0xFF ∷ adu 0 0x7F 0xFF 0xFF 0xFF ∷ adu 0 0x80 0 0 0 ∷ [])
-    ∷ (reading (gf2 2) 4294967295 94 (adu 0 0 0 0 0) ∷ reading (gf2 2) 4294967298 94 (adu 0 0 0 0 3) ∷ [])
+    ∷ map (reading (gf2 2) 0 97) (adu 0 0 0 0xFF 0xFF ∷ adu 0 0 1 0 0 ∷ adu 2 0 0 0xFF 0xFF ∷ adu 0 0x7F 0xFF 0xFF 0xFF ∷ adu 0 0x80 0 0 0 ∷ [])
+    ∷ (reading (gf2 2) 4294967295 97 (adu 0 0 0 0 0) ∷ reading (gf2 2) 4294967298 97 (adu 0 0 0 0 3) ∷ [])
     -- the keys 65,535 and 0 of two repair symbols
-    ∷ (reading (gf256 2) 0 94 (repair-call (0xFF ∷ 0xFF ∷ 0xF0 ∷ 2 ∷ zeros 12)) ∷ [])
+    ∷ (reading (gf256 2) 0 97 (repair-call (0xFF ∷ 0xFF ∷ 0xF0 ∷ 2 ∷ zeros 12)) ∷ [])
     ∷ []
     ≡ (empty-at 0 ∷ fails 2 ∷ [])
     ∷ (fails 2 ∷ fails 2 ∷ fails 2 ∷ fails 2 ∷ fails 2 ∷ [])
@@ -216,3 +232,54 @@ unfolding
     model.axpy model.scale model.symbol model.push model.extend model.advance
     pass startsAfter
 calls = refl
+
+-- Heard or solved, of calls from a fresh receiver.
+pub origins :
+    -- solved; solved first and heard later; heard first, and then in a repair packet alone
+    heard (gf2 2) (combines 0 15 1 0 (1 ∷ zeros 3) ∷ [])
+    ∷ heard (gf2 2) (combines 0 15 1 0 (1 ∷ zeros 3) ∷ adu 0 0 0 0 0 ∷ [])
+    ∷ heard (gf2 2) (adu 0 0 0 0 0 ∷ combines 0 15 1 0 (1 ∷ zeros 3) ∷ [])
+    -- solved by a source packet that names another position; the same packet again; an ADU of two symbols, of which one was solved
+    ∷ heard (gf2 2) (combines 0 15 2 0 (zeros 4) ∷ adu 0 0 0 0 1 ∷ [])
+    ∷ heard (gf2 2) (adu 0 0 0 0 1 ∷ adu 0 0 0 0 1 ∷ [])
+    ∷ heard (gf2 2) (combines 0 15 1 1 (1 ∷ 0 ∷ 2 ∷ 0 ∷ []) ∷ adu 2 0 0 0 1 ∷ [])
+    -- a source packet that is refused with 11, and with 8
+    ∷ heard (gf2 2) (combines 0 15 1 0 (zeros 4) ∷ adu 0 0 0 0 0 ∷ [])
+    ∷ heard (gf2 2) (combines 0 15 2 1 (zeros 4) ∷ adu 0 0 0 0 0 ∷ combines 0 15 1 1 (zeros 4) ∷ [])
+    -- the window moves on by one, by its width, and by more, for a repair packet: what comes into the rows of those heard is not
+    ∷ heard (gf2 2) (adu 0 0 0 0 0 ∷ adu 0 0 0 0 1 ∷ combines 0 15 1 2 (zeros 4) ∷ [])
+    ∷ heard (gf2 2) (adu 2 0 0 0 0 ∷ combines 0 15 1 2 (zeros 4) ∷ combines 0 15 1 3 (zeros 4) ∷ [])
+    ∷ heard (gf2 2) (adu 2 0 0 0 0 ∷ combines 0 15 1 7 (zeros 4) ∷ combines 0 15 1 6 (zeros 4) ∷ [])
+    -- a jump of a source packet
+    ∷ heard (gf2 3) (adu 0 0 0 0 0 ∷ combines 0 15 1 1 (zeros 4) ∷ adu 0 0 0 0 7 ∷ combines 0 15 1 6 (zeros 4) ∷ [])
+    -- width 1: heard; solved in the same row; heard in it
+    ∷ heard (gf2 1) (adu 0 0 0 0 0 ∷ [])
+    ∷ heard (gf2 1) (adu 0 0 0 0 0 ∷ combines 0 15 1 1 (zeros 4) ∷ [])
+    ∷ heard (gf2 1) (combines 0 15 1 0 (zeros 4) ∷ adu 0 0 0 0 1 ∷ [])
+    ∷ []
+    ≡ told (value 1 ∷ []) (0 ∷ []) []
+    ∷ told (value 1 ∷ value 0 ∷ []) (0 ∷ []) (0 ∷ [])
+    ∷ told (value 1 ∷ value 0 ∷ []) (0 ∷ []) (0 ∷ [])
+    ∷ told (value 0 ∷ value 2 ∷ []) (0 ∷ 1 ∷ []) (1 ∷ [])
+    ∷ told (value 1 ∷ value 0 ∷ []) (0 ∷ []) (0 ∷ [])
+    ∷ told (value 1 ∷ value 1 ∷ []) (0 ∷ 1 ∷ []) (0 ∷ 1 ∷ [])
+    ∷ told (value 1 ∷ refusal 11 ∷ []) (0 ∷ []) []
+    ∷ told (value 0 ∷ refusal 8 ∷ value 2 ∷ []) (0 ∷ 1 ∷ []) []
+    ∷ told (value 1 ∷ value 1 ∷ value 1 ∷ []) (0 ∷ 1 ∷ []) (0 ∷ [])
+    ∷ told (value 2 ∷ value 1 ∷ value 1 ∷ []) (0 ∷ 1 ∷ []) []
+    ∷ told (value 2 ∷ value 1 ∷ value 1 ∷ []) (0 ∷ 1 ∷ []) []
+    ∷ told (value 1 ∷ value 1 ∷ value 1 ∷ value 1 ∷ []) (1 ∷ 2 ∷ []) (2 ∷ [])
+    ∷ told (value 1 ∷ []) (0 ∷ []) (0 ∷ [])
+    ∷ told (value 1 ∷ value 1 ∷ []) (0 ∷ []) []
+    ∷ told (value 1 ∷ value 1 ∷ []) (0 ∷ []) (0 ∷ [])
+    ∷ []
+unfolding
+    computing product inverse inverse-below nonzeroFrom bitOf byteOf extend coefficientsOf part
+    symbolCount adui sourceSymbols sourceForm sourceAdu sourceEsi repairCount repairForm repairKey densityThreshold protectedCount firstEsi repairSymbols
+    halfway sideOf check farthest fromSide readSource readRepair reading answering
+    packets.source packets.source-rows packets.row packets.only packets.repair
+    decoder.empty decoder.receive decoder.rise decoder.newly decoder.count-new decoder.is-new
+    decoder.embed decoder.advance-by decoder.insert-all
+    model.insert model.known model.settle model.settle-by model.reduce model.place model.place-free model.lead model.at
+    model.axpy model.scale model.symbol model.push model.extend model.advance
+origins = refl

@@ -1,5 +1,6 @@
 pub mod Symbol
 pub mod History
+pub mod Origins
 pub mod Model
 pub mod Checking
 pub mod Rising

@@ -1,6 +1,6 @@
 -- The receiver that computes: the window's equations in reduced row echelon form (crate `decoder`) in place of the whole history.
 -- The promises give answers and states by it. That these are the history's is proved (proofs/Answers): a reader of the claims need not believe it.
-use Rattle.words.specs.Words.{ℕ, _+_, List, length, _-_, [], some, _∷_, none, getD, Option, cond, ltb}
+use Rattle.words.specs.Words.{ℕ, _+_, List, length, _-_, [], some, _∷_, none, getD, false, Bool, Option, cond, ltb, leb, _&&_, _||_}
 use Rattle.wire.specs.declared.Setting.{Setting}
 use Rattle.decoder.specs.Bytes.{byte, Coded}
 use Rattle.decoder.specs.Model.{known}
@@ -123,3 +123,28 @@ module _ (s : Setting) where
   unfoldable pub aduAt : State s → Starts → (room e : ℕ) → Handing
   aduAt none M room e = withholds 12
   aduAt (some t) M room e = aduIn t M room (sideOf (t .base) e)
+
+-- ---- Origins
+
+-- Which positions are heard: a source packet has brought them.
+abbrev pub Origins : Type 0
+Origins = ℕ → Bool
+
+-- None.
+abbrev pub unheard : Origins
+unheard x = false
+
+-- And the n positions from `first` on.
+abbrev pub bringing : (first n : ℕ) → Origins → Origins
+bringing first n H x = (leb first x && ltb x (first + n)) || H x
+
+-- And those that a packet brings.
+abbrev pub hearing : Located → Origins → Origins
+hearing (source p symbols) H = bringing p (length symbols) H
+hearing (repair p n coefficients symbols) H = H
+
+-- After a call of which the checks before 11 have made this, and which has come to that.
+abbrev pub originsAfter : {s : Setting} → Reading → Outcome s → Origins → Origins
+originsAfter (located q) (done n t) H = hearing q H
+originsAfter (located q) (refused n) H = H
+originsAfter (fails m) o H = H
