@@ -1,0 +1,3 @@
+-- The modules of the proofs.
+pub mod Filling
+pub mod Hearing
