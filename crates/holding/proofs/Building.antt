@@ -1,9 +1,9 @@
 -- A memory that holds a given state: rows spelled byte by byte.
 -- Laws:
 --   a memory for every state: Built, built; the rest lays its rows and header
-use Rattle.words.specs.Words.{_≡_, arith, ℕ, _+_, List, length, _<_, refl, _∙_, sym, ap, _-_, [], some, _%_, _∷_, suc, true, zero, _*_, getD, false, _++_, Bool}
+use Rattle.words.specs.Words.{_≡_, arith, ℕ, _≤_, _+_, List, length, _<_, refl, _∙_, sym, ap, _-_, [], some, _%_, _∷_, suc, true, zero, _*_, getD, false, _++_, Bool}
 use Rattle.words.specs.Words.{subst, drop, _≢_, _^_, ap₂, ltb, mod-lt, _↔_, ℕ-discrete, add-zero, length-append, mod-eq-of-lt, mod-add-mod, zero-add}
-use Rattle.words.specs.Words.{true≢false, append-assoc, lit<, add-suc, List·getD-append, suc-add, drop-drop, take-at}
+use Rattle.words.specs.Words.{true≢false, append-assoc, lit<, add-suc, List·getD-append, suc-add, drop-drop, take-at, getD-drop, cond}
 use native.Mathlib.Nat.{mod-eq-sub-mod}
 use lib.Seq.{drop-at, getD-append-add}
 use Rattle.memory.specs.Part.{part, splice}
@@ -28,7 +28,8 @@ use Rattle.decoder.proofs.Bytes.{byte-of}
 use Rattle.table.specs.Window.{headerSize, stride}
 use Rattle.history.specs.Symbol.{Symbol, bytesOf}
 use Rattle.history.specs.History.{memorySize}
-use Rattle.history.specs.Model.{Joined}
+use Rattle.history.specs.Model.{Joined, Origins}
+use Rattle.origins.specs.Origins.{heardIn}
 use Rattle.holding.specs.Header.{rowIn, headerIn}
 use Rattle.holding.specs.Layout.{headerFrom, Holds}
 use Rattle.holding.proofs.Headers.{found-joined}
@@ -323,10 +324,10 @@ module _ (s : Setting) (v : Valid s) (t : Joined s) (past : List ℕ) where
   unfolding stride
   length-rows = length-joined (window.stride w E) (rowsFrom 0 w) (rows-sized 0 w) ∙ ap (λ n. n * window.stride w E) (rows-length 0 w)
 
-  length-memory : length memory ≡ memorySize s + length past
+  length-memory : length memory ≡ 64 + w * (w + E + 4) + length past
   length-memory = length-append head body ∙ omega (arith, length-head, length-append (joined (rowsFrom 0 w)) past, length-rows)
 
-  past-memory : drop (memorySize s) memory ≡ past
+  past-memory : drop (64 + w * (w + E + 4)) memory ≡ past
   past-memory =
       sym (drop-drop (w * (w + E + 4)) 64 memory) ∙ ap (drop (w * (w + E + 4))) (drop-at head body 64 length-head)
       ∙ drop-at (joined (rowsFrom 0 w)) past (w * (w + E + 4)) length-rows
@@ -358,27 +359,69 @@ module _ (s : Setting) (v : Valid s) (t : Joined s) (past : List ℕ) where
   unfolding part settingBytes
   base-number = number-bytes 4 (t .base % 2 ^ 32) (mod-lt (t .base) (lit< tt))
 
-  header-is : headerIn memory ≡ some (headerFrom s t)
-  header-is =
+  header-is : w ≤ length past → headerIn memory ≡ some (headerFrom s t)
+  header-is h =
       found-joined memory s setting-is (t .base % w) (t .base % 2 ^ 32) (omega (arith, length-memory)) (mod-lt (t .base) wide) row-number base-number
 
--- A memory that holds the state, with these bytes past its size.
-pub record Built (s : Setting) (t : Joined s) (past : List ℕ) : Type 0 where
+-- The bytes of the rows that say which positions of the window from b on are heard.
+abbrev origin-bytes : (w b : ℕ) → 0 < w → Origins → List ℕ
+origin-bytes w b z H = tabulate (λ r. cond (H (b + index w b z r)) 1 0) w
+
+-- A memory that holds the state and says that these positions are heard, with these bytes past its size.
+pub record Built (s : Setting) (t : Joined s) (H : Origins) (past : List ℕ) : Type 0 where
   pub memory : List ℕ
   pub holds : Holds memory s (some t)
+  pub heard : (i : ℕ) → i < s .width → heardIn (s .width) (s .size) memory ((t .base + i) % s .width) ≡ H (t .base + i)
   pub same : length memory ≡ memorySize s + length past
   pub rest : drop (memorySize s) memory ≡ past
 
-pub built : (s : Setting) → Valid s → (t : Joined s) → Rref (t .window) → (past : List ℕ) → Built s t past
-built s v t r past = record {
-  memory = memory s v t past;
-  holds = record {
-    header = header-is s v t past;
-    rows = record {
-      reduced = r;
-      rows = rows-held (s .width) (s .size) (t .base) (wide s v t past) (t .window) (memory s v t past) (row-is s v t past);
-    };
-  };
-  same = length-memory s v t past;
-  rest = past-memory s v t past;
-}
+module _ (s : Setting) (v : Valid s) (t : Joined s) (H : Origins) (past : List ℕ) where
+  open Setting s using (size as E, width as w)
+
+  abbrev bits : List ℕ
+  bits = origin-bytes w (t .base) (wide s v t past) H
+
+  abbrev whole : List ℕ
+  whole = memory s v t (bits ++ past)
+
+  length-bits : length bits ≡ w
+  length-bits = length-tabulate _ w
+
+  bits-past : drop (64 + w * (w + E + 4)) whole ≡ bits ++ past
+  bits-past = past-memory s v t (bits ++ past)
+
+  -- What the byte of a row says.
+  says : (x : Bool) → ltb 0 (cond x 1 0) ≡ x
+  says true = refl
+  says false = refl
+
+  bit-is : (i : ℕ) → i < w → heardIn w E whole ((t .base + i) % w) ≡ H (t .base + i)
+  unfolding headerSize stride
+  bit-is i h =
+      let z = wide s v t past in
+      let r = (t .base + i) % w in
+      let l : r < w = mod-lt (t .base + i) z in
+      ap (ltb 0)
+      (sym (getD-drop (64 + w * (w + E + 4)) whole r 0) ∙ ap (λ (x : List ℕ). getD x r 0) bits-past
+      ∙ List·getD-append bits past 0 r (omega (arith, length-bits, l)) ∙ getD-tabulate _ w r l)
+      ∙ says (H (t .base + index w (t .base) z r)) ∙ ap (λ x. H (t .base + x)) (index-is w (t .base) z i h)
+
+pub built : (s : Setting) → Valid s → (t : Joined s) → Rref (t .window) → (H : Origins) (past : List ℕ) → Built s t H past
+built s v t r H past =
+    let w : ℕ = s .width in
+    let x = bits s v t H past in
+    let l = length-bits s v t H past in
+    let m = whole s v t H past in
+    record {
+      memory = m;
+      holds = record {
+        header = header-is s v t (x ++ past) (omega (arith, length-append x past, l));
+        rows = record {
+          reduced = r;
+          rows = rows-held w (s .size) (t .base) (wide s v t past) (t .window) m (row-is s v t (x ++ past));
+        };
+      };
+      heard = bit-is s v t H past;
+      same = length-memory s v t (x ++ past) ∙ omega (arith, length-append x past, l);
+      rest = sym (drop-drop w (64 + w * (w + s .size + 4)) m) ∙ ap (drop w) (bits-past s v t H past) ∙ drop-at x past w l;
+    }

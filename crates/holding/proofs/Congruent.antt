@@ -3,8 +3,10 @@
 --   states: SameFrom, Same, holds-same, held-same, found-same
 --   calls: Alike, answering-alike
 --   marks: marking-alike
+--   origins: AgreeFrom, baseAfter, origins-alike
 use Rattle.words.specs.Words.{_≡_, arith, ℕ, _≤_, _+_, List, length, _<_, refl, _∙_, sym, ap, _-_, some, _%_, suc, true, zero, none, getD, false, Bool, subst}
-use Rattle.words.specs.Words.{Option, _^_, ap₂, leb, Option·some-injective, map, mod-add-mod, true≢false}
+use Rattle.words.specs.Words.{Option, _^_, ap₂, leb, Option·some-injective, map, mod-add-mod, true≢false, ltb, le-leb, lt-leb, lt-ltb, le-ltb, decLt, _&&_, _||_}
+use native.Mathlib.Decide.{decLe}
 use Rattle.wire.specs.declared.Setting.{Setting}
 use Rattle.wire.specs.Packets.{sourceSymbols, sourceAdu, sourceEsi, protectedCount, firstEsi, repairSymbols}
 use Rattle.decoder.specs.Bytes.{byte, Coded}
@@ -17,7 +19,8 @@ use Rattle.history.specs.History.{source, repair, Side, behind, ahead, sideOf, 
 use Rattle.history.specs.History.{fromSide, readSource, readRepair, reading}
 use Rattle.starts.specs.Starts.{Starts, also, moved, seen}
 use Rattle.starts.proofs.Agreeing.{Agree, also-agree, moved-agree, pass-agree}
-use Rattle.history.specs.Model.{Joined, State, foundBy, Outcome, refused, done, added, responds, answering, startsAfter, marking}
+use Rattle.history.specs.Model.{Joined, State, foundBy, Outcome, refused, done, added, responds, answering, startsAfter, marking, Origins}
+use Rattle.history.specs.Model.{bringing, originsAfter}
 use Rattle.holding.specs.Layout.{headerFrom, Holds}
 use Rattle.decoder.specs.Model as model
 use Rattle.decoder.specs.Receiver as decoder
@@ -299,3 +302,96 @@ module _ (s : Setting) where
       subst (λ S. let x : Joined s = record { base = u .base; window = S } in Agree w (marking s t M r (responds s t r)) (marking s x N q (responds s x q)))
       (k .window)
       (marking-shifted (t .base) (u .base) (t .window) M N a r q (reading-shifted (t .base) (u .base) s room c (k .esi)))
+
+-- ---- Origins
+
+-- From two bases on the same positions are heard.
+abbrev pub AgreeFrom : (b c : ℕ) → Origins → Origins → Type 0
+AgreeFrom b c H K = (i : ℕ) → H (b + i) ≡ K (c + i)
+
+shift-leb : (b c d j : ℕ) → leb (b + d) (b + j) ≡ leb (c + d) (c + j)
+shift-leb b c d j = go (decLe d j)
+  where
+    go : Dec (d ≤ j) → leb (b + d) (b + j) ≡ leb (c + d) (c + j)
+    go (yes h) = le-leb (b + d) (b + j) (omega arith) ∙ sym (le-leb (c + d) (c + j) (omega arith))
+    go (no h) = lt-leb (b + d) (b + j) (omega arith) ∙ sym (lt-leb (c + d) (c + j) (omega arith))
+
+shift-ltb : (b c d j : ℕ) → ltb (b + d) (b + j) ≡ ltb (c + d) (c + j)
+shift-ltb b c d j = go (decLt d j)
+  where
+    go : Dec (d < j) → ltb (b + d) (b + j) ≡ ltb (c + d) (c + j)
+    go (yes h) = lt-ltb (b + d) (b + j) (omega arith) ∙ sym (lt-ltb (c + d) (c + j) (omega arith))
+    go (no h) = le-ltb (b + d) (b + j) (omega arith) ∙ sym (le-ltb (c + d) (c + j) (omega arith))
+
+-- So it is after a packet that is read at two bases, which has brought both k positions on.
+bringing-agree : (b c d n k : ℕ) (H K : Origins) → AgreeFrom b c H K → AgreeFrom (b + k) (c + k) (bringing (b + d) n H) (bringing (c + d) n K)
+bringing-agree b c d n k H K a i =
+    let e : b + k + i ≡ b + (k + i) = omega arith in
+    let f : c + (k + i) ≡ c + k + i = omega arith in
+    let g : b + d + n ≡ b + (d + n) = omega arith in
+    let h : c + (d + n) ≡ c + d + n = omega arith in
+    ap (bringing (b + d) n H) e
+    ∙ ap₂ (λ x y. x || y)
+    (ap₂ (λ x y. x && y) (shift-leb b c d (k + i)) (ap (ltb (b + (k + i))) g ∙ shift-ltb b c (k + i) (d + n) ∙ ap (ltb (c + (k + i))) h)) (a (k + i))
+    ∙ ap (bringing (c + d) n K) f
+
+later-agree : (b c k : ℕ) (H K : Origins) → AgreeFrom b c H K → AgreeFrom (b + k) (c + k) H K
+later-agree b c k H K a i =
+    let e : b + k + i ≡ b + (k + i) = omega arith in
+    let f : c + (k + i) ≡ c + k + i = omega arith in
+    ap H e ∙ a (k + i) ∙ ap K f
+
+module _ (s : Setting) where
+  open Setting s using (size as E, width as w)
+
+  -- The base after a call that finds the receiver so.
+  abbrev pub baseAfter : Joined s → Outcome s → ℕ
+  baseAfter t (refused n) = t .base
+  baseAfter t (done n u) = u .base
+
+  -- What is heard after a call at t and after one at u agrees.
+  abbrev HeardAlike : (t u : Joined s) → Origins → Origins → (r q : Reading) → (o p : Outcome s) → Type 0
+  HeardAlike t u H K r q o p = AgreeFrom (baseAfter t o) (baseAfter u p) (originsAfter r o H) (originsAfter q p K)
+
+  module _ (b c : ℕ) (S : model.State (Coded E) w) (H K : Origins) (a : AgreeFrom b c H K) where
+    abbrev left : Joined s
+    left = record { base = b; window = S }
+
+    abbrev right : Joined s
+    right = record { base = c; window = S }
+
+    -- A packet that is taken raises both bases by k.
+    abbrev taken : Joined s → (k : ℕ) → Option (model.State (Coded E) w) → Outcome s
+    taken t k o = added s t (decoder.and-then o (λ T. some (record { base = t .base + k; window = T })))
+
+    source-heard : (d k : ℕ) (vs : List (List ℕ)) (o : Option (model.State (Coded E) w))
+        → HeardAlike left right H K (located (source (b + d) vs)) (located (source (c + d) vs)) (taken left k o) (taken right k o)
+    source-heard d k vs none = a
+    source-heard d k vs (some T) = bringing-agree b c d (length vs) k H K a
+
+    repair-heard : (d n k : ℕ) (cs vs : List (List ℕ)) (o : Option (model.State (Coded E) w))
+        → HeardAlike left right H K (located (repair (b + d) n cs vs)) (located (repair (c + d) n cs vs)) (taken left k o) (taken right k o)
+    repair-heard d n k cs vs none = a
+    repair-heard d n k cs vs (some T) = later-agree b c k H K a
+
+    packet-heard : (d n : ℕ) (r q : Reading) (rows : List (Row (Coded E) n))
+        → ((k : ℕ) (o : Option (model.State (Coded E) w)) → HeardAlike left right H K r q (taken left k o) (taken right k o))
+        → HeardAlike left right H K r q (added s left (decoder.receive left (packet s b d n rows)))
+        (added s right (decoder.receive right (packet s c d n rows)))
+    packet-heard d n r q rows f = rw (receive-at s b d n rows S, receive-at s c d n rows S) (f (rise s d n) (inserted s d n rows S))
+
+    heard-shifted : (r q : Reading) → Shifted b c r q → HeardAlike left right H K r q (responds s left r) (responds s right q)
+    unfolding packets.source packets.repair
+    heard-shifted r q (both-fail n) = a
+    heard-shifted r q (both-source d vs) = packet-heard d (length vs) r q _ (λ k. source-heard d k vs)
+    heard-shifted r q (both-repair d n cs vs) = packet-heard d n r q _ (λ k. repair-heard d n k cs vs)
+
+  -- What is heard after a packet call.
+  pub origins-alike : (t u : Joined s) (room : ℕ) (c : Call) (H K : Origins) → SameFrom s t u → AgreeFrom (t .base) (u .base) H K
+      → HeardAlike t u H K (reading s (t .base) room c) (reading s (u .base) room c) (answering s t room c) (answering s u room c)
+  unfolding answering
+  origins-alike t u room c H K k a =
+      let r = reading s (t .base) room c in
+      let q = reading s (u .base) room c in
+      subst (λ S. let x : Joined s = record { base = u .base; window = S } in HeardAlike t x H K r q (responds s t r) (responds s x q)) (k .window)
+      (heard-shifted (t .base) (u .base) (t .window) H K a r q (reading-shifted (t .base) (u .base) s room c (k .esi)))

@@ -12,6 +12,7 @@ use Rattle.table.specs.RowSteps.{RowOf}
 use Rattle.table.proofs.Offsets.{flags-fit, row-end}
 use Rattle.placing.specs.Place.{KnownAt}
 use Rattle.placing.proofs.Showing.{symbol-bytes}
+use Rattle.origins.specs.Origins.{heardIn}
 use Rattle.holding.specs.declared.Header.{Header}
 use Rattle.holding.specs.declared.Spot.{Spot}
 use Rattle.holding.specs.declared.Spot.the-variants.{At, Nowhere}
@@ -62,13 +63,14 @@ module _ (m : List ℕ) (e d : ℕ) (h : Header) (stands : InWindow m e d h) whe
     symbol-is : Bytes m → bytesOf size (window.line width size (window.row width size r m) .sym) ≡ part (window.rowOffset width size r + width) size m
     symbol-is b = symbol-bytes width size r m (header-fits m h (stands .has)) (w .small) b
 
-    known-at : Bytes m → KnownAt width size r true m → Spotted m e (At (window.rowOffset width size r + width) size)
+    known-at : Bytes m → KnownAt width size r true m → Spotted m e (At (window.rowOffset width size r + width) size (heardIn width size m r))
     known-at b u = record {
       unopened = λ z. absurd (Option·none-ne-some h (sym z ∙ stands .has));
       lies = λ y z.
           let i : h ≡ y = Option·some-injective _ _ (sym (stands .has) ∙ z) in
           (ap (λ (x : Header). x .setting .size) i, omega (arith, flags-fit width size, row-ends));
-      told = of-joined m h (stands .has) (stands .joined) (λ s t. SpottedFor m e s t (At (window.rowOffset width size r + width) size))
+      told = of-joined m h (stands .has) (stands .joined)
+          (λ s t. SpottedFor m e s t (At (window.rowOffset width size r + width) size (heardIn width size m r)))
           (λ t g a c. (
             t .base + d,
             window.line width size (window.row width size r m) .sym,
@@ -76,6 +78,7 @@ module _ (m : List ℕ) (e d : ℕ) (h : Header) (stands : InWindow m e d h) whe
             symbol-is b,
             ap (λ x. window.rowOffset width size x + width) (sym (here t a)),
             refl,
+            ap (heardIn width size m) (sym (here t a)),
           ));
     }
 
@@ -91,16 +94,17 @@ module _ (m : List ℕ) (e d : ℕ) (shape : Shape) (g : Stood m e d shape) (r :
   pub finds-unknown : t ≡ false → Spotted m e (Nowhere Unknown)
   finds-unknown q = unknown m e d (g .header) (g .window) r row-is (known-is false q)
 
-  pub finds-at : t ≡ true → Bytes m → (a : ℕ) → a ≡ window.rowOffset (shape .width) (shape .size) r + shape .width → Spotted m e (At a (shape .size))
-  finds-at q b a i =
-      subst (λ x. Spotted m e (At x (shape .size))) (sym i)
-      (subst (λ (x : Shape). Spotted m e (At (window.rowOffset (x .width) (x .size) r + x .width) (x .size))) (sym (g .is))
-      (known-at m e d (g .header) (g .window) r row-is b (known-is true q)))
+  pub finds-at : t ≡ true → Bytes m → (a : ℕ) → a ≡ window.rowOffset (shape .width) (shape .size) r + shape .width
+      → (heard : Bool) → heard ≡ heardIn (shape .width) (shape .size) m r → Spotted m e (At a (shape .size) heard)
+  finds-at q b a i heard k =
+      rw (i, k)
+      (subst (λ (x : Shape). Spotted m e (At (window.rowOffset (x .width) (x .size) r + x .width) (x .size) (heardIn (x .width) (x .size) m r)))
+      (sym (g .is)) (known-at m e d (g .header) (g .window) r row-is b (known-is true q)))
 
 -- ---- What is promised of it
 
 abbrev pub IsNowhere : Spot → Type 0
-IsNowhere (At a n) = ⊥
+IsNowhere (At a n heard) = ⊥
 IsNowhere (Nowhere x) = Unit {0}
 
 -- The memory has a header, or none.
@@ -111,7 +115,7 @@ by-header m A x y = go (headerIn m) refl
     go none k = y k
     go (some h) k = x h k
 
-pub at-bounded : (m : List ℕ) (e : ℕ) (f : Spot) (a n : ℕ) → f ≡ At a n → Spotted m e f → a + n ≤ length m
-at-bounded m e f a n q g =
+pub at-bounded : (m : List ℕ) (e : ℕ) (f : Spot) (a n : ℕ) (heard : Bool) → f ≡ At a n heard → Spotted m e f → a + n ≤ length m
+at-bounded m e f a n heard q g =
     let h = subst (Spotted m e) q g in
     by-header m (a + n ≤ length m) (λ x k. h .lies x k .1) (λ k. absurd (subst IsNowhere (sym (h .unopened k)) tt))

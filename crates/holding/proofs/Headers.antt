@@ -1,7 +1,8 @@
 -- The header of a receiver: what reading it finds, what refusal 3 stands for, and what opening leaves.
 -- Laws:
 --   answers told apart: header-is, header-none
---   reading: area, working-area, numbers, found, found-joined, none-short, none-row, none-setting, Headed, headed, header-room, setting-fits, header-fits
+--   reading: area, working-area, numbers, found, found-joined, none-short, none-row, none-setting, Headed, headed, header-room, memory-is, setting-fits,
+--     header-fits
 --   a held state: header-held, setting-of, setting-held, of-header, of-joined
 --   refusal 3: zeros-unopened, other-unopened, short-unopened
 use Rattle.words.specs.Words.{_≡_, arith, ℕ, _≤_, _+_, List, length, _<_, refl, _∙_, sym, ap, _-_, some, _%_, true, none, _*_, false, Bool, subst, Option, _^_}
@@ -15,7 +16,7 @@ use Rattle.wire.specs.Packets.{zeros}
 use Rattle.wire.specs.Settings.{Valid}
 use Rattle.wire.specs.Stored.{settingIn}
 use Rattle.wire.proofs.Settings.{both, setting-found, setting-kept, zeros-none, one-kind}
-use Rattle.table.specs.Window.{headerSize, stride, Fits}
+use Rattle.table.specs.Window.{headerSize, stride, rowOffset, Fits}
 use Rattle.holding.specs.declared.Header.{Header}
 use Rattle.holding.specs.declared.Found.{Found}
 use Rattle.holding.specs.declared.Found.the-variants.{HeaderIs, NoHeader}
@@ -103,15 +104,19 @@ headed m h e = go (settingIn 2 m) refl e
 pub header-room : (m : List ℕ) (h : Header) → headerIn m ≡ some h → memorySize (h .setting) ≤ length m
 header-room m h e = headed m h e .room
 
+-- The rows, and a byte for each.
+pub memory-is : (s : Setting) → memorySize s ≡ rowOffset (s .width) (s .size) (s .width) + s .width
+unfolding headerSize stride
+memory-is s = refl
+
 -- The memory has room for the window's rows.
 pub setting-fits : (s : Setting) (m : List ℕ) → Valid s → memorySize s ≤ length m → Fits (s .width) (s .size) m
-unfolding headerSize stride
 setting-fits s m v h = record {
   some-width = omega (arith, v .width-least);
   wide = v .width-most;
   some-symbol = v .size-least;
   long = v .size-most;
-  room = h;
+  room = omega (arith, h, memory-is s);
 }
 
 pub header-fits : (m : List ℕ) (h : Header) → headerIn m ≡ some h → Fits (h .setting .width) (h .setting .size) m

@@ -4,14 +4,14 @@
 --   stand by the tests: stands-unopened, stands-fresh, stands-behind, stands-past, stands-inside
 --   in the window: InWindow, Stood, stood, Looks, looks
 --   outside it: Hidden, side-held, hidden
-use Rattle.words.specs.Words.{_≡_, arith, ℕ, _≤_, List, _<_, refl, _∙_, sym, ap, some, _%_, true, none, false, Bool, subst, Option, _≢_, _^_, cond, ltb}
+use Rattle.words.specs.Words.{_≡_, arith, ℕ, _≤_, _+_, List, length, _<_, refl, _∙_, sym, ap, some, _%_, true, none, false, Bool, subst, Option, _≢_, _^_, cond, ltb}
 use Rattle.words.specs.Words.{Option·none-ne-some, lt-ltb, mod-eq-of-lt, true≢false, le-ltb, ltb-true, ltb-false}
 use Rattle.wire.specs.declared.Setting.{Setting}
 use Rattle.wire.specs.declared.Refusal.{Refusal}
 use Rattle.wire.specs.declared.Refusal.the-variants.{Unopened, Behind, Unknown}
 use Rattle.wire.specs.Numbers.{distanceOf, numberOf}
 use Rattle.table.specs.declared.Shape.{Shape}
-use Rattle.table.specs.Window.{Fits}
+use Rattle.table.specs.Window.{rowOffset, Fits}
 use Rattle.starts.specs.Adu.{withholds, need}
 use Rattle.starts.specs.Starts.{Starts}
 use Rattle.history.specs.History.{Side, behind, ahead, halfway, sideOf}
@@ -23,7 +23,7 @@ use Rattle.holding.specs.declared.Stand.the-variants.{Inside, Outside}
 use Rattle.holding.specs.Header.{headerIn}
 use Rattle.holding.specs.Layout.{Holds}
 use Rattle.holding.specs.Inner.{shapeOf, sideFound, standOn, standOf}
-use Rattle.holding.proofs.Headers.{headed, header-fits, of-header, of-joined}
+use Rattle.holding.proofs.Headers.{headed, header-room, memory-is, header-fits, of-header, of-joined}
 use Rattle.holding.specs.declared.Side as code
 use Rattle.holding.specs.declared.Side.the-variants as sides
 
@@ -129,13 +129,21 @@ stood m e d shape told is = go (headerIn m) refl (sym is ∙ told)
 -- What looking there asks.
 pub record Looks (m : List ℕ) (d : ℕ) (shape : Shape) : Type 0 where
   pub fits : Fits (shape .width) (shape .size) m
+  pub origins : rowOffset (shape .width) (shape .size) (shape .width) + shape .width ≤ length m
   pub oldest : shape .oldest < shape .width
   pub inside : d < shape .width
 
 pub looks : {m : List ℕ} {e d : ℕ} {shape : Shape} → Stood m e d shape → Looks m d shape
 looks {m} {e} {d} {shape} g =
+    let h = g .header in
     let has = g .window .has in
-    subst (Looks m d) (sym (g .is)) (record { fits = header-fits m (g .header) has; oldest = headed m (g .header) has .row-lt; inside = g .window .inside })
+    subst (Looks m d) (sym (g .is))
+    (record {
+      fits = header-fits m h has;
+      origins = omega (arith, header-room m h has, memory-is (h .setting));
+      oldest = headed m h has .row-lt;
+      inside = g .window .inside;
+    })
 
 -- ---- Outside the window
 

@@ -1,5 +1,5 @@
 -- Contracts of inner functions: a reader need not believe these.
-use Rattle.words.specs.Words.{_≡_, ℕ, _≤_, _+_, List, length, _-_, some, none, Option, _≢_, cond, ltb}
+use Rattle.words.specs.Words.{_≡_, ℕ, _≤_, _+_, List, length, _-_, some, _%_, none, Option, _≢_, cond, ltb}
 use Rattle.memory.specs.Part.{part, splice}
 use Rattle.wire.specs.declared.Setting.{Setting}
 use Rattle.wire.specs.Numbers.{numberOf}
@@ -18,6 +18,7 @@ use Rattle.holding.specs.declared.Spot.the-variants.{At, Nowhere}
 use Rattle.history.specs.History.{memorySize}
 use Rattle.history.specs.Symbol.{Symbol, bytesOf}
 use Rattle.history.specs.Model.{State, shows, hides, finding}
+use Rattle.origins.specs.Origins.{heardIn}
 use Rattle.holding.specs.Header.{headerIn}
 use Rattle.holding.specs.Layout.{Holds, symbolStart}
 use Rattle.wire.specs.declared.Refusal.the-variants as refusals
@@ -52,13 +53,14 @@ freshMemory s m = splice 8 (zeros (memorySize s - 8)) (splice 0 (settingBytes 2 
 
 -- Of a state that the memory holds, a spot is where the symbol stands, and nowhere is why it is not shown.
 abbrev pub SpottedFor : (m : List ℕ) (e : ℕ) (s : Setting) → State s → Spot → Type 0
-SpottedFor m e s t (At a n) =
+SpottedFor m e s t (At a n heard) =
     (p : ℕ) × (v : Symbol (s .size)) × (finding s t e ≡ shows p v) × (bytesOf (s .size) v ≡ part a n m) × (a ≡ symbolStart s p) × (n ≡ s .size)
+    × (heard ≡ heardIn (s .width) (s .size) m (p % s .width))
 SpottedFor m e s t (Nowhere x) = finding s t e ≡ hides (numberOf x)
 
 -- Of any memory with a header, a spot lies in it.
 abbrev pub InBounds : List ℕ → Header → Spot → Type 0
-InBounds m h (At a n) = (n ≡ h .setting .size) × (a + n ≤ length m)
+InBounds m h (At a n heard) = (n ≡ h .setting .size) × (a + n ≤ length m)
 InBounds m h (Nowhere x) = numberOf x ≢ 3
 
 pub record Spotted (m : List ℕ) (e : ℕ) (f : Spot) : Type 0 where

@@ -1,4 +1,4 @@
--- How the receiver's memory holds a state: a header of 64 bytes, then the window's rows (crate `table`).
+-- How the receiver's memory holds a state: a header of 64 bytes, then the window's rows (crate `table`), then a byte for each row (crate `origins`).
 -- The claims hold of every layout: a reader of them need not believe this one.
 use Rattle.words.specs.Words.{_≡_, ℕ, _+_, List, some, _%_, true, none, false, _^_}
 use Rattle.wire.specs.declared.Setting.{Setting}
@@ -7,11 +7,12 @@ use Rattle.decoder.specs.Model.{Rref}
 use Rattle.starts.specs.Starts.{Starts, seen}
 use Rattle.starts.specs.Settled.{Settled}
 use Rattle.holding.specs.declared.Header.{Header}
-use Rattle.history.specs.Model.{Joined, State}
+use Rattle.history.specs.Model.{Joined, State, Origins}
 use Rattle.holding.specs.Header.{headerIn}
 use Rattle.decoder.specs.Receiver as decoder
 use Rattle.table.specs.Window as window
 use Rattle.marks.specs.Marks as marks
+use Rattle.origins.specs.Origins as origins
 
 -- The header of a receiver that has a base: row and ESI of a position are its remainders by the width and by 2^32; and of any.
 abbrev pub headerFrom : (s : Setting) → Joined s → Header
@@ -43,6 +44,11 @@ pub record MarksFrom (m : List ℕ) (s : Setting) (t : Joined s) (M : Starts) : 
 abbrev pub Marks : (m : List ℕ) (s : Setting) → State s → Starts → Type 0
 Marks m s none M = (b : ℕ) → marks.Marks (s .width) (s .size) b m M
 Marks m s (some t) M = MarksFrom m s t M
+
+-- It says which positions are heard; before any base, wherever the base will be.
+abbrev pub Hears : (m : List ℕ) (s : Setting) → State s → Origins → Type 0
+Hears m s none H = (b : ℕ) → origins.Hears (s .width) (s .size) b m H
+Hears m s (some t) H = origins.Hears (s .width) (s .size) (t .base) m H
 
 -- Where the symbol at a position starts: after the coefficients of its row.
 abbrev pub symbolStart : Setting → ℕ → ℕ

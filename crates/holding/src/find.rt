@@ -57,7 +57,8 @@ pub fn find(mem: &[u8], esi: Esi) -> Spot
             if !placing::is_known(mem, shape, row) {
                 return Spot::Nowhere(Refusal::Unknown);
             }
-            Spot::At(table::symbol_offset(shape, row), shape.size)
+            let heard = origins::is_heard(mem, shape, row);
+            Spot::At(table::symbol_offset(shape, row), shape.size, heard)
         }
     }
 }

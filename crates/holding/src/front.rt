@@ -27,7 +27,7 @@ pub fn memory_size(setting: Setting) -> usize
     requires { ⌜ Valid setting ⌝ }
     ensures { λ r. ⌜ r ≡ memorySize setting ⌝ }
 {
-    table::row_offset(rows_of(setting), setting.width)
+    table::row_offset(rows_of(setting), setting.width) + setting.width
 }
 
 // How many bytes of working memory a packet call borrows.
@@ -35,7 +35,7 @@ pub fn working_size(setting: Setting) -> usize
     requires { ⌜ Valid setting ⌝ }
     ensures { λ r. ⌜ r ≡ workingSize setting ⌝ }
 {
-    memory_size(setting) + table::stride(rows_of(setting))
+    memory_size(setting) + table::stride(rows_of(setting)) + 1
 }
 
 // Reads the header, if the memory has a receiver's and is long enough for its setting.

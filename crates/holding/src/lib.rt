@@ -49,8 +49,8 @@ pub enum Stand {
     Outside(Refusal),
 }
 
-// Where a known symbol stands and how many bytes it has, or why none is shown.
+// Where a known symbol stands, how many bytes it has and whether it was heard, or why none is shown.
 pub enum Spot {
-    At(usize, usize),
+    At(usize, usize, bool),
     Nowhere(Refusal),
 }

@@ -22,20 +22,26 @@ returns c =
     finds-unknown _ _ _ _ (stands (c .before .before .before .before)) _ (c .before .before .row-of .ensures) _ (c .before .is-known .ensures)
     (not-true (c .before .is-known .result) (c .if1 .taken))
 
+is-heard-requires : tie.Need-is-heard-requires
+is-heard-requires c κs =
+    let l = looks (stands (c .before .before .before .before)) in
+    (l .fits, l .origins, c .before .before .row-of .ensures .small)
+
 symbol-offset-requires : tie.Need-symbol-offset-requires
 symbol-offset-requires c κs =
-    let f = looks (stands (c .before .before .before .before)) .fits in
-    (omega (arith, c .before .before .row-of .ensures .small), f .wide, f .long)
+    let f = looks (stands (c .before .before .before .before .before)) .fits in
+    (omega (arith, c .before .before .before .row-of .ensures .small), f .wide, f .long)
 
 returns-2 : tie.Need-returns-2
 returns-2 c = finds-outside _ _ _ (hidden _ _ _ (c .before .before .before .stand .ensures) (c .before .refusal .given .1))
 
 returns-3 : tie.Need-returns-3
 returns-3 c =
-    let p = c .before .before .before .before .before in
-    finds-at _ _ _ _ (stands p) _ (c .before .before .before .row-of .ensures) _ (c .before .before .is-known .ensures)
-    (not-false (c .before .before .is-known .result) (c .before .if1 .left)) (λ i. p .before .before .before .shared-slice-known .given i .fits)
-    _ (c .symbol-offset .ensures .start)
+    let q = c .before in
+    let p = q .before .before .before .before .before in
+    finds-at _ _ _ _ (stands p) _ (q .before .before .before .row-of .ensures) _ (q .before .before .is-known .ensures)
+    (not-false (q .before .before .is-known .result) (q .before .if1 .left)) (λ i. p .before .before .before .shared-slice-known .given i .fits)
+    _ (c .symbol-offset .ensures .start) _ (q .is-heard .ensures)
 
 pub find-spec : {M : Type 1} → statement M
 find-spec =
@@ -47,6 +53,7 @@ find-spec =
     row-of-requires
     is-known-requires
     returns
+    is-heard-requires
     symbol-offset-requires
     returns-2
     returns-3)
