@@ -2,7 +2,8 @@
 -- Laws:
 --   the new header: rebased, rebased-length, rebased-front, rebased-past, rebased-row, rebased-esi, rebased-window
 --   the state after the packet: finished
-use Rattle.words.specs.Words.{_≡_, arith, ℕ, _≤_, length, _+_, List, _<_, refl, _∙_, sym, ap, some, _%_, getD, subst, drop, take, _^_, getD-take, mod-lt}
+use Rattle.words.specs.Words.{_≡_, arith, ℕ, _≤_, length, _+_, List, _<_, refl, _∙_, sym, ap, _-_, some, _%_, getD, subst, drop, take, _^_, getD-take, getD-drop}
+use Rattle.words.specs.Words.{mod-lt}
 use lib.Seq.{take-take}
 use Rattle.memory.specs.Part.{part, splice}
 use Rattle.memory.specs.Number.{number, bytes}
@@ -30,6 +31,7 @@ use Rattle.admission.specs.Joining.{Based}
 use Rattle.admission.specs.Steps.{Finished}
 use Rattle.holding.proofs.Headers.{found-joined}
 use Rattle.admission.proofs.Joining.{based-fits}
+use Rattle.admission.proofs.Gathering.{contained-past}
 use Rattle.decoder.specs.Model as model
 use Rattle.decoder.specs.Receiver as decoder
 use Rattle.decoder.proofs.History as history
@@ -41,6 +43,12 @@ taken-reduced : (w E rise : ℕ) (S T : model.State (Coded E) w) (es : List (mod
 taken-reduced w E rise S T es pos r e =
     subst (history.Added-all (laws E pos) (decoder.advance-by rise S) es) e
     (history.insert-all-added (laws E pos) es (decoder.advance-by rise S) (history.advance-by-rref (laws E pos) rise S r)) .0
+
+-- Memories that are the same from a place on.
+same-past : (a : ℕ) (m m′ : List ℕ) → drop a m′ ≡ drop a m → (k : ℕ) → a ≤ k → getD m′ k 0 ≡ getD m k 0
+same-past a m m′ e k h =
+    let i : a + (k - a) ≡ k = omega arith in
+    ap (λ j. getD m′ j 0) (sym i) ∙ sym (getD-drop a m′ (k - a) 0) ∙ ap (λ x. getD x (k - a) 0) e ∙ getD-drop a m (k - a) 0 ∙ ap (λ j. getD m j 0) i
 
 -- A number for the row and the ESI of a base, stored.
 abbrev pub rebased : (row esi : ℕ) → List ℕ → List ℕ
@@ -111,6 +119,7 @@ module _ (h : Header) (location : Location) (kept count esi : ℕ) (work m m₁ 
       let base : h .esi .0 ≡ t .base % 2 ^ 32 = ap (λ x. x .esi .0) is in
       let e : esi ≡ (t .base + location .rise) % 2 ^ 32 = omega (arith, next, base) in
       let l : 16 ≤ length m₁ = long in
+      let whole : memorySize s ≤ length m = subst (λ x. memorySize x ≤ length m) same (has .room) in
       let fits : window.Fits (s .width) (s .size) m₁ = subst (λ x. window.Fits (x .width) (x .size) m₁) same room in
       let front : take 8 (rebased n esi m₁) ≡ take 8 m =
       rebased-front n esi m₁ l ∙ sym (take-take 8 headerSize m₁ (omega (arith, header-long))) ∙ ap (take 8) (f .unchanged .header) ∙ take-take 8 headerSize m
@@ -120,7 +129,7 @@ module _ (h : Header) (location : Location) (kept count esi : ℕ) (work m m₁ 
       let at : rowIn (rebased n esi m₁) ≡ (t .base + location .rise) % s .width + 1 = rebased-row n esi m₁ l (omega arith) ∙ ap (λ x. x + 1) row in
       let at-esi : number (part 12 4 (rebased n esi m₁)) ≡ (t .base + location .rise) % 2 ^ 32 = rebased-esi n esi m₁ l (omega (arith, e)) ∙ e in
       let head : headerIn (rebased n esi m₁) ≡ some (headerFrom s (record { base = t .base + location .rise; window = T })) =
-      found-joined (rebased n esi m₁) s set _ _ (omega (arith, fits .room, rebased-length n esi m₁ l))
+      found-joined (rebased n esi m₁) s set _ _ (omega (arith, whole, f .unchanged .size, rebased-length n esi m₁ l))
       (mod-lt (t .base + location .rise) (fits .some-width)) at at-esi in
       subst (λ x. Holds x s (some (record { base = t .base + location .rise; window = T }))) (sym stored)
       (record {
@@ -131,12 +140,12 @@ module _ (h : Header) (location : Location) (kept count esi : ℕ) (work m m₁ 
   pub finished : Finished h location kept count work m m′
   unfolding headerSize window.stride
   finished = record {
-    contained = record {
-      same = ap length stored ∙ rebased-length (location .shape .oldest + 1) esi m₁ long ∙ f .unchanged .size;
-      past =
-          ap (drop (memorySize (h .setting))) stored ∙ rebased-past (location .shape .oldest + 1) esi m₁ long (memorySize (h .setting)) (omega arith)
-          ∙ f .unchanged .past;
-    };
+    contained =
+        let rows = window.rowOffset (h .setting .width) (h .setting .size) (h .setting .width) in
+        contained-past rows (omega arith) (record {
+          same = ap length stored ∙ rebased-length (location .shape .oldest + 1) esi m₁ long ∙ f .unchanged .size;
+          past = ap (drop rows) stored ∙ rebased-past (location .shape .oldest + 1) esi m₁ long rows (omega arith) ∙ f .unchanged .past;
+        });
     marks = record {
       header = λ k l g.
           ap (λ x. getD x k 0) stored ∙ rebased-spare (location .shape .oldest + 1) esi m₁ long k l g
@@ -148,6 +157,9 @@ module _ (h : Header) (location : Location) (kept count esi : ℕ) (work m m₁ 
           ap (λ x. getD x (flagAt w E r) 0) stored ∙ rebased-rows (location .shape .oldest + 1) esi m₁ long (flagAt w E r) (omega arith)
           ∙ f .unchanged .flags r (w + E + 1) l (omega arith) (omega arith);
     };
+    past = λ k l.
+        let rows = window.rowOffset (h .setting .width) (h .setting .size) (h .setting .width) in
+        ap (λ x. getD x k 0) stored ∙ rebased-rows (location .shape .oldest + 1) esi m₁ long k (omega arith) ∙ same-past rows m m₁ (f .unchanged .past) k l;
     most = f .most;
     outcome = λ s t es is k row g.
         let pos : 0 < s .size = subst (λ (x : Header). 0 < x .setting .size) is (omega (arith, has .valid .size-least)) in

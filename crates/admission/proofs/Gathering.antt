@@ -1,11 +1,11 @@
 -- A packet's equations, admitted one after the other: what one more makes of them, and what all come to.
 -- Laws:
---   memories: contained-none, contained-more, contained-row
+--   memories: contained-none, contained-more, contained-past, contained-row
 --   a stored symbol: stored-only, works-stored, stored-is
 --   one equation: equation-admitted, stored-admitted
 --   all equations: firsts-same, firsts-cons, contradiction-stays, gathers-none, gathers-on, gathers-stop, gathers-all
 use Rattle.words.specs.Words.{_≡_, arith, ℕ, _≤_, length, _+_, List, _<_, refl, _∙_, sym, ap, [], some, _∷_, suc, zero, none, getD, _++_, subst, ap₂}
-use Rattle.words.specs.Words.{ℕ-discrete}
+use Rattle.words.specs.Words.{ℕ-discrete, _-_, drop, drop-drop}
 use Rattle.memory.specs.Part.{splice}
 use Rattle.memory.proofs.Parts.{getD-part, getD-within, row-fits}
 use Rattle.decoder.specs.Bytes.{Coded}
@@ -37,6 +37,15 @@ contained-none = record { same = refl; past = refl }
 
 pub contained-more : {n : ℕ} {m m′ m″ : List ℕ} → Contained n m m′ → Contained n m′ m″ → Contained n m m″
 contained-more f g = record { same = g .same ∙ f .same; past = g .past ∙ f .past }
+
+pub contained-past : (n : ℕ) {k : ℕ} {m m′ : List ℕ} → n ≤ k → Contained n m m′ → Contained k m m′
+contained-past n {k} {m} {m′} h f =
+    let e : n + (k - n) ≡ k = omega arith in
+    record {
+      same = f .same;
+      past =
+          ap (λ i. drop i m′) (sym e) ∙ sym (drop-drop (k - n) n m′) ∙ ap (drop (k - n)) (f .past) ∙ drop-drop (k - n) n m ∙ ap (λ i. drop i m) e;
+    }
 
 -- A change within a row of working memory.
 pub contained-row : (w E k z : ℕ) (m m′ : List ℕ) → k ≤ w → z ≤ rowOffset w E k + stride w E → Only (rowOffset w E k) z m m′

@@ -3,6 +3,7 @@ pub mod Locating
 pub mod Finishing
 pub mod Gathering
 pub mod Marking
+pub mod Hearing
 pub mod Sourcing
 pub mod Repairing
 pub mod Reading

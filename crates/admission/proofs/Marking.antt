@@ -1,10 +1,11 @@
 -- A memory in which nothing but marks has changed holds the same state; and the marks after a packet.
 -- Laws:
---   only marks changed: header-same, starts-contained, starts-holds
+--   the same state: SameState, state-holds
+--   only marks changed: starts-contained, starts-holds
 --   marks not changed: same-marks
---   a packet is accepted: update-asks, count-asks, count-again, accepted
+--   a packet's rows have joined: update-asks, count-asks, count-again, marked
 use Rattle.words.specs.Words.{_≡_, arith, ℕ, _≤_, length, _+_, List, _<_, refl, _∙_, sym, ap, _-_, some, _%_, none, getD, false, Bool, subst, Option, drop, ltb}
-use Rattle.words.specs.Words.{length-drop, ext-getD, getD-drop, ap₂, decLt, mod-add-mod, mod-lt}
+use Rattle.words.specs.Words.{length-drop, ext-getD, getD-drop, ap₂, decLt, mod-add-mod, mod-lt, _≢_}
 use Rattle.memory.specs.Part.{part}
 use Rattle.memory.proofs.Parts.{length-part, getD-part}
 use Rattle.wire.specs.declared.Setting.{Setting}
@@ -12,10 +13,11 @@ use Rattle.wire.specs.Stored.{settingIn}
 use Rattle.wire.proofs.Settings.{setting-kept}
 use Rattle.decoder.specs.Bytes.{Coded}
 use Rattle.table.proofs.Offsets.{header-long}
+use Rattle.table.proofs.Holding.{window-same}
 use Rattle.starts.specs.Starts.{Starts, owning, moved, pass, seen}
 use Rattle.starts.specs.Settled.{Settled, Old}
 use Rattle.marks.specs.MarkSteps.{Updated, Tallied}
-use Rattle.marks.proofs.Only.{starts-window, header-no-mark, past-no-mark, mark-row, mark-past}
+use Rattle.marks.proofs.Only.{header-no-mark, past-no-mark, row-no-mark, mark-row, mark-past}
 use Rattle.marks.proofs.Gaining.{old-ones}
 use Rattle.holding.specs.declared.Header.{Header}
 use Rattle.admission.specs.declared.packet.Location.{Location}
@@ -26,7 +28,7 @@ use Rattle.holding.specs.Header.{headerWith, headerIn}
 use Rattle.memory.specs.Contained.{Contained}
 use Rattle.holding.specs.Layout.{headerFrom, headerOf, Stands, Rows, Holds, MarksFrom}
 use Rattle.admission.specs.Joining.{Based}
-use Rattle.admission.specs.Steps.{SameMarks, LocatedBy, Finished, Accepted}
+use Rattle.admission.specs.Steps.{SameMarks, LocatedBy, Finished, Marked}
 use Rattle.holding.proofs.Headers.{header-fits, setting-of}
 use Rattle.admission.proofs.Joining.{based-fits}
 use Rattle.admission.proofs.Gathering.{contained-more}
@@ -35,9 +37,15 @@ use Rattle.decoder.specs.Receiver as decoder
 use Rattle.table.specs.Window as window
 use Rattle.marks.specs.Marks as marks
 
--- ---- nothing but marks has changed
+-- ---- what the state is read from has not changed
 
-module _ (w E : ℕ) (m m′ : List ℕ) (o : marks.OnlyStarts w E m m′) (long : 16 ≤ length m) where
+-- The header but for the bytes 10 and 11, and each row up to its first flag.
+pub record SameState (w E : ℕ) (m m′ : List ℕ) : Type 0 where
+  pub size : length m′ ≡ length m
+  pub header : (k : ℕ) → k < 16 → k ≢ 10 → k ≢ 11 → getD m′ k 0 ≡ getD m k 0
+  pub rows : (r k : ℕ) → r < w → k < w + E + 1 → getD m′ (window.rowOffset w E r + k) 0 ≡ getD m (window.rowOffset w E r + k) 0
+
+module _ (w E : ℕ) (m m′ : List ℕ) (o : SameState w E m m′) (long : 16 ≤ length m) where
   -- A part of the header without the bytes 10 and 11.
   part-kept : (a n : ℕ) → a + n ≤ 16 → ((i : ℕ) → i < n → (a + i ≡ 10 → ⊥) × (a + i ≡ 11 → ⊥)) → part a n m′ ≡ part a n m
   part-kept a n h away =
@@ -45,8 +53,7 @@ module _ (w E : ℕ) (m m′ : List ℕ) (o : marks.OnlyStarts w E m m′) (long
       ext-getD 0 (part a n m′) (part a n m) (l ∙ sym (length-part a n m (omega arith)))
       (λ i k.
       let j : i < n = omega (arith, l) in
-      getD-part a n i m′ j ∙ o .others (a + i) (header-no-mark w E (a + i) (omega (arith, header-long)) (away i j .0)) (away i j .1) ∙ sym
-      (getD-part a n i m j))
+      getD-part a n i m′ j ∙ o .header (a + i) (omega arith) (away i j .0) (away i j .1) ∙ sym (getD-part a n i m j))
 
   setting-same : settingIn 2 m′ ≡ settingIn 2 m
   unfolding part
@@ -59,9 +66,26 @@ module _ (w E : ℕ) (m m′ : List ℕ) (o : marks.OnlyStarts w E m m′) (long
       let esi = part-kept 12 4 (omega arith) (λ i l. ((λ e. omega arith), (λ e. omega arith))) in
       rw (o .size, row, esi)
 
-  pub header-same : headerIn m′ ≡ headerIn m
+  header-same : headerIn m′ ≡ headerIn m
   unfolding headerIn
   header-same = ap (headerWith m′) setting-same ∙ head-same (settingIn 2 m)
+
+rows-same : (s : Setting) (t : State s) (m m′ : List ℕ) → 0 < s .width → Rows m s t → SameState (s .width) (s .size) m m′ → Rows m′ s t
+rows-same s none m m′ pos k o = λ b. window-same (s .width) (s .size) m m′ pos (λ r l i n. o .rows r i l n) b _ (k b)
+rows-same s (some t) m m′ pos k o = record {
+  reduced = k .reduced;
+  rows = window-same (s .width) (s .size) m m′ pos (λ r l i n. o .rows r i l n) (t .base) (t .window) (k .rows);
+}
+
+pub state-holds : (s : Setting) (t : State s) (m m′ : List ℕ) → Holds m s t → SameState (s .width) (s .size) m m′ → Holds m′ s t
+state-holds s t m m′ k o =
+    let f = subst (λ (x : Setting). window.Fits (x .width) (x .size) m) (setting-of s t) (header-fits m (headerOf s t) (k .header)) in
+    record {
+      header = header-same (s .width) (s .size) m m′ o (omega (arith, header-long, f .room)) ∙ k .header;
+      rows = rows-same s t m m′ (f .some-width) (k .rows) o;
+    }
+
+-- ---- nothing but marks has changed
 
 pub starts-contained : (s : Setting) (m m′ : List ℕ) → marks.OnlyStarts (s .width) (s .size) m m′ → Contained (memorySize s) m m′
 unfolding window.headerSize window.stride
@@ -76,17 +100,15 @@ starts-contained s m m′ o = record {
       ∙ sym (getD-drop (memorySize s) m i 0));
 }
 
-starts-rows : (s : Setting) (t : State s) (m m′ : List ℕ) → 0 < s .width → Rows m s t → marks.OnlyStarts (s .width) (s .size) m m′ → Rows m′ s t
-starts-rows s none m m′ pos k o = λ b. starts-window pos o b _ (k b)
-starts-rows s (some t) m m′ pos k o = record { reduced = k .reduced; rows = starts-window pos o (t .base) (t .window) (k .rows) }
+starts-same : (w E : ℕ) (m m′ : List ℕ) → marks.OnlyStarts w E m m′ → SameState w E m m′
+starts-same w E m m′ o = record {
+  size = o .size;
+  header = λ k l n d. o .others k (header-no-mark w E k (omega (arith, header-long)) n) d;
+  rows = λ r k l n. o .others (window.rowOffset w E r + k) (row-no-mark w E r k n) (λ e. omega (arith, header-long, e));
+}
 
 pub starts-holds : (s : Setting) (t : State s) (m m′ : List ℕ) → Holds m s t → marks.OnlyStarts (s .width) (s .size) m m′ → Holds m′ s t
-starts-holds s t m m′ k o =
-    let f = subst (λ (x : Setting). window.Fits (x .width) (x .size) m) (setting-of s t) (header-fits m (headerOf s t) (k .header)) in
-    record {
-      header = header-same (s .width) (s .size) m m′ o (omega (arith, header-long, f .room)) ∙ k .header;
-      rows = starts-rows s t m m′ (f .some-width) (k .rows) o;
-    }
+starts-holds s t m m′ k o = state-holds s t m m′ k (starts-same (s .width) (s .size) m m′ o)
 
 -- ---- the marks have not changed
 
@@ -102,7 +124,7 @@ same-marks w E base m m′ M pos f h i l = go (decLt i w) ∙ h i l
         let e = mark-past w E base i (omega arith) in
         ap (λ k. ltb 0 (getD m′ k 0)) (sym e) ∙ ap (ltb 0) (f .header 10 (omega arith) (omega arith)) ∙ ap (λ k. ltb 0 (getD m k 0)) e
 
--- ---- a packet is accepted
+-- ---- a packet's rows have joined
 
 -- What following it with the marks asks.
 pub update-asks : (h : Header) (at : Location) (own : ℕ) (m m₁ : List ℕ) → Based m h → LocatedBy h at own
@@ -186,9 +208,12 @@ module _ (h : Header) (at : Location) (kept own count had has : ℕ) (others : B
         (subst (λ x. Settled (s .size) (s .width) (seen (s .size) (s .width) (t .window)) x M) note (km .settled)) olds in
         record { bytes = subst (λ b. marks.Marks (s .width) (s .size) b m₂ N) around g; settled = settled }
 
-  pub accepted : Accepted h at kept own count work m m₂
-  accepted = record {
+  pub marked : Marked h at kept own count work m m₂
+  marked = record {
     contained = contained-more (f .contained) (starts-contained (h .setting) m₁ m₂ (u′ .only));
+    past = λ k l.
+        let w = h .setting .width in
+        u′ .only .others k (past-no-mark w (h .setting .size) k l) (λ e. omega (arith, header-long, e)) ∙ f .past k l;
     most = f .most;
     outcome = λ s t es is k row g.
         let (T, i, held, n) = f .outcome s t es is k row g in

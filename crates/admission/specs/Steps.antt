@@ -18,7 +18,8 @@ use Rattle.admission.specs.declared.packet.Gathered.{Gathered}
 use Rattle.admission.specs.declared.packet.Gathered.the-variants.{All, Contradiction}
 use Rattle.history.specs.Symbol.{Symbol}
 use Rattle.history.specs.History.{memorySize, Side, behind, ahead, sideOf, farthest}
-use Rattle.history.specs.Model.{Joined}
+use Rattle.history.specs.Model.{Joined, Origins, bringing}
+use Rattle.origins.specs.Origins.{Hears}
 use Rattle.memory.specs.Contained.{Contained}
 use Rattle.holding.specs.Layout.{headerFrom, Stands, Holds, MarksFrom}
 use Rattle.decoder.specs.Model as model
@@ -123,11 +124,16 @@ pub record SameMarks (w E : ℕ) (m m′ : List ℕ) : Type 0 where
   pub header : (k : ℕ) → 10 ≤ k → k < 12 → getD m′ k 0 ≡ getD m k 0
   pub rows : (r : ℕ) → r < w → getD m′ (flagAt w E r) 0 ≡ getD m (flagAt w E r) 0
 
+-- What stands past the rows is as it was.
+abbrev pub SamePast : (w E : ℕ) (m m′ : List ℕ) → Type 0
+SamePast w E m m′ = (k : ℕ) → rowOffset w E w ≤ k → getD m′ k 0 ≡ getD m k 0
+
 -- The place is one by the header, with room for `own` symbols from its offset on.
 pub record LocatedBy (h : Header) (at : Location) (own : ℕ) : Type 0 where
   pub width : at .shape .width ≡ h .setting .width
   pub size : at .shape .size ≡ h .setting .size
   pub base : at .shape .oldest ≡ (h .oldest + at .rise) % at .shape .width
+  pub stay : at .stay ≡ at .shape .width - at .rise
   pub room : at .offset + own ≤ at .shape .width
 
 -- The packet's rows in working memory have joined the state's, and the base has risen: the memory holds what the model says of the equations
@@ -135,6 +141,7 @@ pub record LocatedBy (h : Header) (at : Location) (own : ℕ) : Type 0 where
 pub record Finished (h : Header) (at : Location) (kept count : ℕ) (work m m′ : List ℕ) : Type 0 where
   pub contained : Contained (memorySize (h .setting)) m m′
   pub marks : SameMarks (h .setting .width) (h .setting .size) m m′
+  pub past : SamePast (h .setting .width) (h .setting .size) m m′
   pub most : count ≤ kept * 256
   pub outcome : (s : Setting) (t : Joined s) (es : List (model.Row (Coded (s .size)) (s .width))) → h ≡ headerFrom s t → Stands m s t
       → at .shape .oldest ≡ (t .base + at .rise) % s .width
@@ -144,6 +151,20 @@ pub record Finished (h : Header) (at : Location) (kept count : ℕ) (work m m′
       × (count ≡ decoder.newly t (record { base = t .base + at .rise; window = T }))
 
 -- And the marks are those that the packet with `own` symbols of its own makes.
+pub record Marked (h : Header) (at : Location) (kept own count : ℕ) (work m m′ : List ℕ) : Type 0 where
+  pub contained : Contained (memorySize (h .setting)) m m′
+  pub past : SamePast (h .setting .width) (h .setting .size) m m′
+  pub most : count ≤ kept * 256
+  pub outcome : (s : Setting) (t : Joined s) (es : List (model.Row (Coded (s .size)) (s .width))) → h ≡ headerFrom s t → Stands m s t
+      → at .shape .oldest ≡ (t .base + at .rise) % s .width
+      → packet.Gathered (s .width) (s .size) (t .base + at .rise) (decoder.advance-by (at .rise) (t .window)) work kept es
+      → (T : model.State (Coded (s .size)) (s .width)) × (decoder.insert-all es (decoder.advance-by (at .rise) (t .window)) ≡ some T)
+      × Holds m′ s (some (record { base = t .base + at .rise; window = T }))
+      × (count ≡ decoder.newly t (record { base = t .base + at .rise; window = T }))
+      × ((M : Starts) → MarksFrom m s t M → MarksFrom m′ s (record { base = t .base + at .rise; window = T })
+      (pass (s .size) (seen (s .size) (s .width) T) (s .width) (owning (at .offset) own (moved (s .width) (at .rise) M))))
+
+-- And the packet has brought its own symbols.
 pub record Accepted (h : Header) (at : Location) (kept own count : ℕ) (work m m′ : List ℕ) : Type 0 where
   pub contained : Contained (memorySize (h .setting)) m m′
   pub most : count ≤ kept * 256
@@ -155,3 +176,5 @@ pub record Accepted (h : Header) (at : Location) (kept own count : ℕ) (work m 
       × (count ≡ decoder.newly t (record { base = t .base + at .rise; window = T }))
       × ((M : Starts) → MarksFrom m s t M → MarksFrom m′ s (record { base = t .base + at .rise; window = T })
       (pass (s .size) (seen (s .size) (s .width) T) (s .width) (owning (at .offset) own (moved (s .width) (at .rise) M))))
+  pub hears : (b : ℕ) (H : Origins) → b % h .setting .width ≡ h .oldest → Hears (h .setting .width) (h .setting .size) b m H
+      → Hears (h .setting .width) (h .setting .size) (b + at .rise) m′ (bringing (b + at .rise + at .offset) own H)
