@@ -12,22 +12,23 @@ use Rattle.wire.specs.Settings.{settingOf, Valid}
 use Rattle.wire.specs.Stored.{settingBytes}
 use Rattle.wire.proofs.Settings.{setting-names, setting-written, setting-kept}
 use Rattle.table.specs.Window.{headerSize, stride, rowOffset}
-use Rattle.table.proofs.Offsets.{flags-fit}
+use Rattle.table.proofs.Offsets.{header-long, flags-fit}
 use Rattle.placing.proofs.Moving.{window-free}
 use Rattle.starts.specs.Starts.{nowhere}
 use Rattle.marks.specs.Marks.{marked}
 use Rattle.marks.proofs.Only.{mark-row, mark-past}
 use Rattle.wire.specs.declared.Answer.the-variants.{Done, Refused}
 use Rattle.history.specs.History.{memorySize}
-use Rattle.history.specs.Model.{opened}
+use Rattle.history.specs.Model.{opened, unheard}
+use Rattle.origins.specs.Origins.{originAt}
 use Rattle.holding.specs.Header.{rowIn, headerIn}
 use Rattle.receiver.specs.Promises.{Opened}
 use Rattle.memory.specs.Contained.{Contained}
-use Rattle.holding.specs.Layout.{headerOf, Holds, Marks}
+use Rattle.holding.specs.Layout.{headerOf, Holds, Marks, Hears}
 use Rattle.receiver.specs.Layout.{receiverLayout}
 use Rattle.holding.specs.Inner.{freshMemory}
 use Rattle.history.proofs.Cases.{IsRefusal}
-use Rattle.holding.proofs.Headers.{found}
+use Rattle.holding.proofs.Headers.{found, memory-is}
 
 module _ (n E w : ℕ) (m : List ℕ) where
   pub opening-values : settingOf n E w ≡ none → Opened receiverLayout n E w m m (Refused Values)
@@ -37,6 +38,7 @@ module _ (n E w : ℕ) (m : List ℕ) where
     contained = λ s q. record { same = refl; past = refl };
     holds = λ s q r. absurd (subst IsRefusal r tt);
     starts = λ s q r. absurd (subst IsRefusal r tt);
+    origins = λ s q r. absurd (subst IsRefusal r tt);
   }
 
   pub opening-short : (s : Setting) → settingOf n E w ≡ some s → length m < memorySize s → Opened receiverLayout n E w m m (Refused Short)
@@ -46,6 +48,7 @@ module _ (n E w : ℕ) (m : List ℕ) where
     contained = λ t q. record { same = refl; past = refl };
     holds = λ t q r. absurd (subst IsRefusal r tt);
     starts = λ t q r. absurd (subst IsRefusal r tt);
+    origins = λ t q r. absurd (subst IsRefusal r tt);
   }
 
 -- The memory that opening leaves.
@@ -125,6 +128,15 @@ module _ (s : Setting) (v : Valid s) (m : List ℕ) (room : memorySize s ≤ len
       go (no h) =
           ap (λ k. ltb 0 (getD left k 0)) (sym (mark-past (s .width) (s .size) b i (omega arith))) ∙ ap (ltb 0) (zero-at 10 (omega arith) (omega arith))
 
+  none-heard : Hears left s (opened s) unheard
+  none-heard b = record {
+    window = λ i l.
+        let w = s .width in
+        let r : (b + i) % w < w = mod-lt (b + i) (omega (arith, v .width-least)) in
+        ap (ltb 0) (zero-at (originAt w (s .size) ((b + i) % w)) (omega (arith, header-long)) (omega (arith, memory-is s, r)));
+    later = λ i l. refl;
+  }
+
 pub opening-done : (n E w : ℕ) (s : Setting) → settingOf n E w ≡ some s → (m m′ : List ℕ) → memorySize s ≤ length m → m′ ≡ freshMemory s m
     → Opened receiverLayout n E w m m′ (Done 0)
 opening-done n E w s e m m′ room is =
@@ -135,6 +147,7 @@ opening-done n E w s e m m′ room is =
           subst (λ x. Contained (memorySize x) m (freshMemory s m)) (same t q) record { same = length-left s v m room; past = past-left s v m room };
       holds = λ t q r. subst (λ x. Holds (freshMemory s m) x (opened x)) (same t q) (held s v m room);
       starts = λ t q r. subst (λ x. Marks (freshMemory s m) x (opened x) nowhere) (same t q) (none-marked s v m room);
+      origins = λ t q r. subst (λ x. Hears (freshMemory s m) x (opened x) unheard) (same t q) (none-heard s v m room);
     }
   where
     v : Valid s

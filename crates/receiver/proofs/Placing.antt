@@ -1,5 +1,5 @@
 -- From where a symbol was found to what the call for its place promises.
-use Rattle.words.specs.Words.{_≡_, ℕ, _≤_, length, _+_, List, refl, sym, ap, subst}
+use Rattle.words.specs.Words.{_≡_, ℕ, _≤_, length, _+_, List, refl, sym, ap, Bool, subst}
 use Rattle.memory.specs.Part.{part}
 use Rattle.wire.specs.declared.Refusal.{Refusal}
 use Rattle.wire.specs.declared.Answer.the-variants.{Done, Refused}
@@ -20,14 +20,14 @@ number (value n) = n
 number (refusal n) = n
 
 module _ (m : List ℕ) (e : ℕ) where
-  pub place-found : (f : Spot) (a n : ℕ) → f ≡ At a n → Spotted m e f → PlaceAnswered receiverLayout m e (Done a)
-  place-found f a n q g =
-      let h : Spotted m e (At a n) = subst (Spotted m e) q g in
+  pub place-found : (f : Spot) (a n : ℕ) (heard : Bool) → f ≡ At a n heard → Spotted m e f → PlaceAnswered receiverLayout m e (Done a)
+  place-found f a n heard q g =
+      let h : Spotted m e (At a n heard) = subst (Spotted m e) q g in
       record {
         unopened = ((λ z. absurd (subst IsValue z tt)), (λ z. absurd (subst IsNowhere (sym (h .unopened z)) tt)));
         within = λ x at k z. subst (λ y. y + x .setting .size ≤ length m) (ap number z) (subst (λ y. a + y ≤ length m) (h .lies x k .0) (h .lies x k .1));
         places = λ s t k.
-            let (p, v, x, c, y, z) = h .told s t k in
+            let (p, v, x, c, y, z, o) = h .told s t k in
             subst (λ o. Places receiverLayout s o m (Done a)) (sym x)
             (ap value y, subst (λ j. part j (s .size) m ≡ bytesOf (s .size) v) y (subst (λ j. part a j m ≡ bytesOf (s .size) v) z (sym c)));
       }

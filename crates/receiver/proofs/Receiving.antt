@@ -4,6 +4,7 @@
 --   all checks passed: location-width, location-size, Ready, ready, accept-asks, received-contradiction, received-done
 use Rattle.words.specs.Words.{_≡_, arith, ℕ, _≤_, length, _+_, List, _<_, refl, _∙_, sym, ap, _-_, some, _%_, none, subst, Option, Option·none-ne-some}
 use Rattle.words.specs.Words.{Option·some-injective, mod-add-mod, mod-lt}
+use Rattle.origins.proofs.Hearing.{hears-alike}
 use Rattle.wire.specs.declared.Setting.{Setting}
 use Rattle.wire.specs.declared.Refusal.{Refusal}
 use Rattle.wire.specs.Numbers.{numberOf}
@@ -21,11 +22,12 @@ use Rattle.admission.specs.declared.packet.Gathered.{Gathered}
 use Rattle.admission.specs.declared.packet.Gathered.the-variants.{All, Contradiction}
 use Rattle.history.specs.History.{Located, source, repair, first, named, Call, esiOf, Reading, located, farthest, memorySize, workingSize, reading}
 use Rattle.wire.specs.Answers.{value, refusal}
-use Rattle.history.specs.Model.{Joined, State, foundBy, Outcome, packetOf, added, responds, answering, stateAfter, naming, startsAfter, marking}
+use Rattle.history.specs.Model.{Joined, State, foundBy, Outcome, packetOf, added, responds, answering, stateAfter, naming, startsAfter, marking, receiving, refused}
+use Rattle.history.specs.Model.{Origins, bringing, hearing, originsAfter}
 use Rattle.holding.specs.Header.{headerIn}
 use Rattle.receiver.specs.Promises.{Follows, Received}
 use Rattle.memory.specs.Contained.{Contained}
-use Rattle.holding.specs.Layout.{headerFrom, Stands, Holds, MarksFrom, Marks}
+use Rattle.holding.specs.Layout.{headerFrom, Stands, Holds, MarksFrom, Marks, Hears}
 use Rattle.receiver.specs.Layout.{receiverLayout}
 use Rattle.admission.specs.Joining.{headerFor, Based}
 use Rattle.admission.specs.Reading.{Failed, Passes}
@@ -34,16 +36,26 @@ use Rattle.history.proofs.Cases.{IsRefusal, numeral}
 use Rattle.holding.proofs.Headers.{header-fits, setting-held}
 use Rattle.admission.proofs.Joining.{based, based-fits, found-header, found-stands}
 use Rattle.admission.proofs.Reading.{reads-found}
-use Rattle.admission.proofs.Gathering.{contained-none}
+use Rattle.admission.proofs.Gathering.{contained-none, contained-past}
 use Rattle.wire.specs.declared.Refusal.the-variants as refusals
 use Rattle.decoder.specs.Model as model
 use Rattle.decoder.specs.Receiver as decoder
 use Rattle.decoder.specs.Packets as packets
 use Rattle.table.specs.Packet as packet
+use Rattle.origins.specs.Origins as origins
 
 -- The marks after a call that finds the receiver as j, by what was read of it and what it came to.
 abbrev MarksBy : (s : Setting) (t : State s) (j : Joined s) (M : Starts) (m′ : List ℕ) → Reading → Outcome s → Type 0
 MarksBy s t j M m′ x y = Marks m′ s (stateAfter t y) (marking s j M x y)
+
+-- And what is heard.
+abbrev HearsBy : (s : Setting) (t : State s) (H : Origins) (m′ : List ℕ) → Reading → Outcome s → Type 0
+HearsBy s t H m′ x y = Hears m′ s (stateAfter t y) (originsAfter x y H)
+
+found-hears : (m : List ℕ) (s : Setting) (t : State s) (e : ℕ) (H : Origins) → Hears m s t H
+    → origins.Hears (s .width) (s .size) (foundBy s t e .base) m H
+found-hears m s none e H k = k e
+found-hears m s (some t) e H k = k
 
 -- Before any base they are marks wherever it will be.
 found-marks : (m : List ℕ) (s : Setting) (t : State s) (e : ℕ) (M : Starts) → Marks m s t M → MarksFrom m s (foundBy s t e) M
@@ -68,6 +80,7 @@ module _ (c : Call) (m v : List ℕ) where
     starts = λ s t M k g.
         let j = foundBy s t (esiOf c) in
         subst (λ y. MarksBy s t j M m y (responds s j y)) (sym (f .told s t k)) g;
+    origins = λ s t H k g. subst (λ y. HearsBy s t H m y (responds s (foundBy s t (esiOf c)) y)) (sym (f .told s t k)) g;
   }
     where
       without : (o : Option Header) → headerIn m ≡ o → numberOf x ≡ 3 → headerIn m ≡ none
@@ -156,7 +169,7 @@ module _ (c : Call) (m v : List ℕ) (h : Header) (q : ℕ → Located) (d : ℕ
           wide = k .wide;
           some-symbol = k .some-symbol;
           long = k .long;
-          room = passes .lent;
+          room = omega (arith, passes .lent);
           within = omega arith;
           columns = λ k l. absurd (omega arith);
         };
@@ -168,7 +181,8 @@ module _ (c : Call) (m v : List ℕ) (h : Header) (q : ℕ → Located) (d : ℕ
 
   placed-by : (own : ℕ) → own ≤ n → LocatedBy g at own
   placed-by own l =
-      subst (λ x. LocatedBy g x own) (sym (passes .location)) (record { width = refl; size = refl; base = refl; room = omega (arith, passes .fits) })
+      subst (λ x. LocatedBy g x own) (sym (passes .location))
+      (record { width = refl; size = refl; base = refl; stay = refl; room = omega (arith, passes .fits) })
 
   -- What accepting asks, once the equations are gathered.
   pub accept-asks : (v′ : List ℕ) (r : Gathered) (kept own : ℕ) → r ≡ All kept → WorksOn (at .shape .width) (at .shape .size) v′ r → own ≤ n
@@ -192,7 +206,8 @@ module _ (c : Call) (m v : List ℕ) (h : Header) (q : ℕ → Located) (d : ℕ
     work-kept : Contained (workingSize (h .setting)) v v′
     unfolding headerSize stride
     work-kept =
-        subst (λ (p : Location). Contained (rowOffset (p .shape .width) (p .shape .size) (p .shape .width + 1)) v v′) (passes .location) (f .contained)
+        contained-past (rowOffset (h .setting .width) (h .setting .size) (h .setting .width + 1)) (omega arith)
+        (subst (λ (p : Location). Contained (rowOffset (p .shape .width) (p .shape .size) (p .shape .width + 1)) v v′) (passes .location) (f .contained))
 
     module _ (s : Setting) (t : Joined s) (is-header : g ≡ headerFrom s t) (k : Stands m s t) where
       here : at ≡ locationAt (headerFrom s t) d n
@@ -228,26 +243,15 @@ module _ (c : Call) (m v : List ℕ) (h : Header) (q : ℕ → Located) (d : ℕ
           let x : at .rise ≡ d + n - s .width = ap (λ y. y .rise) here in
           omega (arith, x, first-of (s .size) (q (t .base + d)), named-of (s .size) (q (t .base + d)), from (t .base + d), names (t .base + d))
 
-      -- What the call does is what the model says of the packet.
-      does-by : (m′ : List ℕ) (a : Answer) (o : Option (model.State (Coded (s .size)) (s .width)))
+      -- What holds of the packet and of what the model makes of it holds of what was read and of the call.
+      by-model : (P : Reading → Outcome s → Type 0) (o : Option (model.State (Coded (s .size)) (s .width)))
           → decoder.insert-all (decoder.over (Coded (s .size)) (s .width) (t .base + at .rise) p) (decoder.advance-by (at .rise) (t .window)) ≡ o
-          → Follows receiverLayout s (added s t (decoder.and-then o (λ S. some (record { base = t .base + at .rise; window = S })))) m m′ a
-          → Follows receiverLayout s (answering s t (length v) c) m m′ a
+          → P (located (q (t .base + d))) (added s t (decoder.and-then o (λ S. some (record { base = t .base + at .rise; window = S }))))
+          → P (reading s (t .base) (length v) c) (answering s t (length v) c)
       unfolding answering
-      does-by m′ a o i x =
-          subst (λ y. Follows receiverLayout s (responds s t y) m m′ a)
-          (sym (reads-found c (length v) g (λ b. located (q (b + d))) (passes .told) s t is-header))
-          (subst (λ y. Follows receiverLayout s (added s t y) m m′ a) (sym (received-by s t p (at .rise) rises o i)) x)
-
-      -- And so are the marks, after the state u.
-      marks-by : (u : State s) (M : Starts) (m′ : List ℕ) (o : Option (model.State (Coded (s .size)) (s .width)))
-          → decoder.insert-all (decoder.over (Coded (s .size)) (s .width) (t .base + at .rise) p) (decoder.advance-by (at .rise) (t .window)) ≡ o
-          → MarksBy s u t M m′ (located (q (t .base + d))) (added s t (decoder.and-then o (λ S. some (record { base = t .base + at .rise; window = S }))))
-          → MarksBy s u t M m′ (reading s (t .base) (length v) c) (answering s t (length v) c)
-      unfolding answering
-      marks-by u M m′ o i x =
-          subst (λ y. MarksBy s u t M m′ y (responds s t y)) (sym (reads-found c (length v) g (λ b. located (q (b + d))) (passes .told) s t is-header))
-          (subst (λ y. MarksBy s u t M m′ (located (q (t .base + d))) (added s t y)) (sym (received-by s t p (at .rise) rises o i)) x)
+      by-model P o i x =
+          subst (λ y. P y (responds s t y)) (sym (reads-found c (length v) g (λ b. located (q (b + d))) (passes .told) s t is-header))
+          (subst (λ y. P (located (q (t .base + d))) (added s t y)) (sym (received-by s t p (at .rise) rises o i)) x)
 
       -- The marks that the model makes of the packet.
       models : (M : Starts) (T : model.State (Coded (s .size)) (s .width)) (own : ℕ)
@@ -282,18 +286,23 @@ module _ (c : Call) (m v : List ℕ) (h : Header) (q : ℕ → Located) (d : ℕ
           subst (λ (y : Header). Contained (memorySize (y .setting)) m m × Contained (workingSize (y .setting)) v v′)
           (Option·some-injective h h′ (sym (passes .has) ∙ x)) (contained-none, work-kept);
       follows = λ s t k.
-          does-by s (foundBy s t (esiOf c)) (header-found s t k) (stands-found s t k) m (Refused refusals.Contradiction) none
-          (subst (Comes _ _ _ _ v′ _) z (comes-found s t k)) (refl, refl);
-      starts = λ s t M k i.
-          marks-by s (foundBy s t (esiOf c)) (header-found s t k) (stands-found s t k) t M m none
-          (subst (Comes _ _ _ _ v′ _) z (comes-found s t k)) i;
+          by-found s t k (λ x y. Follows receiverLayout s y m m (Refused refusals.Contradiction)) (refl, refl);
+      starts = λ s t M k i. by-found s t k (λ x y. MarksBy s t (foundBy s t (esiOf c)) M m x y) i;
+      origins = λ s t H k i. by-found s t k (λ x y. HearsBy s t H m x y) i;
     }
+      where
+        by-found : (s : Setting) (t : State s) (k : Holds m s t) (P : Reading → Outcome s → Type 0)
+            → P (located (q (foundBy s t (esiOf c) .base + d))) (refused 11)
+            → P (reading s (foundBy s t (esiOf c) .base) (length v) c) (receiving s t (length v) c)
+        by-found s t k P x =
+            by-model s (foundBy s t (esiOf c)) (header-found s t k) (stands-found s t k) P none (subst (Comes _ _ _ _ v′ _) z (comes-found s t k)) x
 
     -- It has `own` symbols of its own.
     pub received-done : (own : ℕ) → ((s : Setting) (b : ℕ) (N : Starts) → naming s (b + at .rise) (q (b + d)) N ≡ owning (at .offset) own N)
+        → ((b : ℕ) (H : Origins) (x : ℕ) → bringing (b + at .rise + at .offset) own H x ≡ hearing (q (b + d)) H x)
         → (kept known : ℕ) (m′ : List ℕ) → r ≡ All kept → Accepted (passed .header) at kept own known v′ m m′
         → Received receiverLayout c m m′ v v′ (Done known)
-    received-done own owns kept known m′ z accepted =
+    received-done own owns brings kept known m′ z accepted =
         let done = subst (λ (y : Header). Accepted y at kept own known v′ m m′) (passes .header) accepted in
         record {
           unopened = ((λ x. absurd (subst IsRefusal (sym x) tt)), (λ x. absurd (Option·none-ne-some h (sym x ∙ passes .has))));
@@ -307,13 +316,21 @@ module _ (c : Call) (m v : List ℕ) (h : Header) (q : ℕ → Located) (d : ℕ
               let e = header-found s t k in
               let l = stands-found s t k in
               let (T, i, held, counted, marks) = done .outcome s j _ e l (row-is s j e l) (subst (Comes _ _ _ _ v′ _) z (comes-found s t k)) in
-              does-by s j e l m′ (Done known) (some T) i (ap value counted, held);
+              by-model s j e l (λ x y. Follows receiverLayout s y m m′ (Done known)) (some T) i (ap value counted, held);
           starts = λ s t M k b.
               let j = foundBy s t (esiOf c) in
               let e = header-found s t k in
               let l = stands-found s t k in
               let (T, i, held, counted, marks) = done .outcome s j _ e l (row-is s j e l) (subst (Comes _ _ _ _ v′ _) z (comes-found s t k)) in
-              marks-by s j e l t M m′ (some T) i
+              by-model s j e l (λ x y. MarksBy s t j M m′ x y) (some T) i
               (subst (λ N. MarksFrom m′ s (record { base = j .base + at .rise; window = T }) N) (models s j e l M T own (owns s (j .base)))
               (marks M (found-marks m s t (esiOf c) M b)));
+          origins = λ s t H k b.
+              let j = foundBy s t (esiOf c) in
+              let e = header-found s t k in
+              let l = stands-found s t k in
+              let (T, i, held, counted, marks) = done .outcome s j _ e l (row-is s j e l) (subst (Comes _ _ _ _ v′ _) z (comes-found s t k)) in
+              let heard = subst (λ (y : Header). Accepted y at kept own known v′ m m′) e done .hears (j .base) H refl (found-hears m s t (esiOf c) H b) in
+              by-model s j e l (λ x y. HearsBy s t H m′ x y) (some T) i
+              (hears-alike (s .width) (s .size) (j .base + at .rise) m′ _ _ (brings (j .base) H) heard);
         }

@@ -1,6 +1,6 @@
 -- The call for a repair packet that passed its checks: its equations at its place, and what each of its answers comes to.
 -- Laws: gather-asks, call-contradicts, call-done
-use Rattle.words.specs.Words.{_≡_, arith, ℕ, _≤_, length, _+_, List, _<_, refl, _∙_, sym, ap, _*_, ap₂}
+use Rattle.words.specs.Words.{_≡_, arith, ℕ, _≤_, length, _+_, List, _<_, refl, _∙_, sym, ap, _*_, subst, ap₂}
 use Rattle.wire.specs.declared.Setting.{Setting}
 use Rattle.wire.specs.Packets.{protectedCount, repairSymbols}
 use Rattle.decoder.specs.Bytes.{Coded}
@@ -18,6 +18,7 @@ use Rattle.receiver.specs.Layout.{receiverLayout}
 use Rattle.admission.specs.Reading.{coefficientLists, RepairPassed}
 use Rattle.admission.specs.Steps.{firsts, Gathers, Accepted}
 use Rattle.admission.specs.RepairSteps.{equationAt}
+use Rattle.origins.proofs.Hearing.{bringing-none}
 use Rattle.admission.proofs.Repairing.{repair-equations}
 use Rattle.receiver.proofs.Receiving.{location-width, location-size, ready, received-contradiction, received-done}
 use Rattle.wire.specs.declared.Refusal.the-variants as refusals
@@ -65,8 +66,10 @@ module _ (p m v lists : List ℕ) (passed : Passed) (s : RepairPassed p m (lengt
         received-contradiction c m v (s .header) q (s .distance) passed (s .passes) count (λ x. refl) (λ x. sym (s .named))
         (λ w E. equationAt w E n lists p) spelt v′ r gathered
 
-    pub call-done : (kept known : ℕ) (m′ : List ℕ) → r ≡ All kept → Accepted (passed .header) at kept 0 known v′ m m′
+    -- It has no symbol of its own.
+    pub call-done : (own kept known : ℕ) (m′ : List ℕ) → r ≡ All kept → Accepted (passed .header) at kept own known v′ m m′ → own ≡ 0
         → Received receiverLayout c m m′ v v′ (Done known)
-    call-done =
+    call-done own kept known m′ z accepted no-own =
         received-done c m v (s .header) q (s .distance) passed (s .passes) count (λ x. refl) (λ x. sym (s .named))
-        (λ w E. equationAt w E n lists p) spelt v′ r gathered 0 (λ y b N. refl)
+        (λ w E. equationAt w E n lists p) spelt v′ r gathered 0 (λ y b N. refl) (λ b. bringing-none (b + at .rise + at .offset)) kept known m′ z
+        (subst (λ o. Accepted (passed .header) at kept o known v′ m m′) no-own accepted)

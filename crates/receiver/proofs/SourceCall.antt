@@ -14,7 +14,7 @@ use Rattle.admission.specs.declared.packet.Passed.{Passed}
 use Rattle.admission.specs.declared.packet.Gathered.{Gathered}
 use Rattle.admission.specs.declared.packet.Gathered.the-variants.{All, Contradiction}
 use Rattle.history.specs.History.{Located, source, Call, source-call}
-use Rattle.history.specs.Model.{packetOf, naming}
+use Rattle.history.specs.Model.{packetOf, naming, Origins, bringing, hearing}
 use Rattle.receiver.specs.Promises.{Received}
 use Rattle.receiver.specs.Layout.{receiverLayout}
 use Rattle.admission.specs.Reading.{SourcePassed}
@@ -90,8 +90,18 @@ module _ (flow : ℕ) (p m v : List ℕ) (passed : Passed) (s : SourcePassed p m
         ap₂ (λ (j k : ℕ). also j (also k N)) x y
         ∙ sym (ap (λ t. cond t (also (at .offset) (also (at .offset + count) N)) N) (lt-ltb 0 count (omega (arith, s .named, k .names))))
 
+    -- It has brought them.
+    brings : (b : ℕ) (H : Origins) (x : ℕ) → bringing (b + at .rise + at .offset) count H x ≡ hearing (q (b + s .distance)) H x
+    brings b H x =
+        let d : ℕ = s .distance in
+        let k = s .passes flow in
+        let o : at .offset ≡ d - (d + passed .named - width) = ap (λ y. y .offset) (k .location) in
+        let z : at .rise ≡ d + passed .named - width = ap (λ y. y .rise) (k .location) in
+        let first : b + at .rise + at .offset ≡ b + d = omega (arith, z, o, k .fits) in
+        ap₂ (λ p n. bringing p n H x) first (sym symbols)
+
     pub call-done : (kept known : ℕ) (m′ : List ℕ) → r ≡ All kept → Accepted (passed .header) at kept count known v′ m m′
         → Received receiverLayout c m m′ v v′ (Done known)
     call-done =
         received-done c m v (s .header) q (s .distance) passed (s .passes flow) count (λ x. refl) (λ x. symbols ∙ sym (s .named))
-        (λ w E. equationOf w E flow (sourceAdu p)) spelt v′ r all-gathered count owns
+        (λ w E. equationOf w E flow (sourceAdu p)) spelt v′ r all-gathered count owns brings

@@ -1,6 +1,6 @@
 -- What the receiver's public calls promise, in whatever way `Layout` a memory holds a state.
 -- m and v are the receiver's memory and the working memory, m′ and v′ these afterwards; a is the answer.
-use Rattle.words.specs.Words.{_≡_, ℕ, _≤_, length, _+_, List, [], some, none, Option, RefT, now, ltb, cond, _↔_, _⊎_}
+use Rattle.words.specs.Words.{_≡_, ℕ, _≤_, length, _+_, List, [], some, none, Bool, Option, RefT, now, ltb, cond, _↔_, _⊎_}
 use Rattle.memory.specs.Part.{part, LiesAt}
 use Rattle.wire.specs.declared.Setting.{Setting}
 use Rattle.wire.specs.Settings.{settingOf}
@@ -10,14 +10,17 @@ use Rattle.starts.specs.Starts.{Starts, nowhere}
 use Rattle.wire.specs.declared.Answer.{Answer}
 use Rattle.receiver.specs.declared.PacketAnswer.{PacketAnswer}
 use Rattle.receiver.specs.declared.PacketAnswer.the-variants.{Accepted, NotAccepted}
+use Rattle.receiver.specs.declared.SymbolAnswer.{SymbolAnswer}
+use Rattle.receiver.specs.declared.SymbolAnswer.the-variants.{Shown}
 use Rattle.holding.specs.declared.Header.{Header}
-use Rattle.history.specs.Symbol.{bytesOf}
+use Rattle.history.specs.Symbol.{Symbol, bytesOf}
 use Rattle.wire.specs.Answers.{Said, value, refusal, said}
 use Rattle.history.specs.History.{Call, esiOf, reading, memorySize, workingSize}
 use Rattle.history.specs.Model.{State, opened, foundBy, Outcome, refused, done, stateAfter, receiving, marking, Finding, shows, hides, finding, aduAt}
+use Rattle.history.specs.Model.{Origins, unheard, originsAfter}
 use Rattle.holding.specs.Header.{headerIn}
 use Rattle.memory.specs.Contained.{Contained}
-pub use Rattle.receiver.specs.Answers.{answerOf, handedSaid}
+pub use Rattle.receiver.specs.Answers.{answerOf, shownOf, handedSaid}
 pub use Rattle.receiver.specs.Draws.{drawsFor}
 
 -- How a memory holds a state.
@@ -26,6 +29,8 @@ pub record Layout : Type 1 where
   pub Holds : List ℕ → (s : Setting) → State s → Type 0
   -- The memory that holds the state marks these positions as starts, by their distance from the base, up to the width.
   pub Marks : List ℕ → (s : Setting) → State s → Starts → Type 0
+  -- The memory that holds the state says that these positions are heard, and no others from the base on.
+  pub Hears : List ℕ → (s : Setting) → State s → Origins → Type 0
   -- Where in the memory the symbol at a position starts.
   pub symbolStart : Setting → (position : ℕ) → ℕ
 
@@ -45,7 +50,7 @@ Draws c m (Accepted n d) = Drew c m n d
 Draws c m (NotAccepted r) = Unit {0}
 
 module _ (L : Layout) where
-  open Layout L using (Holds, Marks, symbolStart)
+  open Layout L using (Holds, Marks, Hears, symbolStart)
 
   -- Opening with a scheme, E and width.
   pub record Opened (scheme E w : ℕ) (m m′ : List ℕ) (a : Answer) : Type 0 where
@@ -55,6 +60,8 @@ module _ (L : Layout) where
     pub holds : (s : Setting) → settingOf scheme E w ≡ some s → said a ≡ value 0 → Holds m′ s (opened s)
     -- No position is marked.
     pub starts : (s : Setting) → settingOf scheme E w ≡ some s → said a ≡ value 0 → Marks m′ s (opened s) nowhere
+    -- None is heard.
+    pub origins : (s : Setting) → settingOf scheme E w ≡ some s → said a ≡ value 0 → Hears m′ s (opened s) unheard
 
   -- A packet call did what it comes to.
   abbrev pub Follows : (s : Setting) → Outcome s → (m m′ : List ℕ) → Answer → Type 0
@@ -74,6 +81,11 @@ module _ (L : Layout) where
         → let j = foundBy s t (esiOf c) in
         let o = receiving s t (length v) c in
         Marks m′ s (stateAfter t o) (marking s j M (reading s (j .base) (length v) c) o)
+    -- And those positions are heard that it comes to.
+    pub origins : (s : Setting) (t : State s) (H : Origins) → Holds m s t → Hears m s t H
+        → let j = foundBy s t (esiOf c) in
+        let o = receiving s t (length v) c in
+        Hears m′ s (stateAfter t o) (originsAfter (reading s (j .base) (length v) c) o H)
 
   -- A packet call, with the draws beside the count.
   pub record PacketAnswered (c : Call) (m m′ v v′ : List ℕ) (a : PacketAnswer) : Type 0 where
@@ -90,6 +102,12 @@ module _ (L : Layout) where
     pub unopened : (said a ≡ refusal 3) ↔ (headerIn m ≡ none)
     pub zero : (n : ℕ) → said a ≡ value n → n ≡ 0
     pub finds : (s : Setting) (t : State s) → Holds m s t → Finds (finding s t e) a
+
+  -- The symbol call, with the origin beside the 0: whether the known position is heard.
+  pub record SymbolShown (m : List ℕ) (e : ℕ) (a : SymbolAnswer) : Type 0 where
+    pub answered : SymbolAnswered m e (shownOf a)
+    pub origin : (s : Setting) (t : State s) (H : Origins) → Holds m s t → Hears m s t H → (p : ℕ) (v : Symbol (s .size)) (heard : Bool)
+        → finding s t e ≡ shows p v → a ≡ Shown heard → heard ≡ H p
 
   -- A known symbol is shown as the part of the memory that holds it; else the part is empty.
   abbrev pub Shows : (s : Setting) → Finding (s .size) → (m part : RefT (List ℕ)) → Type 0

@@ -1,6 +1,6 @@
 // The receiver: its sizes, opening, the two packet calls, the calls that show a symbol, and the ADU call (RFC 8681, section 3.4; document 01).
 ghost use Rattle.wire.specs.Opening.{SizeAnswered, receiverMemory, workingMemory};
-ghost use Rattle.receiver.specs.Promises.{Opened, PacketAnswered, SymbolAnswered, PartShown, PlaceAnswered, AduAnswered};
+ghost use Rattle.receiver.specs.Promises.{Opened, PacketAnswered, SymbolShown, PartShown, PlaceAnswered, AduAnswered};
 ghost use Rattle.history.specs.History.{source-call, repair-call};
 ghost use Rattle.receiver.specs.Layout.{receiverLayout};
 use admission::packet;
@@ -18,13 +18,19 @@ use wire::Esi;
 use wire::Refusal;
 use wire::Setting;
 
-// What a call answers: a number (of bytes that are needed; opening and the symbol call: 0; the call for a symbol's place: where it starts), or a refusal.
+// What a call answers: a number (of bytes that are needed; opening: 0; the call for a symbol's place: where it starts), or a refusal.
 pub use wire::Answer;
 
 // What a packet call answers: how many positions of the window became known and the draws that the packet's coefficients took, or a refusal.
 pub enum PacketAnswer {
     Accepted(usize, u32),
     NotAccepted(Refusal),
+}
+
+// What the symbol call answers: a known symbol, and whether a source packet has brought its position, or a refusal.
+pub enum SymbolAnswer {
+    Shown(bool),
+    Hidden(Refusal),
 }
 
 // How many bytes of memory a receiver of symbols of `size` bytes with a window of `width` symbols needs.
@@ -61,13 +67,13 @@ pub fn open(mem: &mut [u8], scheme: usize, size: usize, width: usize) -> Answer
     Answer::Done(0)
 }
 
-// Whether the symbol with an ESI is known.
-pub fn symbol(mem: &[u8], esi: Esi) -> Answer
-    ensures { λ r. ⌜ SymbolAnswered receiverLayout (now (mem .entry)) (esi .0) r ⌝ }
+// Whether the symbol with an ESI is known, and whether it was heard.
+pub fn symbol(mem: &[u8], esi: Esi) -> SymbolAnswer
+    ensures { λ r. ⌜ SymbolShown receiverLayout (now (mem .entry)) (esi .0) r ⌝ }
 {
     match find::find(mem, esi) {
-        Spot::At(_, _) => Answer::Done(0),
-        Spot::Nowhere(n) => Answer::Refused(n),
+        Spot::At(_, _, heard) => SymbolAnswer::Shown(heard),
+        Spot::Nowhere(n) => SymbolAnswer::Hidden(n),
     }
 }
 
@@ -76,7 +82,7 @@ pub fn symbol_part(mem: &[u8], esi: Esi) -> &[u8]
     ensures { λ r. ⌜ PartShown receiverLayout (mem .entry) r (esi .0) ⌝ }
 {
     match find::find(mem, esi) {
-        Spot::At(at, n) => memory::part(mem, at, n),
+        Spot::At(at, n, _) => memory::part(mem, at, n),
         Spot::Nowhere(_) => memory::part(mem, 0, 0),
     }
 }
@@ -86,7 +92,7 @@ pub fn symbol_place(mem: &[u8], esi: Esi) -> Answer
     ensures { λ r. ⌜ PlaceAnswered receiverLayout (now (mem .entry)) (esi .0) r ⌝ }
 {
     match find::find(mem, esi) {
-        Spot::At(at, _) => Answer::Done(at),
+        Spot::At(at, _, _) => Answer::Done(at),
         Spot::Nowhere(n) => Answer::Refused(n),
     }
 }

@@ -46,7 +46,7 @@ returns-3 c =
     let kept = c .before .before .before .before .before .before .kept .given .1 in
     let accepted = c .before .before .accept .ensures in
     answered-done (s .header) _ _ _ _ (gathered .result) _ _ _ _ (s .passes .has) kept (gathered .ensures .works) accepted (s .draws) (s .small)
-    (call-done _ _ _ _ (passed p) s (gathered .result) _ (gathered .ensures) _ _ _ kept accepted)
+    (call-done _ _ _ _ (passed p) s (gathered .result) _ (gathered .ensures) _ _ _ _ kept accepted (omega arith))
 
 pub receive-repair-spec : {M : Type 1} → statement M
 receive-repair-spec =

@@ -9,12 +9,12 @@ use Rattle.receiver.proofs.symbol_part.Tie as tie
 part-requires : tie.Need-part-requires
 part-requires c κs =
     let p = c .before .before .before in
-    at-bounded _ _ (p .find .result) _ _ (c .before .at .given .1) (p .find .ensures)
+    at-bounded _ _ (p .find .result) _ _ _ (c .before .at .given .1) (p .find .ensures)
 
 returns : tie.Need-returns
 returns c =
     let p = c .before .before .before .before in
-    part-found _ _ _ (p .find .result) _ _ (c .before .before .at .given .1) (p .find .ensures) (c .part .ensures)
+    part-found _ _ _ (p .find .result) _ _ _ (c .before .before .at .given .1) (p .find .ensures) (c .part .ensures)
 
 returns-2 : tie.Need-returns-2
 returns-2 c =
