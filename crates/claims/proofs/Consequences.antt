@@ -5,6 +5,7 @@ use Rattle.claims.proofs.NoChoice.{no-choice}
 use Rattle.claims.proofs.Joining.{joins, unmarked}
 use Rattle.claims.proofs.Checking.{all-checked, base-rises}
 use Rattle.claims.proofs.Placing.{every-place, part-placed}
+use Rattle.claims.proofs.Origins.{origins, brought-by, stays-heard}
 use Rattle.claims.proofs.Sent.{sender-fills, sent-accepted, sent-behind, sent-shown}
 use Rattle.claims.proofs.Sending.{sender-sends}
 use Rattle.claims.proofs.SentAdus.{start-gives, junk-gives, sent-written, sent-starts, sent-handed}
@@ -22,6 +23,9 @@ receiver-consequences = record {
   base-rises = base-rises receiverLayout;
   places = every-place receiverLayout;
   part-placed = part-placed;
+  origins = origins receiverLayout;
+  brought-by = brought-by;
+  stays-heard = stays-heard receiverLayout;
   goes-on = chain-goes-on;
   heard = heard;
   heard-handed = heard-handed receiverLayout;

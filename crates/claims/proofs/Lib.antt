@@ -6,6 +6,7 @@ pub mod Demand
 pub mod NoChoice
 pub mod Placing
 pub mod Handing
+pub mod Origins
 pub mod Reading
 pub mod Sent
 pub mod SentAdus

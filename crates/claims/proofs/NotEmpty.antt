@@ -1,6 +1,6 @@
 -- Every list of packet calls has a run: each call has an answer, and a memory to leave, that its promise allows.
 use Rattle.words.specs.Words.{_≡_, arith, ℕ, _≤_, List, length, _<_, refl, _∙_, sym, ap, [], some, _%_, _∷_, none, subst, drop, _≢_, Option·some-injective}
-use Rattle.words.specs.Words.{Option·none-ne-some, map, length-drop}
+use Rattle.words.specs.Words.{_+_, getD, false, _&&_, ltb, lt-ltb, le-ltb, decLt, mod-add-mod, Option·none-ne-some, map, length-drop}
 use Rattle.wire.specs.declared.Setting.{Setting}
 use Rattle.wire.specs.Settings.{settingOf, Valid}
 use Rattle.wire.proofs.Settings.{setting-names}
@@ -16,13 +16,19 @@ use Rattle.starts.proofs.Agreeing.{Agree}
 use Rattle.wire.specs.Answers.{Said, value, refusal}
 use Rattle.history.specs.History.{Located, Call, esiOf, Reading, fails, located, reading, memorySize, workingSize, IsValue}
 use Rattle.history.specs.Model.{Joined, State, opened, foundBy, Outcome, refused, done, stateAfter, responds, answering, receiving, startsAfter, marking}
+use Rattle.history.specs.Model.{Origins, originsAfter}
+use Rattle.history.proofs.Origins.{origins-inside}
+use Rattle.table.proofs.Offsets.{header-long}
+use Rattle.marks.proofs.Only.{past-no-mark}
+use Rattle.origins.specs.Origins.{originAt, heardIn}
 use Rattle.holding.specs.Header.{headerIn}
 use Rattle.receiver.specs.Promises.{Follows, Received}
 use Rattle.memory.specs.Contained.{Contained}
-use Rattle.holding.specs.Layout.{headerOf, Holds, Marks}
+use Rattle.holding.specs.Layout.{headerOf, Holds, Marks, Hears}
 use Rattle.receiver.specs.Layout.{receiverLayout}
 use Rattle.holding.proofs.Building.{built}
 use Rattle.holding.proofs.Congruent.{Same, SameFrom, holds-same, held-same, found-same, Alike, both-refused, both-done, answering-alike, marking-alike}
+use Rattle.holding.proofs.Congruent.{AgreeFrom, baseAfter, origins-alike}
 use Rattle.history.proofs.Naming.{Sound, answering-sound}
 use Rattle.holding.proofs.Headers.{header-room, header-fits, setting-of, setting-held}
 use Rattle.admission.proofs.Joining.{found-stands}
@@ -31,6 +37,11 @@ use Rattle.claims.specs.Run.{Step, Run}
 use Rattle.claims.specs.NotEmpty.{Asked, asked, AllOfBytes, Runs-exist}
 use Rattle.claims.proofs.Demand.{had-setting}
 use Rattle.marks.specs.Marks as stored
+use Rattle.origins.specs.Origins as origins
+
+-- Positions that go on from congruent ones are congruent.
+going-on : (w b c i : ℕ) → b % w ≡ c % w → (b + i) % w ≡ (c + i) % w
+going-on w b c i h = sym (mod-add-mod b w i) ∙ ap (λ x. (x + i) % w) h ∙ mod-add-mod c w i
 
 module _ (s : Setting) (v : Valid s) where
   abbrev some-bytes : 0 < s .size
@@ -145,10 +156,95 @@ module _ (s : Setting) (v : Valid s) where
       go : (u : Setting) → s ≡ u → (x : State u) → Holds m u x → Marks m u x M → Marks m′ u (stateAfter x (receiving u x room c)) (marks-by u x M room c)
       go u e = subst (λ y. (x : State y) → Holds m y x → Marks m y x M → Marks m′ y (stateAfter x (receiving y x room c)) (marks-by y x M room c)) e here
 
+  -- And so it leaves what is heard: what the memory says of the window of the state as the packet finds it, and nothing past that.
+  abbrev now-heard : List ℕ → Joined s → Origins
+  now-heard m j x = ltb x (j .base + s .width) && heardIn (s .width) (s .size) m (x % s .width)
+
+  abbrev heard-by : (u : Setting) (x : State u) → Origins → (room : ℕ) → Call → Origins
+  heard-by u x H room c = originsAfter (reading u (foundBy u x (esiOf c) .base) room c) (receiving u x room c) H
+
+  found-heard : (m : List ℕ) (x : State s) (e : ℕ) (H : Origins) → Hears m s x H → origins.Hears (s .width) (s .size) (foundBy s x e .base) m H
+  found-heard m none e H k = k e
+  found-heard m (some t) e H k = k
+
+  -- Any origins that the memory has for a state agree with that.
+  found-agree : (m : List ℕ) (j : Joined s) (x : State s) (e : ℕ) (H : Origins) → SameFrom s j (foundBy s x e) → Hears m s x H
+      → AgreeFrom (j .base) (foundBy s x e .base) (now-heard m j) H
+  found-agree m j x e H same k i = go (decLt i (s .width))
+    where
+      k′ : origins.Hears (s .width) (s .size) (foundBy s x e .base) m H
+      k′ = found-heard m x e H k
+
+      go : Dec (i < s .width) → now-heard m j (j .base + i) ≡ H (foundBy s x e .base + i)
+      go (yes l) =
+          ap (λ b. b && heardIn (s .width) (s .size) m ((j .base + i) % s .width)) (lt-ltb (j .base + i) (j .base + s .width) (omega arith))
+          ∙ ap (heardIn (s .width) (s .size) m) (going-on (s .width) (j .base) (foundBy s x e .base) i (same .row)) ∙ k′ .window i l
+      go (no l) =
+          ap (λ b. b && heardIn (s .width) (s .size) m ((j .base + i) % s .width)) (le-ltb (j .base + i) (j .base + s .width) (omega arith))
+          ∙ sym (k′ .later i (omega arith))
+
+  refused-heard : (H : Origins) (n : ℕ) (r : Reading) → originsAfter {s = s} r (refused n) H ≡ H
+  refused-heard H n (fails k) = refl
+  refused-heard H n (located q) = refl
+
+  heard-refused : (m : List ℕ) (t : State s) (room : ℕ) (c : Call) (n : ℕ) → Holds m s t → receiving s t room c ≡ refused n
+      → (u : Setting) (x : State u) (H : Origins) → Holds m u x → Hears m u x H → Hears m u (stateAfter x (receiving u x room c)) (heard-by u x H room c)
+  heard-refused m t room c n h e u x H k g = go u (settings-same m t u x h k) x k g
+    where
+      here : (x : State s) → Holds m s x → Hears m s x H → Hears m s (stateAfter x (receiving s x room c)) (heard-by s x H room c)
+      here x k g =
+          let r = reading s (foundBy s x (esiOf c) .base) room c in
+          let z : receiving s x room c ≡ refused n =
+          was-refused n (subst (λ o. Alike s o (receiving s x room c)) e (receiving-alike t x room c (held-same s m t x h k))) in
+          subst (λ o. Hears m s (stateAfter x o) (originsAfter r o H)) (sym z) (subst (Hears m s x) (sym (refused-heard H n r)) g)
+
+      go : (u : Setting) → s ≡ u → (x : State u) → Holds m u x → Hears m u x H → Hears m u (stateAfter x (receiving u x room c)) (heard-by u x H room c)
+      go u e = subst (λ y. (x : State y) → Holds m y x → Hears m y x H → Hears m y (stateAfter x (receiving y x room c)) (heard-by y x H room c)) e here
+
+  none-later : (j : Joined s) (room : ℕ) (c : Call) (n : ℕ) (y : Joined s) (H : Origins) → answering s j room c ≡ done n y
+      → ((i : ℕ) → s .width ≤ i → H (j .base + i) ≡ false) → (i : ℕ) → s .width ≤ i
+      → originsAfter {s = s} (reading s (j .base) room c) (done n y) H (y .base + i) ≡ false
+  unfolding answering
+  none-later j room c n y H e f = origins-inside s some-bytes j (reading s (j .base) room c) n y H e f
+
+  heard-done : (m m′ : List ℕ) (t : State s) (room : ℕ) (c : Call) (n : ℕ) (y : Joined s) → Holds m s t → receiving s t room c ≡ done n y
+      → let j = foundBy s t (esiOf c) in
+      ((i : ℕ) → i < s .width → heardIn (s .width) (s .size) m′ ((y .base + i) % s .width)
+      ≡ originsAfter {s = s} (reading s (j .base) room c) (done n y) (now-heard m j) (y .base + i))
+      → (u : Setting) (x : State u) (H : Origins) → Holds m u x → Hears m u x H → Hears m′ u (stateAfter x (receiving u x room c)) (heard-by u x H room c)
+  heard-done m m′ t room c n y h e d u x H k g = go u (settings-same m t u x h k) x k g
+    where
+      here : (x : State s) → Holds m s x → Hears m s x H → Hears m′ s (stateAfter x (receiving s x room c)) (heard-by s x H room c)
+      here x k g =
+          let j = foundBy s t (esiOf c) in
+          let i = foundBy s x (esiOf c) in
+          let r = reading s (j .base) room c in
+          let q = reading s (i .base) room c in
+          let same = held-same s m t x h k in
+          let found = found-same s t x (esiOf c) same in
+          let (z, is, alike) = was-done n y (subst (λ o. Alike s o (receiving s x room c)) e (receiving-alike t x room c same)) in
+          let after : AgreeFrom (y .base) (z .base) (originsAfter {s = s} r (done n y) (now-heard m j)) (originsAfter {s = s} q (done n z) H) =
+          subst (λ o. AgreeFrom (y .base) (baseAfter s i o) (originsAfter {s = s} r (done n y) (now-heard m j)) (originsAfter q o H)) is
+          (subst (λ o. AgreeFrom (baseAfter s j o) (baseAfter s i (answering s i room c)) (originsAfter r o (now-heard m j))
+          (originsAfter q (answering s i room c) H)) e
+          (origins-alike s j i room c (now-heard m j) H found (found-agree m j x (esiOf c) H found g))) in
+          subst (λ o. Hears m′ s (stateAfter x o) (originsAfter q o H)) (sym is)
+          (record {
+            window = λ b l. ap (heardIn (s .width) (s .size) m′) (sym (going-on (s .width) (y .base) (z .base) b (alike .row))) ∙ d b l ∙ after b;
+            later = none-later i room c n z H is (found-heard m x (esiOf c) H g .later);
+          })
+
+      go : (u : Setting) → s ≡ u → (x : State u) → Holds m u x → Hears m u x H → Hears m′ u (stateAfter x (receiving u x room c)) (heard-by u x H room c)
+      go u e = subst (λ y. (x : State y) → Holds m y x → Hears m y x H → Hears m′ y (stateAfter x (receiving y x room c)) (heard-by y x H room c)) e here
+
   contained : (m m′ w : List ℕ) (t : State s) → Holds m s t → Contained (memorySize s) m m′ → (h : Header) → headerIn m ≡ some h
       → Contained (memorySize (h .setting)) m m′ × Contained (workingSize (h .setting)) w w
   contained m m′ w t k d h e =
       (subst (λ y. Contained (memorySize y) m m′) (sym (setting-held m h s t e k)) d, record { same = refl; past = refl })
+
+  -- A byte of origins is no mark.
+  untouched : (w E : ℕ) {m m′ : List ℕ} → stored.OnlyStarts w E m m′ → (r : ℕ) → getD m′ (originAt w E r) 0 ≡ getD m (originAt w E r) 0
+  untouched w E o r = o .others (originAt w E r) (past-no-mark w E (originAt w E r) (omega arith)) (λ e. omega (arith, header-long, e))
 
   -- The next call.
   record Next (m : List ℕ) (t : State s) (c : Call) (w : List ℕ) : Type 0 where
@@ -178,6 +274,7 @@ module _ (s : Setting) (v : Valid s) where
           follows = follows-all m m (Refused (g .refusal)) t (length w) c h
               (subst (λ x. Follows receiverLayout s x m m (Refused (g .refusal))) (sym e) (ap refusal (g .number), refl));
           starts = starts-refused m t (length w) c n h e;
+          origins = heard-refused m t (length w) c n h e;
         };
         state = t;
         held = h;
@@ -188,10 +285,12 @@ module _ (s : Setting) (v : Valid s) where
           number (refusal k) = k
       go (done n x) e g =
           let j = foundBy s t (esiOf c) in
-          let b = built s v x g (drop (memorySize s) m) in
+          let r = reading s (j .base) (length w) c in
+          let H = originsAfter {s = s} r (done n x) (now-heard m j) in
+          let b = built s v x g H (drop (memorySize s) m) in
           let room : memorySize s ≤ length m = subst (λ y. memorySize y ≤ length m) (setting-of s t) (header-room m (headerOf s t) (h .header)) in
           let fits = header-fits (b .memory) (headerOf s (some x)) (b .holds .header) in
-          let M = marking s j (now-marked m j) (reading s (j .base) (length w) c) (done n x) in
+          let M = marking s j (now-marked m j) r (done n x) in
           let (m′, only, marks, noted) = with-starts (s .width) (s .size) (x .base % s .width) M (fits .some-width) (b .memory) (fits .room) in
           let held = starts-holds s (some x) (b .memory) m′ (b .holds) only in
           record {
@@ -207,6 +306,7 @@ module _ (s : Setting) (v : Valid s) where
               });
               follows = follows-all m m′ (Done n) t (length w) c h (subst (λ y. Follows receiverLayout s y m m′ (Done n)) (sym e) (refl, held));
               starts = starts-done m m′ t (length w) c n x h e (λ q. absurd (omega (arith, noted, q))) marks;
+              origins = heard-done m m′ t (length w) c n x h e (λ i l. ap (ltb 0) (untouched (s .width) (s .size) only _) ∙ b .heard i l);
             };
             state = some x;
             held = held;

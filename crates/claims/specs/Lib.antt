@@ -7,6 +7,7 @@ pub mod Carrying
 pub mod Demand
 pub mod NoChoice
 pub mod Placing
+pub mod Origins
 pub mod Sent
 pub mod Reading
 pub mod NotEmpty
