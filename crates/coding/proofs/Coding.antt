@@ -1,5 +1,6 @@
 -- Laws of the coding: of a value, of a refusal, and of an answer whose case is known.
 use Rattle.words.specs.Words.{_≡_, arith, ℕ, _≤_, _+_, _<_, refl, _∙_, sym, ap, suc, zero, _*_, subst, _≢_, _^_, ap₂, lit<, min}
+use Rattle.words.specs.Words.{_/_, _%_, Bool, true, false, cond}
 use lib.IntN.{ℤ, pos, negsuc, negℤ, natAbs, _-ℤ_, +ℤ-idl}
 use mir.Syntax.{w64}
 use lib.Signed.{mag}
@@ -13,8 +14,10 @@ use Rattle.latency.specs.declared.WindowAnswer.{WindowAnswer}
 use Rattle.latency.specs.declared.WindowAnswer.the-variants.{Divided, NotDivided}
 use Rattle.latency.specs.Window.{dividend, divisor}
 use Rattle.latency.specs.Promises.{Division, WindowAnswered}
+use Rattle.receiver.specs.declared.SymbolAnswer.{SymbolAnswer}
+use Rattle.receiver.specs.declared.SymbolAnswer.the-variants.{Shown}
 use Rattle.wire.specs.Answers.{Said, value, refusal}
-use Rattle.coding.specs.Coding.{largest, coded, windowSaid, remainderAfter, Readable}
+use Rattle.coding.specs.Coding.{largest, coded, symbolSaid, windowSaid, remainderAfter, Readable}
 
 -- A value below the largest number is itself; from there on it stands as that one.
 pub value-small : (n : ℕ) → n < largest → toZ w64 n ≡ coded (value n)
@@ -37,6 +40,10 @@ handed fits e = toZ-ofZ {w = w64} (record { sfits = fits }) ∙ e
 -- A number that codes what an answer's case says codes what the answer says.
 pub coded-case : {A : Type 0} (said : A → Said) {a b : A} {z : ℤ} → mag z < 2 ^ 63 → a ≡ b → z ≡ coded (said b) → toZ w64 (ofZ w64 z) ≡ coded (said a)
 coded-case said fits e h = handed fits h ∙ ap (λ x. coded (said x)) (sym e)
+
+-- The code of a known symbol, heard or not.
+pub shown-coded : {a : SymbolAnswer} {heard b : Bool} → a ≡ Shown heard → heard ≡ b → coded (symbolSaid (Shown b)) ≡ coded (symbolSaid a)
+shown-coded e h = ap (λ x. coded (symbolSaid x)) (ap Shown (sym h) ∙ sym e)
 
 -- A number taken from 0 is the code of the refusal with that number, and has 63 bits and a sign.
 pub negated : (n : ℕ) → n < 2 ^ 63 → toZ w64 0 -ℤ toZ w64 n ≡ coded (refusal n)
@@ -82,6 +89,7 @@ readable = record {
   values = λ n k a b e. let f : min n largest ≡ min k largest = ap natAbs e in omega (arith, f, a, b);
   adus = λ flow L k a b e. let f : min (flow * 65536 + L) largest ≡ k = ap natAbs e in (omega (arith, f, a, b), omega (arith, f, a, b));
   draws = λ n d k a b e. let f : min (n + 4294967296 * d) largest ≡ k = ap natAbs e in (omega (arith, f, a, b), omega (arith, f, a, b));
+  symbols = symbols;
   windows = windows;
   kept = kept;
 }
@@ -89,6 +97,10 @@ readable = record {
     apart : (n k : ℕ) → 1 ≤ k → coded (value n) ≢ coded (refusal k)
     apart n zero l e = absurd (omega (arith, l))
     apart n (suc k) l e = subst NotNegative e tt
+
+    symbols : (heard : Bool) (k : ℕ) → coded (symbolSaid (Shown heard)) ≡ pos k → (k % 4294967296 ≡ 0) × (k / 4294967296 ≡ cond heard 1 0)
+    symbols false k e = let f : 0 ≡ k = ap natAbs e in (omega (arith, f), omega (arith, f))
+    symbols true k e = let f : 4294967296 ≡ k = ap natAbs e in (omega (arith, f), omega (arith, f))
 
     windows : (budget bitrate E : ℕ) (a : WindowAnswer) (k before : ℕ) → WindowAnswered budget bitrate E a → coded (windowSaid a) ≡ pos k
         → Division (dividend budget bitrate) (divisor E) k (remainderAfter a before)

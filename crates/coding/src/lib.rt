@@ -3,7 +3,7 @@ ghost use Rattle.words.specs.Words.{_≡_, _+_, _*_};
 ghost use Rattle.wire.specs.Numbers.{numberOf};
 ghost use Rattle.wire.specs.Answers.{value, refusal, said};
 ghost use Rattle.receiver.specs.Promises.{handedSaid};
-ghost use Rattle.coding.specs.Coding.{coded, withDraws, packetSaid, repairSaid, windowSaid, remainderAfter};
+ghost use Rattle.coding.specs.Coding.{coded, withDraws, packetSaid, repairSaid, symbolSaid, windowSaid, remainderAfter};
 use latency::WindowAnswer;
 use starts::Handed;
 use wire::Answer;
@@ -26,7 +26,7 @@ pub fn coded_refusal(why: Refusal) -> i64
     -(wire::refusal_number(why) as i64)
 }
 
-// An answer of opening, of adding an ADU, or of a call for a symbol.
+// An answer of opening, of adding an ADU, or of the call for a symbol's place.
 pub fn coded_answer(answer: Answer) -> i64
     ensures { λ r. ⌜ r ≡ coded (said answer) ⌝ }
 {
@@ -66,6 +66,16 @@ pub fn coded_packet(answer: receiver::PacketAnswer) -> i64
     match answer {
         receiver::PacketAnswer::Accepted(n, draws) => coded_count(n, draws),
         receiver::PacketAnswer::NotAccepted(why) => coded_refusal(why),
+    }
+}
+
+// An answer of the symbol call.
+pub fn coded_symbol(answer: receiver::SymbolAnswer) -> i64
+    ensures { λ r. ⌜ r ≡ coded (symbolSaid answer) ⌝ }
+{
+    match answer {
+        receiver::SymbolAnswer::Shown(heard) => if heard { 4294967296 } else { 0 },
+        receiver::SymbolAnswer::Hidden(why) => coded_refusal(why),
     }
 }
 
