@@ -6,9 +6,9 @@ ghost use Rattle.sender.specs.Promises.{Opens, Adds, RepairMade};
 ghost use Rattle.history.specs.History.{source-call, repair-call};
 ghost use Rattle.wire.specs.Answers.{said};
 ghost use Rattle.wire.specs.Opening.{SizeAnswered, senderMemory, receiverMemory, workingMemory};
-ghost use Rattle.receiver.specs.Promises.{Opened, PacketAnswered, SymbolAnswered, PlaceAnswered, AduAnswered, handedSaid};
+ghost use Rattle.receiver.specs.Promises.{Opened, PacketAnswered, SymbolShown, PlaceAnswered, AduAnswered, handedSaid};
 ghost use Rattle.receiver.specs.Layout.{receiverLayout};
-ghost use Rattle.coding.specs.Coding.{packetSaid, repairSaid, windowSaid, remainderAfter, Codes};
+ghost use Rattle.coding.specs.Coding.{packetSaid, repairSaid, symbolSaid, windowSaid, remainderAfter, Codes};
 use wire::Esi;
 use wire::RepairKey;
 
@@ -108,9 +108,9 @@ pub extern "C" fn rlc_receive_repair(memory: &mut [u8], work: &mut [u8], packet:
 
 #[no_mangle]
 pub extern "C" fn rlc_symbol(memory: &[u8], esi: u32) -> i64
-    ensures { λ r. ⌜ Codes said (SymbolAnswered receiverLayout (now (memory .entry)) esi) r ⌝ }
+    ensures { λ r. ⌜ Codes symbolSaid (SymbolShown receiverLayout (now (memory .entry)) esi) r ⌝ }
 {
-    coding::coded_answer(receiver::symbol(memory, Esi(esi)))
+    coding::coded_symbol(receiver::symbol(memory, Esi(esi)))
 }
 
 #[no_mangle]
