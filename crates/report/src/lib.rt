@@ -2,6 +2,7 @@
 ghost use Rattle.words.specs.Words.{_<_};
 use libc::STDOUT_FILENO;
 use receiver::PacketAnswer;
+use receiver::SymbolAnswer;
 use sender::RepairAnswer;
 use starts::Handed;
 use wire::Answer;
@@ -51,7 +52,7 @@ pub fn print_made(answer: RepairAnswer) {
     }
 }
 
-// What opening, adding an ADU or a symbol call answered.
+// What opening or adding an ADU answered.
 pub fn print_answer(answer: Answer) {
     match answer {
         Answer::Done(n) => print_number(n),
@@ -77,11 +78,11 @@ pub fn repair(mem: &mut [u8], work: &mut [u8], packet: &[u8]) {
     print_packet(receiver::receive_repair(mem, work, packet));
 }
 
-// The symbol with an ESI, or the refusal of the symbol call.
+// The symbol with an ESI, without its origin, or the refusal of the symbol call.
 pub fn show(mem: &[u8], esi: u32) {
     match receiver::symbol(mem, Esi(esi)) {
-        Answer::Done(_) => print_bytes(receiver::symbol_part(mem, Esi(esi))),
-        Answer::Refused(refusal) => print_refusal(refusal),
+        SymbolAnswer::Shown(_) => print_bytes(receiver::symbol_part(mem, Esi(esi))),
+        SymbolAnswer::Hidden(refusal) => print_refusal(refusal),
     }
 }
 
