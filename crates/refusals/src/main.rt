@@ -23,16 +23,16 @@ struct Sizes {
 }
 
 // The memory of a receiver of width 4, enough for the smaller widths and for a sender too; its working memory; and output.
-fn memory_for_four() -> [u8; 112]
-    ensures { λ r. ⌜ 112 ≡ length r ⌝ }
+fn memory_for_four() -> [u8; 116]
+    ensures { λ r. ⌜ 116 ≡ length r ⌝ }
 {
-    [0; 112]
+    [0; 116]
 }
 
-fn working_memory() -> [u8; 124]
-    ensures { λ r. ⌜ 124 ≡ length r ⌝ }
+fn working_memory() -> [u8; 129]
+    ensures { λ r. ⌜ 129 ≡ length r ⌝ }
 {
-    [0; 124]
+    [0; 129]
 }
 
 fn output() -> [u8; 12]
@@ -243,8 +243,8 @@ fn end_from(table: &[u8], at: usize) -> usize
 // All lines of the table.
 fn take_all(table: &[u8], mem: &mut [u8], work: &mut [u8], out: &mut [u8]) {
     let mut sizes = Sizes {
-        mem: 112,
-        work: 124,
+        mem: 116,
+        work: 129,
         out: 12,
     };
     let mut at: usize = 0;
