@@ -6,16 +6,16 @@ use report::show;
 use report::source;
 
 // The memory of a receiver of width 4, enough for the smaller widths too, and its working memory.
-fn receiver_memory() -> [u8; 112]
-    ensures { λ r. ⌜ length r ≡ 112 ⌝ }
+fn receiver_memory() -> [u8; 116]
+    ensures { λ r. ⌜ length r ≡ 116 ⌝ }
 {
-    [0; 112]
+    [0; 116]
 }
 
-fn working_memory() -> [u8; 124]
-    ensures { λ r. ⌜ length r ≡ 124 ⌝ }
+fn working_memory() -> [u8; 129]
+    ensures { λ r. ⌜ length r ≡ 129 ⌝ }
 {
-    [0; 124]
+    [0; 129]
 }
 
 fn open(mem: &mut [u8], width: usize) {
