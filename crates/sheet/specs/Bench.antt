@@ -204,8 +204,8 @@ pub bench :
     ∷ case (gf2 2) (long ∷ []) [] ∷ case (gf2 2) (short-source ∷ short-repair ∷ []) [] ∷ case (gf2 2) (repair-of 0 0 ∷ repair-of 3 0 ∷ []) []
     ∷ case (gf2 2) (at-zero ∷ empty-at 0xFF 0xFF 0xFF 0xFF ∷ empty-at 0 1 0 0 ∷ []) [] ∷ case (gf2 2) (repair-of 2 3 ∷ unlike ∷ []) []
     -- a receiver's opening, with the least memory that it needs and one byte less, at the smallest and the largest E and width; 1 before 2
-    ∷ received (opens (settingOf 9 4 1) 73 ∷ opens (settingOf 9 4 1) 72 ∷ []) []
-    ∷ received (opens (settingOf 10 1500 255) 448609 ∷ opens (settingOf 10 1500 255) 448608 ∷ opens (settingOf 10 1501 255) 0 ∷ []) []
+    ∷ received (opens (settingOf 9 4 1) 74 ∷ opens (settingOf 9 4 1) 73 ∷ []) []
+    ∷ received (opens (settingOf 10 1500 255) 448864 ∷ opens (settingOf 10 1500 255) 448863 ∷ opens (settingOf 10 1501 255) 0 ∷ []) []
     -- the symbol call before any base
     ∷ case (gf2 2) [] (0 ∷ 2 ∷ 2147483647 ∷ 2147483648 ∷ 4294967295 ∷ [])
     -- the symbol call with base 0: unknown, past the window, the last ESI ahead, the first behind, the last
