@@ -58,16 +58,17 @@ unfolding
     total recordLines summary recordsFrom settingNamed printedWith printedLines
 printings = refl
 
--- first lines that open a receiver, the memories of the last two being the largest, 65,536 bytes; and bad ones: values that opening refuses, memories that
--- are too large, a leading zero, two blanks, a number past 64 bits, a byte after the form
+-- first lines that open a receiver: the working memory of the second and third has exactly 65,536 bytes, and no wider window than the fourth fits; and bad
+-- ones: values that opening refuses; a working memory of 65,537 bytes, one more than fits for E, twice, and for the width; a leading zero, two blanks, a
+-- number past 64 bits, a byte after the form
 pub firstLines : map (λ t. settingNamed (ascii t))
-    ("scheme=9 e=4 width=2" ∷ "scheme=10 e=13 width=247" ∷ "scheme=9 e=1441 width=43"
+    ("scheme=9 e=4 width=2" ∷ "scheme=10 e=12 width=247" ∷ "scheme=9 e=1440 width=43" ∷ "scheme=9 e=4 width=250"
     ∷ "scheme=8 e=4 width=2" ∷ "scheme=9 e=3 width=2" ∷ "scheme=9 e=4 width=0" ∷ "scheme=9 e=4 width=256"
-    ∷ "scheme=10 e=14 width=247" ∷ "scheme=9 e=1442 width=43" ∷ "scheme=9 e=4 width=252"
+    ∷ "scheme=9 e=44 width=232" ∷ "scheme=10 e=13 width=247" ∷ "scheme=9 e=1441 width=43" ∷ "scheme=9 e=4 width=251"
     ∷ "scheme=09 e=4 width=2" ∷ "scheme=9  e=4 width=2" ∷ "scheme=18446744073709551625 e=4 width=2" ∷ "scheme=9 e=4 width=2\r" ∷ "" ∷ [])
-    ≡ some (record { scheme = Gf2; size = 4; width = 2 }) ∷ some (record { scheme = Gf256; size = 13; width = 247 })
-    ∷ some (record { scheme = Gf2; size = 1441; width = 43 })
-    ∷ none ∷ none ∷ none ∷ none ∷ none ∷ none ∷ none ∷ none ∷ none ∷ none ∷ none ∷ none ∷ []
+    ≡ some (record { scheme = Gf2; size = 4; width = 2 }) ∷ some (record { scheme = Gf256; size = 12; width = 247 })
+    ∷ some (record { scheme = Gf2; size = 1440; width = 43 }) ∷ some (record { scheme = Gf2; size = 4; width = 250 })
+    ∷ none ∷ none ∷ none ∷ none ∷ none ∷ none ∷ none ∷ none ∷ none ∷ none ∷ none ∷ none ∷ none ∷ []
 unfolding inRange settingOf after numberFrom numberIn valuesIn settingNamed
 firstLines = refl
 
