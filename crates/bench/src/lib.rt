@@ -5,6 +5,7 @@ ghost use Rattle.table.specs.Window.{Fits};
 use field::Gf256;
 use field::tables;
 use receiver::PacketAnswer;
+use receiver::SymbolAnswer;
 use sender::RepairAnswer;
 use starts::Handed;
 use table::Shape;
@@ -171,9 +172,13 @@ pub extern "C" fn bench_receive_repair(mem: &mut [u8], work: &mut [u8], packet: 
     packet_received(receiver::receive_repair(mem, work, packet))
 }
 
+// 0 for a known symbol, and 2^32 more where it was heard.
 #[no_mangle]
 pub extern "C" fn bench_symbol(mem: &[u8], esi: u32) -> usize {
-    answered(receiver::symbol(mem, Esi(esi)))
+    match receiver::symbol(mem, Esi(esi)) {
+        SymbolAnswer::Shown(heard) => if heard { 4294967296 } else { 0 },
+        SymbolAnswer::Hidden(_r) => 1000000,
+    }
 }
 
 // The length of the ADU that is handed out.
