@@ -10,6 +10,7 @@
  * took, added up over its repair symbols, without the eight steps of the generator's start: 0 for a source packet, 0 in scheme 9 at DT 15, at most
  * 69,360 (16 lists of 255 coefficients, each at most 17 draws). Ends of the same scheme and E answer the same
  * draws for the same packet. A refusal tells no draws.
+ * rlc_symbol answers 0, plus 4,294,967,296 for a symbol that was heard, which rlc_heard tells.
  *
  * Memory. An end, a sender or a receiver, lives in one piece of memory that the caller owns: bytes with no alignment, which can be copied or moved
  * between calls and are freed by the caller, with nothing to close. Ask for its size, open it once, then lend the same bytes to each call, as the last
@@ -58,9 +59,12 @@ enum rlc_refusal {
 static inline uint32_t rlc_value(int64_t answer) { return answer < 0 ? 0 : (uint32_t)(answer & 0xFFFFFFFF); }
 static inline uint32_t rlc_draws(int64_t answer) { return answer < 0 ? 0 : (uint32_t)(answer >> 32); }
 
+/* Whether an answer of rlc_symbol tells of a symbol that was heard: 1; 0 where it was solved, or where the answer is a refusal. */
+static inline int rlc_heard(int64_t answer) { return answer >= INT64_C(4294967296); }
+
 /*
  * The bytes of memory that a sender, a receiver, and a receiver's packet calls need, in either scheme: 32 + width x E,
- * 64 + width x (width + E + 4), and 64 + (width + 1) x (width + E + 4).
+ * 64 + width x (width + E + 4) + width, and 64 + (width + 1) x (width + E + 4) + (width + 1).
  * Refusal: RLC_VALUES where symbol_size (E) is not 4 to 1500 or width not 1 to 255.
  */
 int64_t rlc_sender_memory(uint32_t symbol_size, uint32_t width);
@@ -125,7 +129,11 @@ int64_t rlc_receive_repair(uint8_t *memory, size_t memory_length, uint8_t *work,
                            const uint8_t *packet, size_t packet_length);
 
 /*
- * Whether the symbol with an ESI is known to the receiver. Answers 0 where it is.
+ * Whether the symbol with an ESI is known to the receiver, and whether it was heard. Answers 0 where it is known, plus 4,294,967,296 where it was heard:
+ * rlc_heard tells, and rlc_value of either answer is 0.
+ * A known symbol is heard where an accepted source packet has carried it, be it known before that or not. Else it is solved: worked out from repair
+ * packets. A solved symbol becomes heard when its source packet is accepted later, though that makes nothing known; one heard never becomes solved. A
+ * refused packet counts for nothing.
  * Refusals: RLC_UNOPENED, RLC_UNKNOWN (no window yet), RLC_BEHIND, RLC_UNKNOWN.
  */
 int64_t rlc_symbol(const uint8_t *memory, size_t memory_length, uint32_t esi);

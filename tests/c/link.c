@@ -1,6 +1,6 @@
-// The library as a C program links it: the bench sheet's cases C7 to C10 and C12, joining, the draws, the window of a latency budget, and the ADU
-// call's refusals, through the header alone; each answer and each byte is compared. With the argument `unset` the memory that is lent for a sender, a
-// receiver or their work is left as malloc gives it, so that valgrind tells if a call depends on a byte that nobody has set.
+// The library as a C program links it: the bench sheet's cases C7 to C10 and C12, joining, the draws, the window of a latency budget, symbols heard and
+// solved, and the ADU call's refusals, through the header alone; each answer and each byte is compared. With the argument `unset` the memory that is lent
+// for a sender, a receiver or their work is left as malloc gives it, so that valgrind tells if a call depends on a byte that nobody has set.
 #include "rlc8681.h"
 #include <stdio.h>
 #include <stdlib.h>
@@ -33,10 +33,12 @@ static void check(int good, const char *what) {
     check(memcmp((at), expected, sizeof expected) == 0, "bytes at " #at ": " #__VA_ARGS__);       \
   } while (0)
 
-// The receiver shows the symbol with an ESI, and it has these four bytes, in the memory lent.
-#define SHOWS(receiver, esi, ...)                                                                 \
+// The receiver shows the symbol with an ESI, tells whether it was heard or solved, and it has these four bytes, in the memory lent.
+#define SOLVED INT64_C(0)
+#define HEARD INT64_C(4294967296)
+#define SHOWS(receiver, esi, origin, ...)                                                         \
   do {                                                                                            \
-    SAYS(rlc_symbol(LENT(receiver), esi), 0);                                                     \
+    SAYS(rlc_symbol(LENT(receiver), esi), origin);                                                \
     int64_t place = rlc_symbol_place(LENT(receiver), esi);                                        \
     check(place >= 0 && (size_t)place + 4 <= (receiver).length, "a symbol lies in the memory");   \
     if (place >= 0) BYTES((receiver).bytes + place, __VA_ARGS__);                                 \
@@ -100,11 +102,11 @@ static struct room work_of(uint32_t size, uint32_t width) { return lent(rlc_work
 
 static void sizes(void) {
   SAYS(rlc_sender_memory(4, 2), 32 + 2 * 4);
-  SAYS(rlc_receiver_memory(4, 2), 64 + 2 * (2 + 4 + 4));
-  SAYS(rlc_working_memory(4, 2), 64 + 3 * (2 + 4 + 4));
+  SAYS(rlc_receiver_memory(4, 2), 64 + 2 * (2 + 4 + 4) + 2);
+  SAYS(rlc_working_memory(4, 2), 64 + 3 * (2 + 4 + 4) + 3);
   SAYS(rlc_sender_memory(1500, 255), 32 + 255 * 1500);
-  SAYS(rlc_receiver_memory(1500, 255), 64 + 255 * 1759);
-  SAYS(rlc_working_memory(1500, 255), 64 + 256 * 1759);
+  SAYS(rlc_receiver_memory(1500, 255), 64 + 255 * 1759 + 255);
+  SAYS(rlc_working_memory(1500, 255), 64 + 256 * 1759 + 256);
   const uint32_t wrong[][2] = {{3, 1}, {1501, 1}, {4, 0}, {4, 256}, {4 + 65536, 1}, {4, 257}, {0xffffffff, 0xffffffff}};
   for (size_t i = 0; i < sizeof wrong / sizeof *wrong; i++) {
     SAYS(rlc_sender_memory(wrong[i][0], wrong[i][1]), -RLC_VALUES);
@@ -196,8 +198,8 @@ static void seven_and_eight(void) {
   SAYS(rlc_receive_repair(LENT(receiver), LENT(work), repair.bytes, 9), -RLC_FORM);
   SAYS(rlc_receive_source(LENT(receiver), LENT(work), 1, one.bytes, 5), 1);
   SAYS(rlc_receive_repair(LENT(receiver), LENT(work), repair.bytes, 12), 1);
-  SHOWS(receiver, 0, 1, 0, 1, 0x41);
-  SHOWS(receiver, 1, 1, 0, 1, 0x42);
+  SHOWS(receiver, 0, HEARD, 1, 0, 1, 0x41);
+  SHOWS(receiver, 1, SOLVED, 1, 0, 1, 0x42);
   HIDES(receiver, 2, RLC_UNKNOWN);
   HIDES(receiver, 0xffffffff, RLC_BEHIND);
   HIDES(sender, 0, RLC_UNOPENED);
@@ -221,8 +223,8 @@ static void nine(void) {
   BYTES(out.bytes, 1, 2, 3, 4, 5, 0, 0, 0, 0);
   SAYS(rlc_receiver_open(LENT(receiver), 10, 4, 3), 0);
   SAYS(rlc_receive_source(LENT(receiver), LENT(work), 255, out.bytes, 9), 2);
-  SHOWS(receiver, 0, 255, 0, 5, 1);
-  SHOWS(receiver, 1, 2, 3, 4, 5);
+  SHOWS(receiver, 0, HEARD, 255, 0, 5, 1);
+  SHOWS(receiver, 1, HEARD, 2, 3, 4, 5);
   HANDS(receiver, 0, 255, 1, 2, 3, 4, 5);
   WITHHOLDS(receiver, 1, RLC_NO_START);
   SAYS(rlc_sender_add_adu(LENT(sender), 0, adu, 0, LENT(out)), 4);
@@ -255,7 +257,7 @@ static void ten(void) {
       WITHHOLDS(receiver, begin[i] - 1, RLC_UNKNOWN);
       number(source + 1, begin[i]);
       SAYS(rlc_receive_source(LENT(receiver), LENT(work), 1, source, sizeof source), 1);
-      SHOWS(receiver, begin[i], 1, 0, 1, 0x41);
+      SHOWS(receiver, begin[i], HEARD, 1, 0, 1, 0x41);
       HANDS(receiver, begin[i], 1, 0x41);
       HIDES(receiver, begin[i] - 1, RLC_BEHIND);
       WITHHOLDS(receiver, begin[i] + 1, RLC_UNKNOWN);
@@ -290,7 +292,7 @@ static void twelve(void) {
   HIDES(receiver, 2, RLC_UNKNOWN);
   SAYS(rlc_receive_source(LENT(receiver), LENT(work), 1, LENT(source[3])), 2);
   HIDES(receiver, 1, RLC_BEHIND);
-  for (uint8_t esi = 2; esi < 6; esi++) SHOWS(receiver, esi, 1, 0, 1, 0x41 + esi);
+  for (uint8_t esi = 2; esi < 6; esi++) SHOWS(receiver, esi, esi == 2 ? SOLVED : HEARD, 1, 0, 1, 0x41 + esi);
   WITHHOLDS(receiver, 2, RLC_NO_START);
   for (uint8_t esi = 3; esi < 6; esi++) HANDS(receiver, esi, 1, 0x41 + esi);
   check(untouched(sender, sender.length) && untouched(receiver, receiver.length) && untouched(work, work.length), "all stay in their memory");
@@ -311,15 +313,98 @@ static void draws(void) {
   TELLS(rlc_sender_make_repair(LENT(sender), 1, 4, 1, LENT(repair)), 12, 7);
   BYTES(repair.bytes, 0, 1, 0x40, 5, 0, 0, 0, 0, 0xa4, 0, 0xa4, 0x32);
   SAYS(rlc_receive_repair(LENT(receiver), LENT(work), LENT(repair)), INT64_C(30064771073));
-  SHOWS(receiver, 2, 1, 0, 1, 0x43);
+  SHOWS(receiver, 2, SOLVED, 1, 0, 1, 0x43);
   TELLS(rlc_receive_repair(LENT(receiver), LENT(work), LENT(repair)), 0, 7);
   TELLS(rlc_sender_make_repair(LENT(sender), 1, 4, 2, LENT(both)), 16, 14);
   TELLS(rlc_receive_repair(LENT(receiver), LENT(work), LENT(both)), 1, 14);
-  SHOWS(receiver, 4, 1, 0, 1, 0x45);
+  SHOWS(receiver, 4, SOLVED, 1, 0, 1, 0x45);
   repair.bytes[11] ^= 1;
   SAYS(rlc_receive_repair(LENT(receiver), LENT(work), LENT(repair)), -RLC_CONTRADICTION);
   TELLS(INT64_C(297898931650815), 255, 69360);
   check(rlc_value(-RLC_CONTRADICTION) == 0 && rlc_draws(-RLC_CONTRADICTION) == 0, "a refusal has neither value nor draws");
+}
+
+// A source packet of one symbol, and a repair packet of scheme 9 over that symbol alone, which solves it.
+static int64_t hear(struct room receiver, struct room work, uint32_t esi, uint8_t adu) {
+  uint8_t packet[] = {adu, 0, 0, 0, 0};
+  number(packet + 1, esi);
+  return rlc_receive_source(LENT(receiver), LENT(work), 1, packet, sizeof packet);
+}
+static int64_t solve(struct room receiver, struct room work, uint32_t esi, uint8_t adu) {
+  uint8_t packet[] = {0, 0, 0xf0, 1, 0, 0, 0, 0, 1, 0, 1, adu};
+  number(packet + 4, esi);
+  return rlc_receive_repair(LENT(receiver), LENT(work), packet, sizeof packet);
+}
+
+// A known symbol is heard once its source packet was accepted, before it was solved or after; a refused one counts for nothing.
+static void heard_later(uint32_t width) {
+  struct room receiver = receiver_of(4, width), work = work_of(4, width);
+  SAYS(rlc_receiver_open(LENT(receiver), 9, 4, width), 0);
+  check(!rlc_heard(rlc_symbol(LENT(receiver), 7)), "no symbol is heard before any packet");
+  SAYS(solve(receiver, work, 7, 0x41), 1);
+  SHOWS(receiver, 7, SOLVED, 1, 0, 1, 0x41);
+  SAYS(hear(receiver, work, 7, 0x42), -RLC_CONTRADICTION);
+  SHOWS(receiver, 7, SOLVED, 1, 0, 1, 0x41);
+  SAYS(hear(receiver, work, 7, 0x41), 0);
+  SHOWS(receiver, 7, HEARD, 1, 0, 1, 0x41);
+  SAYS(hear(receiver, work, 7, 0x41), 0);
+  SAYS(solve(receiver, work, 7, 0x41), 0);
+  SAYS(hear(receiver, work, 7, 0x42), -RLC_CONTRADICTION);
+  SHOWS(receiver, 7, HEARD, 1, 0, 1, 0x41);
+  check(!rlc_heard(rlc_symbol(LENT(receiver), 6)) && !rlc_heard(rlc_symbol(LENT(receiver), 7 + width)), "none is heard outside the window");
+  check(untouched(receiver, receiver.length) && untouched(work, work.length), "the receiver stays in its memory");
+}
+
+// The window moves on, by one and by its width and more: what stays in it is heard as before, and what comes into it is not.
+static void jumps(uint32_t width) {
+  struct room receiver = receiver_of(4, width), work = work_of(4, width);
+  const uint32_t ahead[] = {width, 2 * width - 1, 2 * width, 2 * width + 1, 65535};
+  uint32_t base = 0xfffffffe;
+  SAYS(rlc_receiver_open(LENT(receiver), 9, 4, width), 0);
+  for (size_t k = 0; k < sizeof ahead / sizeof *ahead; k++) {
+    for (uint32_t esi = base; esi != base + width; esi++) SAYS(hear(receiver, work, esi, (uint8_t)esi), k == 0);
+    const uint32_t last = base + ahead[k], next = last + 1 - width;
+    SAYS(solve(receiver, work, last, (uint8_t)last), 1);
+    for (uint32_t esi = next; esi != last + 1; esi++) {
+      const int stayed = esi - base < width;
+      if (!stayed && esi != last) {
+        HIDES(receiver, esi, RLC_UNKNOWN);
+        SAYS(solve(receiver, work, esi, (uint8_t)esi), 1);
+      }
+      SHOWS(receiver, esi, stayed ? HEARD : SOLVED, 1, 0, 1, (uint8_t)esi);
+    }
+    base = next;
+  }
+  check(untouched(receiver, receiver.length) && untouched(work, work.length), "the receiver stays in its memory");
+}
+
+// A source packet of two symbols, the second of which was solved, and with which a repair packet solves a third: the two are heard, the third is not.
+static void heard_in_part(void) {
+  struct room receiver = receiver_of(4, 3), work = work_of(4, 3);
+  const uint8_t sum[] = {0, 0, 0xf0, 3, 0, 0, 0, 0, 2, 3, 0, 0x47}, second[] = {0, 0, 0xf0, 1, 0, 0, 0, 1, 2, 3, 4, 5};
+  const uint8_t two[] = {1, 2, 3, 4, 5, 0, 0, 0, 0}, unlike[] = {1, 2, 3, 4, 6, 0, 0, 0, 0};
+  SAYS(rlc_receiver_open(LENT(receiver), 9, 4, 3), 0);
+  SAYS(rlc_receive_repair(LENT(receiver), LENT(work), sum, sizeof sum), 0);
+  SAYS(rlc_receive_repair(LENT(receiver), LENT(work), second, sizeof second), 1);
+  SAYS(rlc_receive_source(LENT(receiver), LENT(work), 1, unlike, sizeof unlike), -RLC_CONTRADICTION);
+  HIDES(receiver, 0, RLC_UNKNOWN);
+  SHOWS(receiver, 1, SOLVED, 2, 3, 4, 5);
+  SAYS(rlc_receive_source(LENT(receiver), LENT(work), 1, two, sizeof two), 2);
+  SHOWS(receiver, 0, HEARD, 1, 0, 5, 1);
+  SHOWS(receiver, 1, HEARD, 2, 3, 4, 5);
+  SHOWS(receiver, 2, SOLVED, 1, 0, 1, 0x43);
+}
+
+static void heard_or_solved(void) {
+  check(rlc_heard(HEARD) == 1 && rlc_value(HEARD) == 0, "heard, and the value is 0");
+  check(rlc_heard(SOLVED) == 0 && rlc_value(SOLVED) == 0, "solved, and the value is 0");
+  for (int number = RLC_VALUES; number <= RLC_PADDING; number++) check(rlc_heard(-number) == 0, "a refusal is not heard");
+  const uint32_t widths[] = {1, 2, 3, 8};
+  for (size_t i = 0; i < sizeof widths / sizeof *widths; i++) {
+    heard_later(widths[i]);
+    jumps(widths[i]);
+  }
+  heard_in_part();
 }
 
 // The largest repair packet, 16 symbols over a window of 255, in both schemes.
@@ -343,10 +428,11 @@ static void thirteen_and_fourteen(void) {
   const uint8_t longer[] = {0, 0, 0xf0, 1, 0, 0, 0, 1, 1, 0, 2, 0x41}, padded[] = {0, 0, 0xf0, 1, 0, 0, 0, 1, 1, 0, 0, 7};
   SAYS(rlc_receiver_open(LENT(receiver), 9, 4, 2), 0);
   SAYS(rlc_receive_repair(LENT(receiver), LENT(work), second, sizeof second), 1);
-  SHOWS(receiver, 1, 1, 0, 1, 0x42);
+  SHOWS(receiver, 1, SOLVED, 1, 0, 1, 0x42);
   WITHHOLDS(receiver, 1, RLC_NO_START);
   WITHHOLDS(receiver, 2, RLC_NO_START);
   SAYS(rlc_receive_source(LENT(receiver), LENT(work), 1, heard, sizeof heard), 0);
+  SHOWS(receiver, 1, HEARD, 1, 0, 1, 0x42);
   HANDS(receiver, 1, 1, 0x42);
   WITHHOLDS(receiver, 2, RLC_UNKNOWN);
   SAYS(rlc_receiver_open(LENT(narrow), 9, 4, 1), 0);
@@ -368,6 +454,7 @@ int main(int count, char **words) {
   ten();
   twelve();
   draws();
+  heard_or_solved();
   many_draws();
   thirteen_and_fourteen();
   printf("%d passed, %d failed\n", passed, failed);
