@@ -1,5 +1,6 @@
 //! The C interface of the proved library. Each call answers its value, 0 or more, or minus a refusal's number; beside the value of
-//! `rlc_sender_make_repair`, `rlc_receive_source` and `rlc_receive_repair` stand the draws, times 2^32.
+//! `rlc_sender_make_repair`, `rlc_receive_source` and `rlc_receive_repair` stand the draws, times 2^32, and beside that of `rlc_symbol`
+//! 2^32 for a symbol that was heard.
 
 extern "C" {
     pub fn rlc_sender_memory(symbol_size: u32, width: u32) -> i64;
@@ -39,6 +40,7 @@ extern "C" {
         packet: *const u8,
         packet_len: usize,
     ) -> i64;
+    pub fn rlc_symbol(memory: *const u8, memory_len: usize, esi: u32) -> i64;
     pub fn rlc_symbol_place(memory: *const u8, memory_len: usize, esi: u32) -> i64;
     pub fn rlc_adu(memory: *const u8, memory_len: usize, esi: u32, out: *mut u8, out_len: usize) -> i64;
 }

@@ -3,9 +3,9 @@
 //!
 //! A [`Sender`] takes application packets (ADUs), writes a source packet for each and, when asked, repair packets over its window of the
 //! last `width` symbols. A [`Receiver`] takes source and repair packets in any order, with losses and repeats, and shows every symbol of
-//! its window that the packets determine; it can join a running stream, at the first packet that it accepts. All working is exact: what it
-//! shows is what the packets imply, and a packet that contradicts them is refused. [`dw_max_size`] tells how wide a window may be under a
-//! latency budget.
+//! its window that the packets determine, and which of them it heard and which it solved ([`Origin`]); it can join a running stream, at the
+//! first packet that it accepts. All working is exact: what it shows is what the packets imply, and a packet that contradicts them is
+//! refused. [`dw_max_size`] tells how wide a window may be under a latency budget.
 //!
 //! ```
 //! use rlc8681::{Receiver, Scheme, Sender};
@@ -36,7 +36,7 @@ mod refusal;
 mod sender;
 
 pub use latency::{dw_max_size, WindowSize};
-pub use receiver::{Adu, Received, Receiver};
+pub use receiver::{Adu, Origin, Received, Receiver};
 pub use refusal::Refusal;
 pub use sender::{Repair, Sender};
 
@@ -90,10 +90,10 @@ fn answer(raw: i64) -> Result<usize, Refusal> {
     }
 }
 
-/// The answer of a call that tells draws: its value, in the low 32 bits, and the draws, in those above; or a refusal.
-fn answer_with_draws(raw: i64) -> Result<(usize, u32), Refusal> {
-    let (value, draws) = if raw < 0 { (raw, 0) } else { (raw & 0xffff_ffff, (raw >> 32) as u32) };
-    Ok((answer(value)?, draws))
+/// The answer of a call that tells two numbers: its value, in the low 32 bits, and what stands beside it, in those above; or a refusal.
+fn answer_in_two(raw: i64) -> Result<(usize, u32), Refusal> {
+    let (value, beside) = if raw < 0 { (raw, 0) } else { (raw & 0xffff_ffff, (raw >> 32) as u32) };
+    Ok((answer(value)?, beside))
 }
 
 /// Zeroed memory of the size that a call answered.

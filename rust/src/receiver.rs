@@ -1,7 +1,7 @@
-use crate::{answer, answer_with_draws, ffi, memory_of, Refusal, Scheme};
+use crate::{answer, answer_in_two, ffi, memory_of, Refusal, Scheme};
 use std::fmt;
 
-/// The receiving end. It owns 64 + width × (width + symbol size + 4) bytes of memory, and working memory of one row more;
+/// The receiving end. It owns 64 + width × (width + symbol size + 5) bytes of memory, and working memory of one row more;
 /// a clone goes on by itself from the same history.
 ///
 /// ```
@@ -34,6 +34,15 @@ pub struct Received {
     /// the generator's start do not. A source packet takes none, nor does a repair packet of [`Scheme::Gf2`] at density threshold 15; no
     /// packet takes more than 69,360. A sender of the same scheme and symbol size that made the packet told the same number.
     pub draws: u32,
+}
+
+/// What made a known symbol known, as [`Receiver::origin`] tells it.
+#[derive(Clone, Copy, Debug, PartialEq, Eq, Hash)]
+pub enum Origin {
+    /// A source packet that was accepted has carried it, be it known before that or not.
+    Heard,
+    /// It was worked out from repair packets, and no source packet that was accepted has carried it.
+    Solved,
 }
 
 /// An ADU as [`Receiver::adu`] hands it out.
@@ -86,7 +95,7 @@ impl Receiver {
     /// packet was accepted, none is behind or ahead.
     pub fn receive_source(&mut self, flow: u8, packet: &[u8]) -> Result<Received, Refusal> {
         // SAFETY: pointers and lengths are those of slices that are borrowed for the call alone; the two mutable ones are apart.
-        answer_with_draws(unsafe {
+        answer_in_two(unsafe {
             ffi::rlc_receive_source(
                 self.memory.as_mut_ptr(),
                 self.memory.len(),
@@ -123,7 +132,7 @@ impl Receiver {
     /// ```
     pub fn receive_repair(&mut self, packet: &[u8]) -> Result<Received, Refusal> {
         // SAFETY: pointers and lengths are those of slices that are borrowed for the call alone; the two mutable ones are apart.
-        answer_with_draws(unsafe {
+        answer_in_two(unsafe {
             ffi::rlc_receive_repair(
                 self.memory.as_mut_ptr(),
                 self.memory.len(),
@@ -146,6 +155,33 @@ impl Receiver {
         let place = answer(unsafe { ffi::rlc_symbol_place(self.memory.as_ptr(), self.memory.len(), esi) })?;
         // The library promises that the symbol lies in the memory: see `answer`.
         self.memory.get(place..).and_then(|rest| rest.get(..self.symbol_size as usize)).ok_or(Refusal::Unopened)
+    }
+
+    /// Whether a known symbol of the window was heard or solved. A solved one becomes heard when its source packet is accepted later, though
+    /// that makes nothing known; one heard never becomes solved. A refused packet counts for nothing.
+    ///
+    /// # Errors
+    ///
+    /// Those of [`Receiver::symbol`].
+    ///
+    /// ```
+    /// use rlc8681::{Origin, Receiver, Refusal, Scheme};
+    /// # fn main() -> Result<(), Refusal> {
+    /// let mut receiver = Receiver::open(Scheme::Gf2, 4, 2)?;
+    /// receiver.receive_source(1, b"A\0\0\0\0")?;
+    /// receiver.receive_repair(&[0, 0, 0xf0, 2, 0, 0, 0, 0, 0, 0, 0, 3])?;
+    /// assert_eq!((receiver.origin(0), receiver.origin(1)), (Ok(Origin::Heard), Ok(Origin::Solved)));
+    /// // The source packet of the second comes late, and brings nothing new.
+    /// assert_eq!(receiver.receive_source(1, b"B\0\0\0\x01")?.known, 0);
+    /// assert_eq!(receiver.origin(1), Ok(Origin::Heard));
+    /// assert_eq!(receiver.origin(2), Err(Refusal::Unknown));
+    /// # Ok(())
+    /// # }
+    /// ```
+    pub fn origin(&self, esi: u32) -> Result<Origin, Refusal> {
+        // SAFETY: pointer and length are those of a slice that is borrowed for the call alone.
+        let (_, heard) = answer_in_two(unsafe { ffi::rlc_symbol(self.memory.as_ptr(), self.memory.len(), esi) })?;
+        Ok(if heard == 0 { Origin::Solved } else { Origin::Heard })
     }
 
     /// Writes the ADU that starts at this ESI to the front of `out`, whose other bytes stay, and gives it with its flow. Starts are the first

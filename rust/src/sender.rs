@@ -1,4 +1,4 @@
-use crate::{answer, answer_with_draws, ffi, memory_of, Refusal, Scheme};
+use crate::{answer, answer_in_two, ffi, memory_of, Refusal, Scheme};
 use std::fmt;
 
 /// The sending end. It owns 32 + width × symbol size bytes of memory; a clone goes on by itself from the same history.
@@ -94,7 +94,7 @@ impl Sender {
     /// ```
     pub fn make_repair(&self, key: u16, dt: u32, count: u32, out: &mut [u8]) -> Result<Repair, Refusal> {
         // SAFETY: pointers and lengths are those of slices that are borrowed for the call alone; only `out` is written.
-        answer_with_draws(unsafe {
+        answer_in_two(unsafe {
             ffi::rlc_sender_make_repair(self.memory.as_ptr(), self.memory.len(), key, dt, count, out.as_mut_ptr(), out.len())
         })
         .map(|(bytes, draws)| Repair { bytes, draws })
