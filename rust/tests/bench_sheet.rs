@@ -5,7 +5,7 @@ mod reference;
 use reference::coefficients::{coefficients, drawn_list};
 use reference::figures::{FIGURE_10, FIGURE_9};
 use reference::{repair_packet, source_packet, Field};
-use rlc8681::{Adu, Received, Receiver, Refusal, Repair, Scheme, Sender};
+use rlc8681::{Adu, Origin, Received, Receiver, Refusal, Repair, Scheme, Sender};
 use std::ops::RangeInclusive;
 
 /// The coefficients that a sender draws: symbol i holds a single one at place i, so the repair symbol lists them after F and L. And the
@@ -121,6 +121,7 @@ fn c7_and_c8_one_lost_symbol() {
     assert_eq!(receiver.receive_source(1, &sources[0]), known(1));
     assert_eq!(receiver.receive_repair(&packet), known(1));
     assert_eq!(receiver.symbol(1), Ok(&[1, 0, 1, 0x42][..]));
+    assert_eq!((receiver.origin(0), receiver.origin(1)), (Ok(Origin::Heard), Ok(Origin::Solved)));
     let mut out = [9; 2];
     assert_eq!(receiver.adu(1, &mut out), Ok(Adu { flow: 1, bytes: &[0x42] }));
     assert_eq!(out, [0x42, 9]);
@@ -169,4 +170,5 @@ fn c12_equations_outlive_departed_symbols() {
     assert_eq!(receiver.receive_source(1, &last[1]), known(1));
     assert_eq!(receiver.receive_source(1, &sources[1]), known(2));
     assert_eq!(receiver.symbol(2), Ok(&[1, 0, 1, 0x43][..]));
+    assert_eq!((receiver.origin(2), receiver.origin(3)), (Ok(Origin::Solved), Ok(Origin::Heard)));
 }

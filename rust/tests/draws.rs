@@ -48,7 +48,7 @@ fn figures() {
 /// The C interface: value + 2^32 times the draws, and a refusal's number alone, though the coefficients were drawn before 11.
 #[test]
 fn answers_in_c() {
-    let (mut sender, mut receiver, mut work) = ([0; 32 + 5 * 4], [0; 64 + 5 * 13], [0; 64 + 6 * 13]);
+    let (mut sender, mut receiver, mut work) = ([0; 32 + 5 * 4], [0; 64 + 5 * 13 + 5], [0; 64 + 6 * 13 + 6]);
     let mut packet = [0; 12];
     assert_eq!(library::sender_open(&mut sender, 10, 4, 5), 0);
     assert_eq!(library::receiver_open(&mut receiver, 10, 4, 5), 0);

@@ -50,7 +50,7 @@ fn asked(receivers: &mut Receivers, random: &mut Random, esi: u32) -> Asked {
     receivers.look(random, esi);
     let reference = &receivers.reference;
     let adu = reference.adu(ROOM, esi, ROOM).map(|adu| (adu.flow, adu.bytes));
-    (reference.symbol(ROOM, esi).map(<[u8]>::to_vec), adu)
+    (reference.part(ROOM, esi).map(<[u8]>::to_vec), adu)
 }
 
 /// No base, an empty window: 12 for every ESI, those that would be behind too, and 3 before that.

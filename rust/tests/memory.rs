@@ -72,14 +72,15 @@ fn call_all(random: &mut Random, setting: Setting, content: &[u8], refusal: Opti
             assert!(out.get() == out_before, "call {call} refused and wrote output");
             continue;
         }
-        let (value, draws) = library::parts(answer);
-        let (most, most_draws) = match call {
+        let (value, beside) = library::parts(answer);
+        let (most, most_beside) = match call {
             0 => (65_535, 0),
             1 => (65_535, 69_360),
+            2 => (0, 1),
             6 => (8 + 16 * 1500, 69_360),
             _ => (255 * 65_536 + 65_535, 0),
         };
-        assert!(value <= most && draws <= most_draws, "call {call} answered {value} and {draws} draws");
+        assert!(value <= most && beside <= most_beside, "call {call} answered {value} and {beside} beside it");
         let (header, size) = header_of(content);
         assert!(size <= content.len(), "call {call} worked on memory that is too short");
         assert!(memory.get()[size..] == content[size..], "call {call} wrote past the size");
@@ -229,6 +230,13 @@ fn opening_again() {
             for esi in (0..=new.width as u32).chain([1 << 31, u32::MAX, random.next() as u32]) {
                 let calls = [library::symbol(&memory, esi), library::symbol_place(&memory, esi), library::adu(&memory, esi, &mut [])];
                 assert_eq!(calls, [-12; 3], "ESI {esi}");
+            }
+            // Nothing that was heard before is heard now: a repair packet over each position alone solves it
+            let mut work = vec![0; new.working_memory()];
+            for esi in 0..new.width as u32 {
+                let repair = repair_packet(1, 15, 1, u64::from(esi), &[random.bytes(new.symbol_size)]);
+                assert_eq!(library::parts(library::receive_repair(&mut memory, &mut work, &repair)).0, 1);
+                assert_eq!(library::symbol(&memory, esi), 0, "ESI {esi}");
             }
             let past = memory[new.sender_memory()..].to_vec();
             assert_eq!(library::sender_open(&mut memory, new.scheme, e, w), 0);

@@ -100,7 +100,8 @@ fn sizes() {
         for width in (0..=257).chain([65_536, u32::MAX]) {
             let good = (4..=1500).contains(&symbol_size) && (1..=255).contains(&width);
             let (e, w) = (i64::from(symbol_size), i64::from(width));
-            let expected = if good { (32 + w * e, 64 + w * (w + e + 4), 64 + (w + 1) * (w + e + 4)) } else { (-1, -1, -1) };
+            let row = w + e + 4;
+            let expected = if good { (32 + w * e, 64 + w * row + w, 64 + (w + 1) * row + w + 1) } else { (-1, -1, -1) };
             let found = (
                 library::sender_memory(symbol_size, width),
                 library::receiver_memory(symbol_size, width),

@@ -119,7 +119,7 @@ fn c7_and_c8_one_lost_symbol() {
     assert_eq!(repair, [0, 0, 0xf0, 2, 0, 0, 0, 0, 0, 0, 0, 3]);
     assert_eq!(receiver.receive_source(ROOM, ROOM, 1, &sources[0]), Ok((1, 0)));
     assert_eq!(receiver.receive_repair(ROOM, ROOM, &repair), Ok((1, 0)));
-    assert_eq!(receiver.symbol(ROOM, 1), Ok(&[1, 0, 1, 0x42][..]));
+    assert_eq!(receiver.part(ROOM, 1), Ok(&[1, 0, 1, 0x42][..]));
 }
 
 #[test]
@@ -161,7 +161,7 @@ fn c12_equations_outlive_departed_symbols() {
     assert_eq!(receiver.receive_source(ROOM, ROOM, 1, &last[0]), Ok((1, 0)));
     assert_eq!(receiver.receive_source(ROOM, ROOM, 1, &last[1]), Ok((1, 0)));
     assert_eq!(receiver.receive_source(ROOM, ROOM, 1, &reference::source_packet(&[0x44], 3)), Ok((2, 0)));
-    assert_eq!(receiver.symbol(ROOM, 2), Ok(&[1, 0, 1, 0x43][..]));
+    assert_eq!(receiver.part(ROOM, 2), Ok(&[1, 0, 1, 0x43][..]));
 }
 
 /// The system that is kept reduced and the matrix that is solved anew agree on every prefix of random histories: on what contradicts, what
@@ -240,6 +240,30 @@ fn marks_of_starts() {
     }
 }
 
+/// Document 02, No. 6, by hand: heard is what an accepted source packet named, before it was known or after; a refused one counts for nothing.
+#[test]
+fn heard_or_solved() {
+    let (solved, heard) = (Ok((0, 0)), Ok((0, 1)));
+    let (_, mut receiver) = open(9, 4, 2);
+    assert_eq!(receiver.receive_repair(ROOM, ROOM, &repair_packet(0, 15, 2, 7, &[vec![2, 3, 2, 4]])), Ok((0, 0)));
+    assert_eq!(receiver.receive_repair(ROOM, ROOM, &repair_packet(0, 15, 1, 8, &[vec![3, 3, 3, 3]])), Ok((2, 0)));
+    assert_eq!((receiver.symbol(ROOM, 7), receiver.symbol(ROOM, 8)), (solved, solved));
+    // ADU 07 has the symbol 01000107, and is position 7's; the other has not
+    assert_eq!(receiver.receive_source(ROOM, ROOM, 1, &reference::source_packet(&[6], 7)), Err(11));
+    assert_eq!((receiver.symbol(ROOM, 7), receiver.symbol(ROOM, 8)), (solved, solved));
+    assert_eq!(receiver.receive_source(ROOM, ROOM, 1, &reference::source_packet(&[7], 7)), Ok((0, 0)));
+    assert_eq!((receiver.symbol(ROOM, 7), receiver.symbol(ROOM, 8)), (heard, solved));
+    // Position 9 comes into the window, solved, and 7 leaves it
+    assert_eq!(receiver.receive_repair(ROOM, ROOM, &repair_packet(0, 15, 1, 9, &[vec![1, 0, 0, 0]])), Ok((1, 0)));
+    assert_eq!([7, 8, 9, 10].map(|esi| receiver.symbol(ROOM, esi)), [Err(8), solved, solved, Err(12)]);
+    assert_eq!(receiver.heard, BTreeSet::from([7]));
+    assert_eq!(receiver.symbol(85, 8), Err(3));
+    // All symbols of a source packet are heard
+    assert_eq!(receiver.receive_source(ROOM, ROOM, 1, &reference::source_packet(&[5; 5], 10)), Ok((2, 0)));
+    assert_eq!(receiver.heard, BTreeSet::from([7, 10, 11]));
+    assert_eq!((receiver.symbol(ROOM, 10), receiver.symbol(ROOM, 11)), (heard, heard));
+}
+
 /// Document 02, No. 2, by hand: no base, then one that the first packet taken sets, whatever its ESI.
 #[test]
 fn joining() {
@@ -247,13 +271,13 @@ fn joining() {
     let empty = |receiver: &Receiver| {
         for esi in [0, 1, 7, 65_536, (1 << 31) - 1, 1 << 31, u32::MAX] {
             assert_eq!((receiver.symbol(ROOM, esi), receiver.adu(ROOM, esi, ROOM)), (Err(12), Err(12)));
-            assert_eq!((receiver.symbol(83, esi), receiver.adu(83, esi, ROOM)), (Err(3), Err(3)));
+            assert_eq!((receiver.symbol(85, esi), receiver.adu(85, esi, ROOM)), (Err(3), Err(3)));
         }
         assert!(receiver.base.is_none() && receiver.marks.is_empty() && receiver.system.row_count() + receiver.system.known_count() == 0);
     };
     empty(&receiver);
     // What is refused sets no base: neither by form nor by contradiction
-    assert_eq!(receiver.receive_source(ROOM, 93, 1, &reference::source_packet(&[7], 3)), Err(2));
+    assert_eq!(receiver.receive_source(ROOM, 96, 1, &reference::source_packet(&[7], 3)), Err(2));
     assert_eq!(receiver.receive_source(ROOM, ROOM, 1, &[0; 3]), Err(5));
     assert_eq!(receiver.receive_source(ROOM, ROOM, 1, &reference::source_packet(&[0; 6], 3)), Err(4));
     assert_eq!(receiver.receive_repair(ROOM, ROOM, &repair_packet(0, 15, 3, 3, &[vec![1; 4]])), Err(6));
@@ -267,7 +291,7 @@ fn joining() {
     // ESI 0 is the position after it; only a source packet marks, its own first and the one after its last
     assert_eq!(receiver.receive_source(ROOM, ROOM, 0, &reference::source_packet(&[], 0)), Ok((2, 0)));
     assert_eq!(receiver.marks, BTreeSet::from([4_294_967_296, 4_294_967_297]));
-    assert_eq!((receiver.symbol(ROOM, u32::MAX), receiver.symbol(ROOM, 0)), (Ok(&[1, 0, 1, 0x43][..]), Ok(&[0; 4][..])));
+    assert_eq!((receiver.part(ROOM, u32::MAX), receiver.part(ROOM, 0)), (Ok(&[1, 0, 1, 0x43][..]), Ok(&[0; 4][..])));
     assert_eq!((receiver.adu(ROOM, u32::MAX, ROOM), receiver.adu(ROOM, 0, 0).map(|adu| adu.flow)), (Err(13), Ok(0)));
     // Far ahead is counted from the base: 65,535 more is taken, one more is not
     let ahead = 4_294_967_295 + 65_536;

@@ -101,7 +101,7 @@ pub fn adu(memory: &[u8], esi: u32, out: &mut [u8]) -> i64 {
     unsafe { raw::rlc_adu(memory.as_ptr(), memory.len(), esi, out.as_mut_ptr(), out.len()) }
 }
 
-/// The value and the draws in an answer of 0 or more.
+/// The value and the number beside it in an answer of 0 or more.
 pub fn parts(answer: i64) -> (usize, u64) {
     let answer = u64::try_from(answer).expect("no refusal");
     ((answer % 4_294_967_296) as usize, answer / 4_294_967_296)

@@ -4,7 +4,7 @@
 use super::Lent;
 use crate::reference::random::Random;
 use crate::reference::{self, as_c, Answer, Setting};
-use rlc8681::{Refusal, Scheme};
+use rlc8681::{Origin, Refusal, Scheme};
 
 fn scheme(setting: Setting) -> Scheme {
     if setting.scheme == 9 {
@@ -14,9 +14,9 @@ fn scheme(setting: Setting) -> Scheme {
     }
 }
 
-/// An answer of the Rust types, its value and its draws, as the C interface gives it.
+/// An answer of the Rust types, its value and the number beside it, as the C interface gives it.
 fn from_safe(answer: Result<(usize, u32), Refusal>) -> i64 {
-    as_c(answer.map(|(value, draws)| (value as u64, u64::from(draws))).map_err(|refusal| u32::from(refusal.number())))
+    as_c(answer.map(|(value, beside)| (value as u64, u64::from(beside))).map_err(|refusal| u32::from(refusal.number())))
 }
 
 /// Junk that is lent beyond the size that a call needs.
@@ -113,10 +113,11 @@ pub struct Tally {
     pub joined: [u64; 2],
     pub refused_first: [u64; 15],
     pub wrapped: u64,
-    /// The draws of the packets accepted.
+    /// The draws of the packets accepted, and the source packets that made nothing known and were the first to name a symbol, solved before.
     pub draws: u64,
-    /// Symbol calls that showed one; ADU calls by refusal, place 0 for those handed out.
-    pub shown: u64,
+    pub heard_later: u64,
+    /// Symbol calls that showed one, solved and heard; ADU calls by refusal, place 0 for those handed out.
+    pub shown: [u64; 2],
     pub adus: [u64; 15],
 }
 
@@ -127,9 +128,10 @@ impl Tally {
 
     /// Prints what happened, for `--nocapture`.
     pub fn told(&self, name: &str) {
-        let Tally { accepted, refused, joined, refused_first, wrapped, draws, shown, adus } = self;
+        let Tally { accepted, refused, joined, refused_first, wrapped, draws, heard_later, shown, adus } = self;
         let packets = self.packets();
-        println!("{name}: {packets} packets, accepted {accepted:?}, refused {refused:?}, {draws} draws, shown {shown}, ADU calls {adus:?}");
+        println!("{name}: {packets} packets, accepted {accepted:?}, refused {refused:?}, {draws} draws, {heard_later} heard later");
+        println!("{name}: solved and heard symbols shown {shown:?}, ADU calls {adus:?}");
         println!("{name}: joined {joined:?}, refused before {refused_first:?}, accepted past the wrap {wrapped}");
     }
 
@@ -143,10 +145,12 @@ impl Tally {
         }
     }
 
-    /// Panics where one of these refusals of packets, or of these answers of the ADU call, was never met, or nothing drawn (in whole runs).
+    /// Panics where one of these refusals of packets, or of these answers of the ADU call, was never met, nothing drawn, or none of the symbols
+    /// heard, solved, or heard after it was solved (in whole runs).
     pub fn met(&self, refused: &[usize], adus: &[usize]) {
         if std::env::var_os("RLC8681_SEED").is_none() {
             assert!(self.draws > 0);
+            assert!(self.shown.iter().all(|&count| count > 0) && self.heard_later > 0, "{:?}, {}", self.shown, self.heard_later);
             assert!(refused.iter().all(|&number| self.refused[number] > 0), "packets refused {:?}", self.refused);
             assert!(adus.iter().all(|&number| self.adus[number] > 0), "ADU calls {:?}", self.adus);
         }
@@ -157,10 +161,11 @@ impl Tally {
         self.refused.iter_mut().zip(other.refused).for_each(|(a, b)| *a += b);
         self.joined.iter_mut().zip(other.joined).for_each(|(a, b)| *a += b);
         self.refused_first.iter_mut().zip(other.refused_first).for_each(|(a, b)| *a += b);
+        self.shown.iter_mut().zip(other.shown).for_each(|(a, b)| *a += b);
         self.adus.iter_mut().zip(other.adus).for_each(|(a, b)| *a += b);
         self.wrapped += other.wrapped;
         self.draws += other.draws;
-        self.shown += other.shown;
+        self.heard_later += other.heard_later;
     }
 }
 
@@ -210,6 +215,7 @@ impl Receivers {
             self.lend_too_little(random, flow, packet);
         }
         let fresh = self.base().is_none();
+        let heard = self.reference.heard.len();
         let lent = self.memory.get().len();
         let work_past = self.work.get()[work_size..].to_vec();
         let (expected, answer, safe) = match flow {
@@ -235,8 +241,13 @@ impl Receivers {
                 self.before.copy_from_slice(self.memory.get());
                 self.tally.accepted[count.min(2) as usize] += 1;
                 self.tally.draws += draws;
+                self.tally.heard_later += u64::from(count == 0 && self.reference.heard.len() > heard);
                 self.tally.joined[usize::from(flow.is_none())] += u64::from(fresh);
                 self.tally.wrapped += u64::from(self.base() >= Some(1 << 32));
+                self.compare_window();
+                if flow.is_some() {
+                    self.check_heard(packet);
+                }
             }
             Err(number) => {
                 assert!(self.memory.get() == self.before, "a refusal changed the receiver's memory");
@@ -267,23 +278,48 @@ impl Receivers {
         assert_eq!(super::adu(&self.memory.get()[..short], 0, &mut []), -3);
     }
 
+    /// Asks all three for what the symbol call answers at each position of the window.
+    fn compare_window(&self) {
+        let base = self.base().expect("a packet was accepted");
+        for position in base..base + self.setting().width as u64 {
+            let _ = self.compare_symbol(position as u32);
+        }
+    }
+
+    /// Panics where a symbol of a source packet that was just accepted is not known and heard.
+    fn check_heard(&self, packet: &[u8]) {
+        let (adu, esi) = packet.split_at(packet.len() - 4);
+        let first = u32::from_be_bytes(esi.try_into().unwrap());
+        for esi in (0..self.setting().symbols_of(adu.len()) as u32).map(|i| first.wrapping_add(i)) {
+            assert_eq!(super::symbol(self.memory.get(), esi), 4_294_967_296, "symbol {esi}, just heard");
+        }
+    }
+
+    /// Asks all three for what the symbol call answers: known or not, heard or solved.
+    fn compare_symbol(&self, esi: u32) -> Answer {
+        let expected = self.reference.symbol(self.memory.get().len(), esi);
+        assert_eq!(super::symbol(self.memory.get(), esi), as_c(expected), "symbol {esi}, base {:?}", self.base());
+        let origin = self.safe.origin(esi).map(|origin| (0, u32::from(origin == Origin::Heard)));
+        assert_eq!(from_safe(origin), as_c(expected), "the Rust type's origin of symbol {esi}");
+        expected
+    }
+
     /// Asks all three for the symbol and the ADU at an ESI.
     pub fn look(&mut self, random: &mut Random, esi: u32) {
+        if let Ok((_, heard)) = self.compare_symbol(esi) {
+            self.tally.shown[heard as usize] += 1;
+        }
         let memory = self.memory.get();
-        let symbol = self.reference.symbol(memory.len(), esi);
         let place = super::symbol_place(memory, esi);
-        match symbol {
+        match self.reference.part(memory.len(), esi) {
             Ok(bytes) => {
-                assert_eq!(super::symbol(memory, esi), 0, "symbol {esi}");
                 let size = self.reference.setting.symbol_size;
                 let place = usize::try_from(place).unwrap_or_else(|_| panic!("symbol {esi} is known, its place says {place}"));
                 assert!(place + size <= self.reference.setting.receiver_memory(), "the place lies in the memory");
                 assert_eq!(&memory[place..place + size], bytes, "bytes of symbol {esi}");
                 assert_eq!(self.safe.symbol(esi), Ok(bytes), "the Rust type's symbol {esi}");
-                self.tally.shown += 1;
             }
             Err(number) => {
-                assert_eq!(super::symbol(memory, esi), -i64::from(number), "symbol {esi}");
                 assert_eq!(place, -i64::from(number), "place of symbol {esi}");
                 assert_eq!(self.safe.symbol(esi).map_err(|r| u32::from(r.number())), Err(number));
             }

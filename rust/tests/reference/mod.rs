@@ -20,13 +20,14 @@ pub use field::Field;
 pub use receiver::Receiver;
 pub use sender::Sender;
 
-/// What a call answers: its value and the draws that it took, or a refusal's number (document 01, "Why a call says no").
+/// What a call answers: its value and the number beside it, or a refusal's number (document 01, "Why a call says no"). Beside the value stand
+/// the draws that the call took (document 02, No. 1); of the symbol call, 1 for a symbol that was heard and 0 for one that was solved (No. 6).
 pub type Answer = Result<(u64, u64), u32>;
 
 /// An answer as the C interface gives it.
 pub fn as_c(answer: Answer) -> i64 {
     match answer {
-        Ok((value, draws)) => (value + draws * 4_294_967_296) as i64,
+        Ok((value, beside)) => (value + beside * 4_294_967_296) as i64,
         Err(number) => -i64::from(number),
     }
 }
@@ -61,11 +62,11 @@ impl Setting {
     }
 
     pub fn receiver_memory(self) -> usize {
-        64 + self.width * (self.width + self.symbol_size + 4)
+        64 + self.width * (self.width + self.symbol_size + 4) + self.width
     }
 
     pub fn working_memory(self) -> usize {
-        64 + (self.width + 1) * (self.width + self.symbol_size + 4)
+        64 + (self.width + 1) * (self.width + self.symbol_size + 4) + self.width + 1
     }
 
     /// How many symbols an ADU of this length needs: its ADUI is 3 bytes longer.

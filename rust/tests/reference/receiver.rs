@@ -1,4 +1,5 @@
-//! The receiver of document 01's "plain history", with its marks of starts. It joins at its first packet (document 02, No. 2).
+//! The receiver of document 01's "plain history", with its marks of starts. It joins at its first packet (document 02, No. 2) and tells what
+//! it heard from what it solved (No. 6).
 
 use super::coefficients::{drawn_list, keys};
 use super::equations::{Equation, System};
@@ -13,6 +14,8 @@ pub struct Receiver {
     pub system: System,
     /// The positions marked as starts, from base to base + width.
     pub marks: BTreeSet<u64>,
+    /// The positions that the accepted source packets named, wherever the window stands now.
+    pub heard: BTreeSet<u64>,
 }
 
 /// An ADU as handed out.
@@ -24,7 +27,7 @@ pub struct Adu {
 
 impl Receiver {
     pub fn open(setting: Setting) -> Receiver {
-        Receiver { setting, base: None, system: System::new(setting.field()), marks: BTreeSet::new() }
+        Receiver { setting, base: None, system: System::new(setting.field()), marks: BTreeSet::new(), heard: BTreeSet::new() }
     }
 
     /// The first position of a packet that names n symbols from this ESI on, or refusal 8 or 9. Before any base it is the ESI itself.
@@ -52,6 +55,7 @@ impl Receiver {
         if source {
             self.marks.insert(first);
             self.marks.insert(end);
+            self.heard.extend(first..end);
         }
         for position in window.clone() {
             if self.marks.contains(&position) {
@@ -128,8 +132,15 @@ impl Receiver {
         }
     }
 
-    /// The bytes of a known symbol, or refusal 3, 8 or 12.
-    pub fn symbol(&self, memory: usize, esi: u32) -> Result<&[u8], u32> {
+    /// The symbol call: 0 for a known symbol, and beside it whether it was heard; or refusal 3, 8 or 12.
+    pub fn symbol(&self, memory: usize, esi: u32) -> Answer {
+        let position = self.position(memory, esi)?;
+        self.system.known(position).ok_or(12u32)?;
+        Ok((0, u64::from(self.heard.contains(&position))))
+    }
+
+    /// The bytes of a known symbol, or the symbol call's refusal.
+    pub fn part(&self, memory: usize, esi: u32) -> Result<&[u8], u32> {
         self.system.known(self.position(memory, esi)?).ok_or(12)
     }
 
