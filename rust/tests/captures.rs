@@ -274,7 +274,7 @@ fn bytes_in_every_place_of_the_first_line() {
 #[test]
 fn numbers_in_the_first_line() {
     for (before, least, most, after) in
-        [("scheme=", 9, 10, " e=4 width=2"), ("scheme=10 e=", 4, 1500, " width=2"), ("scheme=9 e=4 width=", 1, 251, "")]
+        [("scheme=", 9, 10, " e=4 width=2"), ("scheme=10 e=", 4, 1500, " width=2"), ("scheme=9 e=4 width=", 1, 250, "")]
     {
         for number in [least, most] {
             // The last ones have the binary digits of the number in their lowest 8, 16, 32, 64 and 128
@@ -305,7 +305,7 @@ fn numbers_in_the_first_line() {
 fn memory_at_every_width() {
     let mut largest = 0;
     for width in 1..=255 {
-        let memory = |symbol_size: usize| 64 + (width + 1) * (width + symbol_size + 4);
+        let memory = |symbol_size: usize| 64 + (width + 1) * (width + symbol_size + 4) + width + 1;
         let most = (4..=1500).rev().find(|&size| memory(size) <= 65_536);
         for symbol_size in [most.unwrap_or(4), most.unwrap_or(4) + 1] {
             let good = most == Some(symbol_size);
@@ -356,8 +356,8 @@ fn lengths_of_lines() {
 /// A setting: mostly small, now and then one whose memory is just small enough or just too large, or any.
 fn setting(random: &mut Random) -> Setting {
     let scheme = 9 + random.below(2) as u32;
-    let width = if random.chance(80) { random.between(1, 9) } else { random.between(1, 251) };
-    let most = (65_472 / (width + 1)).saturating_sub(width + 4).clamp(4, 1500);
+    let width = if random.chance(80) { random.between(1, 9) } else { random.between(1, 250) };
+    let most = (65_472 / (width + 1)).saturating_sub(width + 5).clamp(4, 1500);
     let symbol_size = match random.below(20) {
         0 => most,
         1 => most + 1,
