@@ -113,11 +113,11 @@ struct Memory {
 
 fn opened(line: &[u8]) -> Option<Memory> {
     let (scheme, size, width) = opening(line)?;
-    let (row, rows) = (width + size + 4, width + 1);
-    if 64 + rows * row > MEMORY {
+    let (state, work) = (plain::memory_size(size, width), plain::working_size(size, width));
+    if work > MEMORY {
         return None;
     }
-    let mut memory = Memory { state: vec![0; 64 + width * row], work: vec![0; 64 + rows * row] };
+    let mut memory = Memory { state: vec![0; state], work: vec![0; work] };
     Receiver::open(&mut memory.state, scheme, size, width).ok()?;
     Some(memory)
 }

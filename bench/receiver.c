@@ -30,6 +30,9 @@ static size_t adu_size(struct setting s) { return s.size - 3; }
 static size_t source_size(struct setting s) { return adu_size(s) + 4; }
 static size_t repair_size(struct setting s, size_t symbols) { return 8 + symbols * s.size; }
 static size_t row_size(struct setting s) { return s.width + s.size + 4; }
+// The bytes of a receiver, and of its working memory: past the rows a byte for each.
+static size_t memory_of(struct setting s) { return 64 + s.width * (row_size(s) + 1); }
+static size_t work_of(struct setting s) { return 64 + (s.width + 1) * (row_size(s) + 1); }
 static size_t compared(const struct receiver *r) { return sizeof(size_t) + r->memory_size + adu_size(r->setting); }
 static u8 *row_of(const struct receiver *r, size_t row) { return r->memory + 64 + row * row_size(r->setting); }
 static u8 *symbol_of(const struct receiver *r, size_t row) { return row_of(r, row) + r->setting.width; }
@@ -164,7 +167,7 @@ static void receivers_of(struct receiver *ends[3], struct setting s) {
   for (int k = 0; k < 3; k++) {
     struct receiver *r = ends[k] = (struct receiver *)room(sizeof *r);
     r->library = k == 1 ? &plain : &proved, r->setting = s, r->arrivals = arrivals;
-    r->memory_size = 64 + s.width * row_size(s), r->work_size = r->memory_size + row_size(s);
+    r->memory_size = memory_of(s), r->work_size = work_of(s);
     r->answer = (size_t *)room(compared(r)), r->memory = (u8 *)(r->answer + 1), r->adu = r->memory + r->memory_size, r->work = room(r->work_size);
     open_receiver(r);
   }
@@ -349,12 +352,13 @@ static void fill_longest(struct table *t, struct setting s) {
   add_ways(l, run_packets, ready_memory, LIMIT, limit_longest, ends);
 }
 
-// Both join alike, just below the wrap: nothing is shown before, and a repair packet of two unlike symbols sets no base.
+// Both join alike, just below the wrap: nothing is shown before, and a repair packet of two unlike symbols sets no base. Then all is heard, but what a
+// repair packet over one symbol brings.
 static void check_joining(void) {
   const struct setting s = {9, 4, 4};
   const struct library *ways[2] = {&proved, &plain};
-  const size_t size = 64 + s.width * row_size(s), work_size = size + row_size(s), refused = 1000000;
-  const u8 unlike[] = {0, 0, 0xf0, 2, 0, 0, 1, 0, 0, 0, 0, 3, 0, 0, 0, 4};
+  const size_t size = memory_of(s), work_size = work_of(s), refused = 1000000, solved = 0, heard = (size_t)1 << 32;
+  const u8 unlike[] = {0, 0, 0xf0, 2, 0, 0, 1, 0, 0, 0, 0, 3, 0, 0, 0, 4}, eighth[] = {0, 0, 0xf0, 1, 0, 0, 0, 5, 1, 0, 1, 0x48};
   u8 *memory[2] = {room(size), room(size)}, *work = room(work_size), adu;
   for (int k = 0; k < 2; k++) {
     const struct library *l = ways[k];
@@ -366,7 +370,10 @@ static void check_joining(void) {
       const u8 source[] = {0x41 + i, esi >> 24, esi >> 16, esi >> 8, esi};
       expect("receive_source", l->receive_source(memory[k], size, work, work_size, 1, source, sizeof source) == 1);
       expect("adu", l->adu(memory[k], size, esi, &adu, 1) == 1 && adu == 0x41 + i && l->symbol(memory[k], size, 0xfffffffd) == refused);
+      expect("symbol", l->symbol(memory[k], size, esi) == heard);
     }
+    expect("receive_repair", l->receive_repair(memory[k], size, work, work_size, eighth, sizeof eighth) == 1);
+    expect("symbol", l->symbol(memory[k], size, 5) == solved && l->symbol(memory[k], size, 4) == heard);
   }
   expect("joining", !memcmp(memory[0], memory[1], size));
 }
