@@ -5,7 +5,7 @@ use crate::loss::Loss;
 use crate::options::Options;
 use crate::stream::{symbols_of, Adu, Stream};
 use crate::tally::{Fate, Got, Packet, Run, Sent};
-use rlc8681::{Receiver, Refusal, Sender};
+use rlc8681::{Origin, Receiver, Refusal, Sender};
 use std::collections::VecDeque;
 use std::io;
 use std::net::UdpSocket;
@@ -237,14 +237,16 @@ impl<'a> Sending<'a> {
 /// The positions ahead that a packet may name.
 const REACH: u64 = 65_536;
 
+/// After how many others a packet comes that is late.
+const LATE: u64 = 12;
+
 struct Receiving<'a> {
     options: &'a Options,
     shared: &'a Shared,
     socket: UdpSocket,
     receiver: Receiver,
-    /// The position after the last that a packet told of; of those before it, the ones still awaited.
+    /// The position after the last that a packet told of.
     top: u64,
-    awaited: Vec<u64>,
     /// The position of the next start.
     next: u64,
     adu: Vec<u8>,
@@ -253,13 +255,15 @@ struct Receiving<'a> {
 
 impl<'a> Receiving<'a> {
     fn new(options: &'a Options, shared: &'a Shared, socket: UdpSocket, receiver: Receiver) -> Receiving<'a> {
-        let (awaited, adu, log) = (Vec::new(), vec![0; 65_535], Got::default());
-        Receiving { options, shared, socket, receiver, top: 0, awaited, next: 0, adu, log }
+        let (adu, log) = (vec![0; 65_535], Got::default());
+        Receiving { options, shared, socket, receiver, top: 0, next: 0, adu, log }
     }
 
     fn run(mut self) -> Result<Got, Failure> {
         let _closing = Closing(&self.shared.gate);
         let mut datagram = vec![0; LARGEST];
+        // The datagram that is late, until its turn comes
+        let mut held: Option<Vec<u8>> = None;
         loop {
             let length = match self.socket.recv(&mut datagram) {
                 Ok(length) => length,
@@ -274,6 +278,11 @@ impl<'a> Receiving<'a> {
             };
             self.shared.gate.leave(length);
             let Some((number, kind, flow, packet)) = link::read(&mut datagram[..length]) else { continue };
+            if kind == Kind::End || self.options.late.is_some_and(|late| self.log.arrived > late + LATE) {
+                if let Some((number, kind, flow, packet)) = held.take().as_deref_mut().and_then(link::read) {
+                    self.take(number, kind, flow, packet);
+                }
+            }
             if kind == Kind::End {
                 self.leave(self.top);
                 return Ok(self.log);
@@ -284,9 +293,13 @@ impl<'a> Receiving<'a> {
                     *byte ^= 1;
                 }
             }
+            let late = self.options.late == Some(self.log.arrived);
             self.log.arrived += 1;
-            self.packet(number, kind, flow, packet);
-            self.walk();
+            if late {
+                held = Some(datagram[..length].to_vec());
+            } else {
+                self.take(number, kind, flow, packet);
+            }
         }
     }
 
@@ -301,6 +314,12 @@ impl<'a> Receiving<'a> {
         let near = || self.top.checked_add_signed(i64::from(esi.wrapping_sub(self.top as u32) as i32));
         let first = self.log.joined.map_or(Some(u64::from(esi)), |_| near())?;
         Some(first..first + symbols as u64)
+    }
+
+    /// Takes a packet, and hands out what can be then.
+    fn take(&mut self, number: u32, kind: Kind, flow: u8, packet: &[u8]) {
+        self.packet(number, kind, flow, packet);
+        self.walk();
     }
 
     fn packet(&mut self, number: u32, kind: Kind, flow: u8, packet: &[u8]) {
@@ -323,39 +342,50 @@ impl<'a> Receiving<'a> {
             }
         };
         self.log.counted += count;
+        if kind == Kind::Source {
+            self.log.accepted.push(number);
+        }
+        let joined = self.log.joined.unwrap_or(named.start);
         if self.log.joined.is_none() {
             // Nothing before the joining packet's first position will ever be shown.
-            self.log.joined = Some(named.start);
-            (self.top, self.next) = (named.start, named.start);
+            self.log.joined = Some(joined);
+            (self.top, self.next) = (joined, joined);
         }
         if named.end > self.top {
-            self.awaited.extend(self.top..named.end);
             self.log.fates.resize(usize::try_from(named.end).unwrap_or(usize::MAX), Fate::Never);
             self.top = named.end;
         }
         // What lies before the window can't be shown any more.
-        let base = self.top.saturating_sub(u64::from(self.options.width));
+        let base = self.top.saturating_sub(u64::from(self.options.width)).max(joined);
         self.shared.ledger().pass(base, self.options.symbol_size as usize);
-        if count == 0 {
-            return;
+        for position in base..self.top {
+            self.ask(position, number);
         }
-        // What the packet made known: its own symbols are heard, all others rebuilt.
-        let Receiving { awaited, receiver, log, shared, .. } = self;
-        let ledger = shared.ledger();
-        awaited.retain(|&position| match receiver.symbol(position as u32) {
-            Ok(symbol) => {
-                let heard = kind == Kind::Source && named.contains(&position);
-                if !heard {
-                    shared.progress.rebuilt.fetch_add(1, Relaxed);
-                }
-                if !ledger.holds(position, symbol) {
-                    log.differs(|| format!("the symbol of ESI {}", position as u32));
-                }
-                log.fates[position as usize] = if heard { Fate::Heard } else { Fate::Rebuilt(number) };
-                false
+    }
+
+    /// Asks the receiver for a position of its window, after the packet with this number was accepted: it tells what it heard and what it
+    /// solved. What is newly known is compared with what was sent.
+    fn ask(&mut self, position: u64, number: u32) {
+        let esi = position as u32;
+        let Ok(origin) = self.receiver.origin(esi) else { return };
+        let before = self.log.fates[position as usize];
+        if before == Fate::Never && !self.receiver.symbol(esi).is_ok_and(|symbol| self.shared.ledger().holds(position, symbol)) {
+            self.log.differs(|| format!("the symbol of ESI {esi}"));
+        }
+        let rebuilt = &self.shared.progress.rebuilt;
+        self.log.fates[position as usize] = match (origin, before) {
+            (Origin::Heard, Fate::Rebuilt(_)) => {
+                rebuilt.fetch_sub(1, Relaxed);
+                self.log.later += 1;
+                Fate::Heard
             }
-            Err(why) => why != Refusal::Behind,
-        });
+            (Origin::Heard, _) => Fate::Heard,
+            (Origin::Solved, Fate::Rebuilt(by)) => Fate::Rebuilt(by),
+            (Origin::Solved, _) => {
+                rebuilt.fetch_add(1, Relaxed);
+                Fate::Rebuilt(number)
+            }
+        };
     }
 
     /// Hands out the ADU that starts at a position and compares it with the one sent. Gives its symbols.

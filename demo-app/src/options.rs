@@ -27,6 +27,8 @@ pub struct Options {
     pub svg: PathBuf,
     /// The number among the arriving packets of the one that loses a bit between link and receiver: for the self-test.
     pub corrupt: Option<u64>,
+    /// The same of the one that comes late to the receiver: for the self-test.
+    pub late: Option<u64>,
 }
 
 impl Default for Options {
@@ -47,6 +49,7 @@ impl Default for Options {
             repairs: 1,
             svg: PathBuf::from(SVG),
             corrupt: None,
+            late: None,
         }
     }
 }

@@ -12,7 +12,7 @@ type Check = fn() -> Result<(), String>;
 
 /// Prints what came out wrong, or that nothing did. True where nothing did.
 pub fn run() -> bool {
-    let checks: [(&str, Check); 13] = [
+    let checks: [(&str, Check); 15] = [
         ("scheme 10 rebuilds", || rebuilds(short())),
         ("scheme 9 rebuilds", || rebuilds(Options { scheme: Scheme::Gf2, density: 7, ..short() })),
         ("small symbols, odd width, many repairs", || {
@@ -26,6 +26,8 @@ pub fn run() -> bool {
         // Here the link loses the first packet, and the second arrives
         ("joining at the second packet", || joins(Options { loss: 30.0, seed: 48, ..short() }, Kind::Source)),
         ("the same seed, the same run", || repeats(short())),
+        ("a symbol rebuilt first and heard later is heard", || heard_later(short())),
+        ("a wrong origin is noticed", || misheard(short())),
         ("a damaged source packet is noticed", || noticed(Damage::Source)),
         ("a damaged repair packet that solves is noticed", || noticed(Damage::Solving)),
         ("a damaged repair packet over known symbols is refused", || noticed(Damage::Implied)),
@@ -115,6 +117,37 @@ fn repeats(options: Options) -> Result<(), String> {
     demand(one.got.fates == two.got.fates && one.got.bytes == two.got.bytes, || String::from("the runs differ"))
 }
 
+/// The place, among the packets that arrive, of the twenty-first that fits, by its number on the link and itself.
+fn twenty_first(run: &Run, fits: impl Fn(u32, &Packet) -> bool) -> Result<u64, String> {
+    let arriving = (0..).zip(&run.sent.packets).filter(|(_, p)| p.arrives());
+    let mut fitting = (0..).zip(arriving).filter(|(_, (number, p))| fits(*number, p));
+    fitting.nth(20).map(|(place, _)| place).ok_or(String::from("no such packet"))
+}
+
+/// A source packet comes so late that repair has brought its symbols before: they are heard all the same, and the figures are those of the
+/// run in which it comes in time.
+fn heard_later(options: Options) -> Result<(), String> {
+    let whole = right(&options)?;
+    let late = Some(twenty_first(&whole, |_, p| p.kind == Kind::Source)?);
+    let run = right(&Options { late, ..options })?;
+    demand(whole.got.later == 0 && run.got.later > 0, || format!("{} symbols heard later", run.got.later))?;
+    demand(run.symbols() == whole.symbols(), || format!("{:?} and not {:?}", run.symbols(), whole.symbols()))
+}
+
+/// One symbol that was heard is told as rebuilt; one that was rebuilt, or never known, as heard.
+fn misheard(options: Options) -> Result<(), String> {
+    let mut run = right(&Options { loss: 30.0, ..options })?;
+    let found = |wanted: fn(&Fate) -> bool| run.got.fates.iter().position(wanted).ok_or("no such symbol");
+    let heard = found(|fate| *fate == Fate::Heard)?;
+    let others = [found(|fate| matches!(fate, Fate::Rebuilt(_)))?, found(|fate| *fate == Fate::Never)?];
+    for (position, told) in [(heard, Fate::Rebuilt(0)), (others[0], Fate::Heard), (others[1], Fate::Heard)] {
+        let fate = std::mem::replace(&mut run.got.fates[position], told);
+        demand(run.misheard() == 1 && !run.faults().is_empty(), || format!("{fate:?} as {told:?} was not noticed"))?;
+        run.got.fates[position] = fate;
+    }
+    demand(run.faults().is_empty(), || run.faults().join("; "))
+}
+
 /// Which packet is damaged.
 #[derive(Clone, Copy, PartialEq, Eq)]
 enum Damage {
@@ -141,10 +174,7 @@ fn noticed(damage: Damage) -> Result<(), String> {
         Damage::Solving => p.kind == Kind::Repair && whole.got.fates.contains(&Fate::Rebuilt(number)),
         Damage::Implied => p.kind == Kind::Repair && known_before(number, p),
     };
-    let arriving = (0..).zip(&whole.sent.packets).filter(|(_, p)| p.arrives());
-    let mut fitting = arriving.enumerate().filter(|(_, (number, p))| fits(*number, p));
-    let (place, _) = fitting.nth(20).ok_or("no such packet")?;
-    let run = silently(&Options { corrupt: Some(place as u64), ..options })?;
+    let run = silently(&Options { corrupt: Some(twenty_first(&whole, fits)?), ..options })?;
     let seen = if damage == Damage::Implied { run.got.refused[11] } else { run.got.differing };
     demand(seen > 0 && !run.faults().is_empty(), || String::from("nothing was noticed"))
 }

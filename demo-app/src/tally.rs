@@ -31,9 +31,9 @@ impl Packet {
 pub enum Fate {
     /// It was not known before it left the window, or by the end; or it lies before the joining packet's first position.
     Never,
-    /// Its source packet arrived.
+    /// The receiver says that it heard it.
     Heard,
-    /// It was solved by the packet with this number on the link.
+    /// The receiver says that it solved it, and did so at the packet with this number on the link.
     Rebuilt(u32),
 }
 
@@ -90,6 +90,9 @@ pub struct Got {
     /// Packets that arrived, and the positions that their calls counted as newly known.
     pub arrived: u64,
     pub counted: u64,
+    /// The source packets that were accepted, by their numbers on the link, and the symbols that were rebuilt first and heard later.
+    pub accepted: Vec<u32>,
+    pub later: u64,
     /// How often a packet call gave each refusal; of refusal 8, how often to a packet that begins before the position joined at.
     pub refused: [u64; 16],
     pub early: u64,
@@ -136,6 +139,16 @@ impl Run {
         (heard, rebuilt, self.sent.symbols.saturating_sub(heard + rebuilt))
     }
 
+    /// Symbols of which the receiver does not say rightly whether it heard them: heard are those that the accepted source packets brought, by
+    /// the sending end's list of packets.
+    pub fn misheard(&self) -> u64 {
+        let mut brought = vec![false; usize::try_from(self.sent.symbols).unwrap_or(usize::MAX)];
+        for packet in self.got.accepted.iter().filter_map(|&number| self.sent.packets.get(number as usize)) {
+            brought[packet.first as usize..packet.end() as usize].fill(true);
+        }
+        (0..).zip(brought).filter(|&(position, brought)| (self.fate(position) == Fate::Heard) != brought).count() as u64
+    }
+
     /// Of those never known, the ones before the position that the receiver joined at.
     pub fn before(&self) -> u64 {
         self.got.joined.unwrap_or(0)
@@ -158,6 +171,10 @@ impl Run {
         let (heard, rebuilt, _) = self.symbols();
         if got.counted != heard + rebuilt {
             faults.push(format!("the packet calls counted {} symbols as known, and {} were shown", got.counted, heard + rebuilt));
+        }
+        let misheard = self.misheard();
+        if misheard > 0 {
+            faults.push(format!("of {misheard} symbols the receiver does not say rightly whether it heard them"));
         }
         faults
     }
