@@ -72,7 +72,7 @@ impl Fed {
     }
 }
 
-/// Runs this with fresh receivers of both schemes and of each width, and a position to join at: 0, one in the millions, just below the wrap.
+/// Runs this with fresh receivers of both schemes and of each width, and a position to join at: 0, in the millions, just below the wrap.
 fn each(widths: &[usize], run: impl Fn(&mut Fed, u64)) {
     for &width in widths {
         for (scheme, first) in [(9, 0), (10, 4_100_000), (9, u64::from(u32::MAX)), (10, u64::from(u32::MAX) - 1)] {
@@ -153,8 +153,8 @@ fn positions_that_come_into_the_window() {
     }
 }
 
-/// A source packet of three symbols, of which some were solved before: all three are heard after it, and neighbours that were solved are not.
-/// One that differs from a symbol that was solved is refused, and none of its symbols is heard.
+/// A source packet of three symbols, of which some were solved before: all three are heard after it, and neighbours that were solved are
+/// not. One that differs from a symbol that was solved is refused, and none of its symbols is heard.
 #[test]
 fn source_packets_of_several_symbols() {
     for solved in 0..8u64 {

@@ -1,5 +1,5 @@
-//! The second sender and receiver against RFC 8681's figures, document 01's bench sheet, joining as document 02 words it and plain
-//! elimination, and its generator against what program `survey` prints. The library has no part in this file.
+//! The second sender and receiver against RFC 8681's figures, document 01's bench sheet, heard and solved symbols and joining as document 02
+//! words them and plain elimination, and its generator against what program `survey` prints. The library has no part in this file.
 
 mod reference;
 
@@ -240,7 +240,7 @@ fn marks_of_starts() {
     }
 }
 
-/// Document 02, No. 6, by hand: heard is what an accepted source packet named, before it was known or after; a refused one counts for nothing.
+/// Document 02, No. 6, by hand: heard is what an accepted source packet named, known before or not; a refused one counts for nothing.
 #[test]
 fn heard_or_solved() {
     let (solved, heard) = (Ok((0, 0)), Ok((0, 1)));

@@ -113,7 +113,7 @@ pub struct Tally {
     pub joined: [u64; 2],
     pub refused_first: [u64; 15],
     pub wrapped: u64,
-    /// The draws of the packets accepted, and the source packets that made nothing known and were the first to name a symbol, solved before.
+    /// The draws of the packets accepted, and the source packets that made nothing known and yet were the first to name a symbol.
     pub draws: u64,
     pub heard_later: u64,
     /// Symbol calls that showed one, solved and heard; ADU calls by refusal, place 0 for those handed out.
@@ -145,8 +145,8 @@ impl Tally {
         }
     }
 
-    /// Panics where one of these refusals of packets, or of these answers of the ADU call, was never met, nothing drawn, or none of the symbols
-    /// heard, solved, or heard after it was solved (in whole runs).
+    /// Panics where one of these refusals of packets, or of these answers of the ADU call, was never met, nothing drawn, or no symbol heard,
+    /// solved, or heard after it was solved (in whole runs).
     pub fn met(&self, refused: &[usize], adus: &[usize]) {
         if std::env::var_os("RLC8681_SEED").is_none() {
             assert!(self.draws > 0);

@@ -20,8 +20,9 @@ pub use field::Field;
 pub use receiver::Receiver;
 pub use sender::Sender;
 
-/// What a call answers: its value and the number beside it, or a refusal's number (document 01, "Why a call says no"). Beside the value stand
-/// the draws that the call took (document 02, No. 1); of the symbol call, 1 for a symbol that was heard and 0 for one that was solved (No. 6).
+/// What a call answers: its value and the number beside it, or a refusal's number (document 01, "Why a call says no"). Beside the value
+/// stand the draws that the call took (document 02, No. 1); of the symbol call, 1 for a symbol that was heard, 0 for one that was solved
+/// (No. 6).
 pub type Answer = Result<(u64, u64), u32>;
 
 /// An answer as the C interface gives it.
