@@ -12,12 +12,14 @@ use Rattle.receiver.specs.Promises.{Layout, Opened, SymbolShown}
 use Rattle.claims.specs.Run.{Step, Run, final, read, history}
 use Rattle.claims.specs.Demand.{esi}
 
--- A position in the window, after the packets `qs` were accepted, when the receiver's memory is m: of whatever the symbol call may answer by its promise.
+-- A position in the window, after the packets `qs` were accepted, when the receiver's memory is m: of whatever the
+-- symbol call may answer by its promise.
 pub record Told-origin (L : Layout) (s : Setting) (m : List ℕ) (qs : List Located) (p : ℕ) : Type 0 where
   -- Beside the 0 it says heard exactly when an accepted source packet has brought the position,
   pub heard : (a : SymbolAnswer) → SymbolShown L m (esi p) a → (a ≡ Shown true) ↔ Brought qs p
   -- and solved exactly when it is known and none has.
-  pub solved : (a : SymbolAnswer) → SymbolShown L m (esi p) a → (a ≡ Shown false) ↔ (Known (s .size) qs p × ¬ Brought qs p)
+  pub solved : (a : SymbolAnswer) → SymbolShown L m (esi p) a
+      → (a ≡ Shown false) ↔ (Known (s .size) qs p × ¬ Brought qs p)
 
 -- From memory on which opening has just answered 0, after every list of packet calls.
 abbrev pub Origins : Layout → Type 0

@@ -1,4 +1,4 @@
--- Heard or solved (document 02, No. 6): which positions the accepted packets have brought, from these packets alone.
+-- Which positions the accepted packets have brought, from these packets alone (document 02, No. 6).
 use Rattle.words.specs.Words.{ℕ, _≤_, _+_, length, _<_, [], _∷_, _⊎_}
 use Rattle.history.specs.History.{Located, source, repair, Log}
 
