@@ -124,14 +124,19 @@ fn twenty_first(run: &Run, fits: impl Fn(u32, &Packet) -> bool) -> Result<u64, S
     fitting.nth(20).map(|(place, _)| place).ok_or(String::from("no such packet"))
 }
 
-/// A source packet comes so late that repair has brought its symbols before: they are heard all the same, and the figures are those of the
-/// run in which it comes in time.
+/// A source packet comes so late that repair has brought its symbols before. They are heard all the same, and the figures are those of the
+/// run in which it comes in time; where it is damaged it is refused (11), and they stay rebuilt.
 fn heard_later(options: Options) -> Result<(), String> {
     let whole = right(&options)?;
     let late = Some(twenty_first(&whole, |_, p| p.kind == Kind::Source)?);
-    let run = right(&Options { late, ..options })?;
-    demand(whole.got.later == 0 && run.got.later > 0, || format!("{} symbols heard later", run.got.later))?;
-    demand(run.symbols() == whole.symbols(), || format!("{:?} and not {:?}", run.symbols(), whole.symbols()))
+    let run = right(&Options { late, ..options.clone() })?;
+    let later = run.got.later;
+    demand(whole.got.later == 0 && later > 0, || format!("{later} symbols heard later"))?;
+    demand(run.symbols() == whole.symbols(), || format!("{:?} and not {:?}", run.symbols(), whole.symbols()))?;
+    let damaged = silently(&Options { late, corrupt: late, ..options })?;
+    let (heard, rebuilt, never) = whole.symbols();
+    demand(damaged.got.refused[11] == 1 && damaged.misheard() == 0, || String::from("a damaged packet was heard"))?;
+    demand(damaged.symbols() == (heard - later, rebuilt + later, never), || format!("{:?} with a damaged packet", damaged.symbols()))
 }
 
 /// One symbol that was heard is told as rebuilt; one that was rebuilt, or never known, as heard.

@@ -60,11 +60,11 @@ impl Fed {
 
     /// What the symbol call answers for some positions: what all three say.
     fn origins(&mut self, positions: Range<u64>) -> Vec<Answer> {
-        let mut origin = |position| {
+        let origin = |position| {
             self.receivers.look(&mut self.random, position as u32);
             self.receivers.reference.symbol(ROOM, position as u32)
         };
-        positions.map(&mut origin).collect()
+        positions.map(origin).collect()
     }
 
     fn origin(&mut self, position: u64) -> Answer {
