@@ -7,6 +7,7 @@ use Rattle.decoder.proofs.Stretch.{remainders}
 use Rattle.table.specs.Window.{headerSize, stride, rowOffset, Window, Fits}
 use Rattle.table.proofs.Offsets.{header-long, flags-fit}
 use Rattle.table.proofs.Holding.{window-same}
+use Rattle.table.proofs.Rows.{fits-sized}
 use Rattle.marks.specs.Marks.{flagAt, markAt, NoMark, OnlyMarks, OnlyStarts}
 
 -- ---- where marks stand
@@ -65,13 +66,7 @@ pub only-trans : {w E : ℕ} {m m′ m″ : List ℕ} → OnlyMarks w E m m′ �
 only-trans f g = record { size = g .size ∙ f .size; others = λ k n. g .others k n ∙ f .others k n }
 
 pub only-fits : {w E : ℕ} {m m′ : List ℕ} → Fits w E m → OnlyMarks w E m m′ → Fits w E m′
-only-fits f o = record {
-  some-width = f .some-width;
-  wide = f .wide;
-  some-symbol = f .some-symbol;
-  long = f .long;
-  room = rw (o .size) (f .room);
-}
+only-fits f o = fits-sized f (o .size)
 
 -- The header but for byte 10.
 pub header-no-mark : (w E k : ℕ) → k < headerSize → k ≢ 10 → NoMark w E k
@@ -102,13 +97,7 @@ pub starts-trans : {w E : ℕ} {m m′ m″ : List ℕ} → OnlyStarts w E m m�
 starts-trans f g = record { size = g .size ∙ f .size; others = λ k n d. g .others k n d ∙ f .others k n d }
 
 pub starts-fits : {w E : ℕ} {m m′ : List ℕ} → Fits w E m → OnlyStarts w E m m′ → Fits w E m′
-starts-fits f o = record {
-  some-width = f .some-width;
-  wide = f .wide;
-  some-symbol = f .some-symbol;
-  long = f .long;
-  room = rw (o .size) (f .room);
-}
+starts-fits f o = fits-sized f (o .size)
 
 pub starts-window : {w E : ℕ} {m m′ : List ℕ} → 0 < w → OnlyStarts w E m m′ → (b : ℕ) (S : State (Coded E) w) → Window w E m b S → Window w E m′ b S
 starts-window {w} {E} {m} {m′} pos o =

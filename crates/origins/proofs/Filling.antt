@@ -6,6 +6,7 @@ use Rattle.words.specs.Words.{ℕ-discrete, decLt, lt-leb, le-leb, lt-ltb, le-l
 use lib.Seq.{getD-set-same, getD-set-other}
 use Rattle.decoder.proofs.Stretch.{remainders}
 use Rattle.table.specs.Window.{rowOffset, Fits}
+use Rattle.table.proofs.Rows.{fits-sized}
 use Rattle.history.specs.Model.{Origins, bringing}
 use Rattle.origins.specs.Origins.{originAt, heardIn, Hears}
 use Rattle.origins.specs.Steps.{OnlyOrigins, originByte, Filled, Updated}
@@ -23,13 +24,7 @@ only-trans f g = record {
 }
 
 pub only-fits : {w E : ℕ} {m m′ : List ℕ} → Fits w E m → OnlyOrigins w E m m′ → Fits w E m′
-only-fits f o = record {
-  some-width = f .some-width;
-  wide = f .wide;
-  some-symbol = f .some-symbol;
-  long = f .long;
-  room = rw (o .size) (f .room);
-}
+only-fits f o = fits-sized f (o .size)
 
 -- ---- bytes are filled one by one
 

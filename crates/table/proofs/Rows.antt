@@ -25,14 +25,18 @@ kept-trans f g = record {
   flags = λ r k h c d. g .flags r k h c d ∙ f .flags r k h c d;
 }
 
-pub fits-kept : {w E : ℕ} {m m′ : List ℕ} → Fits w E m → Kept w E m m′ → Fits w E m′
-fits-kept f k = record {
+-- Sizes for which there is room in memory as long.
+pub fits-sized : {w E : ℕ} {m m′ : List ℕ} → Fits w E m → length m′ ≡ length m → Fits w E m′
+fits-sized f e = record {
   some-width = f .some-width;
   wide = f .wide;
   some-symbol = f .some-symbol;
   long = f .long;
-  room = rw (k .size) (f .room);
+  room = rw e (f .room);
 }
+
+pub fits-kept : {w E : ℕ} {m m′ : List ℕ} → Fits w E m → Kept w E m m′ → Fits w E m′
+fits-kept f k = fits-sized f (k .size)
 
 -- `x` stored from byte `b` of row `r` on, and no further than the first flag.
 module _ (w E r b : ℕ) (x m : List ℕ) (room : rowOffset w E w ≤ length m) (h : r < w) (l : b + length x ≤ w + E + 1) where
