@@ -1,11 +1,11 @@
 -- A packet's equations, admitted one after the other: what one more makes of them, and what all come to.
 -- Laws:
---   memories: contained-none, contained-more, contained-past, contained-row
+--   memories: contained-none, contained-more, contained-from, contained-past, contained-row
 --   a stored symbol: stored-only, works-stored, stored-is
 --   one equation: equation-admitted, stored-admitted
 --   all equations: firsts-same, firsts-cons, contradiction-stays, gathers-none, gathers-on, gathers-stop, gathers-all
 use Rattle.words.specs.Words.{_≡_, arith, ℕ, _≤_, length, _+_, List, _<_, refl, _∙_, sym, ap, [], some, _∷_, suc, zero, none, getD, _++_, subst, ap₂}
-use Rattle.words.specs.Words.{ℕ-discrete, _-_, drop, drop-drop}
+use Rattle.words.specs.Words.{ℕ-discrete, _-_, drop, drop-drop, length-drop, ext-getD, getD-drop}
 use Rattle.memory.specs.Part.{splice}
 use Rattle.memory.proofs.Parts.{getD-part, getD-within, row-fits}
 use Rattle.decoder.specs.Bytes.{Coded}
@@ -37,6 +37,14 @@ contained-none = record { same = refl; past = refl }
 
 pub contained-more : {n : ℕ} {m m′ m″ : List ℕ} → Contained n m m′ → Contained n m′ m″ → Contained n m m″
 contained-more f g = record { same = g .same ∙ f .same; past = g .past ∙ f .past }
+
+pub contained-from : (n : ℕ) (m m′ : List ℕ) → length m′ ≡ length m → ((k : ℕ) → n ≤ k → getD m′ k 0 ≡ getD m k 0) → Contained n m m′
+contained-from n m m′ e f = record {
+  same = e;
+  past =
+      ext-getD 0 (drop n m′) (drop n m) (length-drop n m′ ∙ ap (λ k. k - n) e ∙ sym (length-drop n m))
+      (λ i h. getD-drop n m′ i 0 ∙ f (n + i) (omega arith) ∙ sym (getD-drop n m i 0));
+}
 
 pub contained-past : (n : ℕ) {k : ℕ} {m m′ : List ℕ} → n ≤ k → Contained n m m′ → Contained k m m′
 contained-past n {k} {m} {m′} h f =

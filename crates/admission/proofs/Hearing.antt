@@ -1,7 +1,6 @@
 -- A packet is accepted: what is heard after it, and that the bytes which say so are no part of the state or of its marks.
 -- Laws: hear-asks, accepted
-use Rattle.words.specs.Words.{_≡_, arith, ℕ, _≤_, length, _+_, List, _<_, _∙_, sym, ap, _-_, _%_, getD, subst, drop, length-drop, ext-getD, getD-drop}
-use Rattle.words.specs.Words.{mod-add-mod, mod-lt}
+use Rattle.words.specs.Words.{_≡_, arith, ℕ, _≤_, length, _+_, List, _<_, _∙_, sym, ap, _-_, _%_, subst, mod-add-mod}
 use Rattle.wire.specs.declared.Setting.{Setting}
 use Rattle.memory.specs.Contained.{Contained}
 use Rattle.table.specs.Window.{rowOffset, Fits}
@@ -18,9 +17,9 @@ use Rattle.holding.specs.Layout.{headerFrom, MarksFrom}
 use Rattle.holding.proofs.Headers.{memory-is}
 use Rattle.admission.specs.declared.packet.Location.{Location}
 use Rattle.admission.specs.Joining.{Based}
-use Rattle.admission.specs.Steps.{SameMarks, LocatedBy, Marked, Accepted}
+use Rattle.admission.specs.Steps.{SameMarks, SamePast, LocatedBy, Marked, Accepted}
 use Rattle.admission.proofs.Joining.{based-fits}
-use Rattle.admission.proofs.Gathering.{contained-more}
+use Rattle.admission.proofs.Gathering.{contained-more, contained-from}
 use Rattle.admission.proofs.Marking.{SameState, state-holds, same-marks, count-again}
 use Rattle.marks.specs.Marks as marks
 
@@ -41,14 +40,7 @@ module _ (w E : ℕ) (m m′ : List ℕ) (pos : 0 < w) (o : OnlyOrigins w E m m�
   }
 
 origins-contained : (s : Setting) (m m′ : List ℕ) → OnlyOrigins (s .width) (s .size) m m′ → Contained (memorySize s) m m′
-origins-contained s m m′ o = record {
-  same = o .size;
-  past =
-      ext-getD 0 (drop (memorySize s) m′) (drop (memorySize s) m)
-      (length-drop (memorySize s) m′ ∙ ap (λ n. n - memorySize s) (o .size) ∙ sym (length-drop (memorySize s) m))
-      (λ i h.
-      getD-drop (memorySize s) m′ i 0 ∙ o .past (memorySize s + i) (omega (arith, memory-is s)) ∙ sym (getD-drop (memorySize s) m i 0));
-}
+origins-contained s m m′ o = contained-from (memorySize s) m m′ (o .size) (λ k h. o .past k (omega (arith, memory-is s)))
 
 -- ---- a packet is accepted
 
@@ -65,7 +57,8 @@ hear-asks h at own stay first n m m₁ has placed k is-stay is-first is-own =
     (f, rw (placed .width, placed .size) room, l, omega (arith, is-stay, placed .stay), omega (arith, is-first, is-own, placed .room))
 
 module _ (h : Header) (at : Location) (kept own count stay first n : ℕ) (work m m₁ m₂ : List ℕ) (head : Based m h) (placed : LocatedBy h at own)
-    (f : Marked h at kept own count work m m₁) (u : Updated (at .shape .width) (at .shape .size) (at .shape .oldest) stay first n m₁ m₂)
+    (f : Marked h at kept own count work m m₁) (past : SamePast (h .setting .width) (h .setting .size) m m₁)
+    (u : Updated (at .shape .width) (at .shape .size) (at .shape .oldest) stay first n m₁ m₂)
     (is-stay : stay ≡ at .stay) (is-first : first ≡ at .offset) (is-own : n ≡ own) where
   -- By the header's setting.
   abbrev w : ℕ
@@ -88,8 +81,8 @@ module _ (h : Header) (at : Location) (kept own count stay first n : ℕ) (work 
         settled = subst (λ x. Settled (s .size) (s .width) (seen (s .size) (s .width) (t .window)) x M) (sym (same .header 11 (omega arith) (omega arith))) (k .settled);
       }
 
-  pub accepted : Accepted h at kept own count work m m₂
-  accepted = record {
+  marked : Marked h at kept own count work m m₂
+  marked = record {
     contained = contained-more (f .contained) (origins-contained (h .setting) m₁ m₂ (u′ .only));
     most = f .most;
     outcome = λ s t es is k row g.
@@ -102,8 +95,13 @@ module _ (h : Header) (at : Location) (kept own count stay first n : ℕ) (work 
           n,
           λ M km. marks-kept s _ _ z o (follow M km),
         );
+  }
+
+  pub accepted : Accepted h at kept own count work m m₂
+  accepted = record {
+    marked = marked;
     hears = λ b H row k.
         let base : (b + at .rise) % w ≡ at .shape .oldest =
         sym (mod-add-mod b w (at .rise)) ∙ ap (λ x. (x + at .rise) % w) row ∙ ap (λ x. (h .oldest + at .rise) % x) (sym (placed .width)) ∙ sym (placed .base) in
-        u′ .hears b (at .rise) H base (placed .stay ∙ ap (λ x. x - at .rise) (placed .width)) (hears-same w E b m m₁ H pos (f .past) k);
+        u′ .hears b (at .rise) H base (placed .stay ∙ ap (λ x. x - at .rise) (placed .width)) (hears-same w E b m m₁ H pos past k);
   }

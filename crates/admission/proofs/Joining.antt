@@ -4,13 +4,14 @@ use Rattle.wire.specs.declared.Setting.{Setting}
 use Rattle.wire.specs.Settings.{Valid}
 use Rattle.decoder.proofs.Bytes.{laws}
 use Rattle.table.specs.Window.{Fits}
-use Rattle.history.specs.Model.{State, foundBy}
+use Rattle.history.specs.Model.{State, foundBy, Origins}
 use Rattle.holding.specs.declared.Header.{Header}
 use Rattle.holding.specs.Header.{headerIn}
-use Rattle.holding.specs.Layout.{headerFrom, Stands, Holds}
+use Rattle.holding.specs.Layout.{headerFrom, Stands, Holds, Hears}
 use Rattle.admission.specs.Joining.{headerFor, Based}
 use Rattle.holding.proofs.Headers.{headed, setting-fits, header-held}
 use Rattle.decoder.proofs.History as history
+use Rattle.origins.specs.Origins as origins
 
 -- The header for a packet, with a base and without.
 pub for-joined : (h : Header) (e : ℕ) → h .joined ≡ true → h ≡ headerFor h e
@@ -49,3 +50,9 @@ found-header m h s (some t) e k d = ap (λ (x : Header). headerFor x e) (header-
 pub found-stands : (m : List ℕ) (s : Setting) (t : State s) (e : ℕ) → 0 < s .size → Holds m s t → Stands m s (foundBy s t e)
 found-stands m s none e z d = record { reduced = history.empty-rref (laws (s .size) z) (s .width); rows = d .rows e }
 found-stands m s (some t) e z d = d .rows
+
+-- And what it says is heard.
+pub found-hears : (m : List ℕ) (s : Setting) (t : State s) (e : ℕ) (H : Origins) → Hears m s t H
+    → origins.Hears (s .width) (s .size) (foundBy s t e .base) m H
+found-hears m s none e H k = k e
+found-hears m s (some t) e H k = k

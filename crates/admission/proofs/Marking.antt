@@ -3,7 +3,7 @@
 --   the same state: SameState, state-holds
 --   only marks changed: starts-contained, starts-holds
 --   marks not changed: same-marks
---   a packet's rows have joined: update-asks, count-asks, count-again, marked
+--   a packet's rows have joined: update-asks, count-asks, count-again, followed
 use Rattle.words.specs.Words.{_≡_, arith, ℕ, _≤_, length, _+_, List, _<_, refl, _∙_, sym, ap, _-_, some, _%_, none, getD, false, Bool, subst, Option, drop, ltb}
 use Rattle.words.specs.Words.{length-drop, ext-getD, getD-drop, ap₂, decLt, mod-add-mod, mod-lt, _≢_}
 use Rattle.memory.specs.Part.{part}
@@ -13,6 +13,7 @@ use Rattle.wire.specs.Stored.{settingIn}
 use Rattle.wire.proofs.Settings.{setting-kept}
 use Rattle.decoder.specs.Bytes.{Coded}
 use Rattle.table.proofs.Offsets.{header-long}
+use Rattle.table.proofs.Rows.{fits-sized}
 use Rattle.table.proofs.Holding.{window-same}
 use Rattle.starts.specs.Starts.{Starts, owning, moved, pass, seen}
 use Rattle.starts.specs.Settled.{Settled, Old}
@@ -28,10 +29,10 @@ use Rattle.holding.specs.Header.{headerWith, headerIn}
 use Rattle.memory.specs.Contained.{Contained}
 use Rattle.holding.specs.Layout.{headerFrom, headerOf, Stands, Rows, Holds, MarksFrom}
 use Rattle.admission.specs.Joining.{Based}
-use Rattle.admission.specs.Steps.{SameMarks, LocatedBy, Finished, Marked}
+use Rattle.admission.specs.Steps.{SameMarks, SamePast, LocatedBy, Finished, Marked}
 use Rattle.holding.proofs.Headers.{header-fits, setting-of}
 use Rattle.admission.proofs.Joining.{based-fits}
-use Rattle.admission.proofs.Gathering.{contained-more}
+use Rattle.admission.proofs.Gathering.{contained-more, contained-from}
 use Rattle.decoder.specs.Model as model
 use Rattle.decoder.specs.Receiver as decoder
 use Rattle.table.specs.Window as window
@@ -89,16 +90,9 @@ state-holds s t m m′ k o =
 
 pub starts-contained : (s : Setting) (m m′ : List ℕ) → marks.OnlyStarts (s .width) (s .size) m m′ → Contained (memorySize s) m m′
 unfolding window.headerSize window.stride
-starts-contained s m m′ o = record {
-  same = o .size;
-  past =
-      ext-getD 0 (drop (memorySize s) m′) (drop (memorySize s) m)
-      (length-drop (memorySize s) m′ ∙ ap (λ n. n - memorySize s) (o .size) ∙ sym (length-drop (memorySize s) m))
-      (λ i h.
-      let k : ℕ = memorySize s + i in
-      getD-drop (memorySize s) m′ i 0 ∙ o .others k (past-no-mark (s .width) (s .size) k (omega arith)) (λ e. omega (arith, e))
-      ∙ sym (getD-drop (memorySize s) m i 0));
-}
+starts-contained s m m′ o =
+    contained-from (memorySize s) m m′ (o .size)
+    (λ k h. o .others k (past-no-mark (s .width) (s .size) k (omega arith)) (λ e. omega (arith, e)))
 
 starts-same : (w E : ℕ) (m m′ : List ℕ) → marks.OnlyStarts w E m m′ → SameState w E m m′
 starts-same w E m m′ o = record {
@@ -133,13 +127,7 @@ pub update-asks : (h : Header) (at : Location) (own : ℕ) (m m₁ : List ℕ) �
     × (at .offset + own ≤ at .shape .width)
 update-asks h at own m m₁ has placed k =
     let g = based-fits m h has in
-    let f : window.Fits (h .setting .width) (h .setting .size) m₁ = record {
-      some-width = g .some-width;
-      wide = g .wide;
-      some-symbol = g .some-symbol;
-      long = g .long;
-      room = omega (arith, g .room, k .same);
-    } in
+    let f : window.Fits (h .setting .width) (h .setting .size) m₁ = fits-sized g (k .same) in
     let fits = subst (λ w. window.Fits w (at .shape .size) m₁) (sym (placed .width))
     (subst (λ E. window.Fits (h .setting .width) E m₁) (sym (placed .size)) f) in
     (fits, subst (λ w. h .oldest < w) (sym (placed .width)) (has .row-lt), placed .base, placed .room)
@@ -208,12 +196,9 @@ module _ (h : Header) (at : Location) (kept own count had has : ℕ) (others : B
         (subst (λ x. Settled (s .size) (s .width) (seen (s .size) (s .width) (t .window)) x M) note (km .settled)) olds in
         record { bytes = subst (λ b. marks.Marks (s .width) (s .size) b m₂ N) around g; settled = settled }
 
-  pub marked : Marked h at kept own count work m m₂
+  marked : Marked h at kept own count work m m₂
   marked = record {
     contained = contained-more (f .contained) (starts-contained (h .setting) m₁ m₂ (u′ .only));
-    past = λ k l.
-        let w = h .setting .width in
-        u′ .only .others k (past-no-mark w (h .setting .size) k l) (λ e. omega (arith, header-long, e)) ∙ f .past k l;
     most = f .most;
     outcome = λ s t es is k row g.
         let (T, i, held, n) = f .outcome s t es is k row g in
@@ -225,3 +210,9 @@ module _ (h : Header) (at : Location) (kept own count had has : ℕ) (others : B
           marks-after s t es is k row T i held n,
         );
   }
+
+  pub followed : Marked h at kept own count work m m₂ × SamePast (h .setting .width) (h .setting .size) m m₂
+  followed = (
+    marked,
+    λ k l. u′ .only .others k (past-no-mark (h .setting .width) (h .setting .size) k l) (λ e. omega (arith, header-long, e)) ∙ f .past k l,
+  )

@@ -153,7 +153,6 @@ pub record Finished (h : Header) (at : Location) (kept count : ℕ) (work m m′
 -- And the marks are those that the packet with `own` symbols of its own makes.
 pub record Marked (h : Header) (at : Location) (kept own count : ℕ) (work m m′ : List ℕ) : Type 0 where
   pub contained : Contained (memorySize (h .setting)) m m′
-  pub past : SamePast (h .setting .width) (h .setting .size) m m′
   pub most : count ≤ kept * 256
   pub outcome : (s : Setting) (t : Joined s) (es : List (model.Row (Coded (s .size)) (s .width))) → h ≡ headerFrom s t → Stands m s t
       → at .shape .oldest ≡ (t .base + at .rise) % s .width
@@ -166,15 +165,6 @@ pub record Marked (h : Header) (at : Location) (kept own count : ℕ) (work m m�
 
 -- And the packet has brought its own symbols.
 pub record Accepted (h : Header) (at : Location) (kept own count : ℕ) (work m m′ : List ℕ) : Type 0 where
-  pub contained : Contained (memorySize (h .setting)) m m′
-  pub most : count ≤ kept * 256
-  pub outcome : (s : Setting) (t : Joined s) (es : List (model.Row (Coded (s .size)) (s .width))) → h ≡ headerFrom s t → Stands m s t
-      → at .shape .oldest ≡ (t .base + at .rise) % s .width
-      → packet.Gathered (s .width) (s .size) (t .base + at .rise) (decoder.advance-by (at .rise) (t .window)) work kept es
-      → (T : model.State (Coded (s .size)) (s .width)) × (decoder.insert-all es (decoder.advance-by (at .rise) (t .window)) ≡ some T)
-      × Holds m′ s (some (record { base = t .base + at .rise; window = T }))
-      × (count ≡ decoder.newly t (record { base = t .base + at .rise; window = T }))
-      × ((M : Starts) → MarksFrom m s t M → MarksFrom m′ s (record { base = t .base + at .rise; window = T })
-      (pass (s .size) (seen (s .size) (s .width) T) (s .width) (owning (at .offset) own (moved (s .width) (at .rise) M))))
+  pub marked : Marked h at kept own count work m m′
   pub hears : (b : ℕ) (H : Origins) → b % h .setting .width ≡ h .oldest → Hears (h .setting .width) (h .setting .size) b m H
       → Hears (h .setting .width) (h .setting .size) (b + at .rise) m′ (bringing (b + at .rise + at .offset) own H)

@@ -5,7 +5,7 @@ ghost use Rattle.table.specs.Window.{Fits};
 ghost use Rattle.table.specs.Packet.{Works};
 ghost use Rattle.history.specs.History.{farthest};
 ghost use Rattle.admission.specs.Joining.{headerFor, Based};
-ghost use Rattle.admission.specs.Steps.{locationFound, gatheredBy, EquationAdmitted, LocatedBy, Finished, Marked, Accepted};
+ghost use Rattle.admission.specs.Steps.{locationFound, gatheredBy, EquationAdmitted, LocatedBy, Finished, Accepted};
 use gather::Verdict;
 use holding::Header;
 use holding::Side;
@@ -148,35 +148,6 @@ fn finish(mem: &mut [u8], work: &[u8], header: Header, location: Location, kept:
     count
 }
 
-// The packet's rows join the state's, the base rises, and the marks follow, with `own` symbols of its own. Gives how many positions have become known.
-fn finish_and_mark(
-    mem: &mut [u8],
-    work: &[u8],
-    header: Header,
-    location: Location,
-    kept: usize,
-    own: usize,
-) -> usize
-    requires { ⌜ Based (now mem) header × Works (header .setting .width) (header .setting .size) kept (now work)
-        × (location .shape .oldest < 65535) × (location .rise ≤ farthest) × LocatedBy header location own ⌝ }
-    ensures { λ n. ⌜ Marked header location kept own n (now (work .entry)) (now (mem .entry)) (now (mem .exit)) ⌝ }
-{
-    let had = marks::known_among(mem, header.shape(), location.rise + location.offset, own);
-    let known = finish(mem, work, header, location, kept);
-    let has = marks::known_among(mem, location.shape, location.offset, own);
-    let others = known != memory::excess(has, had);
-    marks::update(
-        mem,
-        location.shape,
-        header.oldest,
-        location.rise,
-        location.offset,
-        own,
-        others,
-    );
-    known
-}
-
 // The packet is accepted, with `own` symbols of its own: its rows join the state's, the base rises, the marks follow, and its own positions are heard.
 // Gives how many positions have become known.
 pub fn accept(
@@ -191,7 +162,19 @@ pub fn accept(
         × (location .shape .oldest < 65535) × (location .rise ≤ farthest) × LocatedBy header location own ⌝ }
     ensures { λ n. ⌜ Accepted header location kept own n (now (work .entry)) (now (mem .entry)) (now (mem .exit)) ⌝ }
 {
-    let known = finish_and_mark(mem, work, header, location, kept, own);
+    let had = marks::known_among(mem, header.shape(), location.rise + location.offset, own);
+    let known = finish(mem, work, header, location, kept);
+    let has = marks::known_among(mem, location.shape, location.offset, own);
+    let others = known != memory::excess(has, had);
+    marks::update(
+        mem,
+        location.shape,
+        header.oldest,
+        location.rise,
+        location.offset,
+        own,
+        others,
+    );
     origins::update(mem, location.shape, location.stay, location.offset, own);
     known
 }

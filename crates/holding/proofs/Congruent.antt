@@ -1,5 +1,6 @@
 -- A memory knows its base by two remainders. States that differ by no more than that are held by the same memories, and calls treat them alike.
 -- Laws:
+--   positions: on
 --   states: SameFrom, Same, holds-same, held-same, found-same
 --   calls: Alike, answering-alike
 --   marks: marking-alike
@@ -30,7 +31,7 @@ use Rattle.table.specs.Window as window
 -- ---- Memory
 
 -- Positions that go on from congruent ones are congruent.
-on : (w b c i : ℕ) → b % w ≡ c % w → (b + i) % w ≡ (c + i) % w
+pub on : (w b c i : ℕ) → b % w ≡ c % w → (b + i) % w ≡ (c + i) % w
 on w b c i h = sym (mod-add-mod b w i) ∙ ap (λ x. (x + i) % w) h ∙ mod-add-mod c w i
 
 next : (w b c : ℕ) → b % w ≡ c % w → suc b % w ≡ suc c % w

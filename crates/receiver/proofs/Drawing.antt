@@ -29,6 +29,6 @@ module _ {c : Call} {m m′ v v′ : List ℕ} where
         received = p;
         draws = record {
           draws = λ h′ e. is ∙ ap (λ (y : Header). drawsFor (y .setting) c) (Option·some-injective h h′ (sym has ∙ e));
-          small = (omega (arith, done .most, k .within, k .wide), few);
+          small = (omega (arith, done .marked .most, k .within, k .wide), few);
         };
       }

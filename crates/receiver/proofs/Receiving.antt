@@ -34,7 +34,7 @@ use Rattle.admission.specs.Reading.{Failed, Passes}
 use Rattle.admission.specs.Steps.{locationAt, Comes, WorksOn, firsts, Lies, Gathers, LocatedBy, Accepted}
 use Rattle.history.proofs.Cases.{IsRefusal, numeral}
 use Rattle.holding.proofs.Headers.{header-fits, setting-held}
-use Rattle.admission.proofs.Joining.{based, based-fits, found-header, found-stands}
+use Rattle.admission.proofs.Joining.{based, based-fits, found-header, found-stands, found-hears}
 use Rattle.admission.proofs.Reading.{reads-found}
 use Rattle.admission.proofs.Gathering.{contained-none, contained-past}
 use Rattle.wire.specs.declared.Refusal.the-variants as refusals
@@ -42,7 +42,6 @@ use Rattle.decoder.specs.Model as model
 use Rattle.decoder.specs.Receiver as decoder
 use Rattle.decoder.specs.Packets as packets
 use Rattle.table.specs.Packet as packet
-use Rattle.origins.specs.Origins as origins
 
 -- The marks after a call that finds the receiver as j, by what was read of it and what it came to.
 abbrev MarksBy : (s : Setting) (t : State s) (j : Joined s) (M : Starts) (m′ : List ℕ) → Reading → Outcome s → Type 0
@@ -51,11 +50,6 @@ MarksBy s t j M m′ x y = Marks m′ s (stateAfter t y) (marking s j M x y)
 -- And what is heard.
 abbrev HearsBy : (s : Setting) (t : State s) (H : Origins) (m′ : List ℕ) → Reading → Outcome s → Type 0
 HearsBy s t H m′ x y = Hears m′ s (stateAfter t y) (originsAfter x y H)
-
-found-hears : (m : List ℕ) (s : Setting) (t : State s) (e : ℕ) (H : Origins) → Hears m s t H
-    → origins.Hears (s .width) (s .size) (foundBy s t e .base) m H
-found-hears m s none e H k = k e
-found-hears m s (some t) e H k = k
 
 -- Before any base they are marks wherever it will be.
 found-marks : (m : List ℕ) (s : Setting) (t : State s) (e : ℕ) (M : Starts) → Marks m s t M → MarksFrom m s (foundBy s t e) M
@@ -310,18 +304,18 @@ module _ (c : Call) (m v : List ℕ) (h : Header) (q : ℕ → Located) (d : ℕ
           refused = λ n x. absurd (subst IsRefusal (sym x) tt);
           contained = λ h′ x.
               subst (λ (y : Header). Contained (memorySize (y .setting)) m m′ × Contained (workingSize (y .setting)) v v′)
-              (Option·some-injective h h′ (sym (passes .has) ∙ x)) (done .contained, work-kept);
+              (Option·some-injective h h′ (sym (passes .has) ∙ x)) (done .marked .contained, work-kept);
           follows = λ s t k.
               let j = foundBy s t (esiOf c) in
               let e = header-found s t k in
               let l = stands-found s t k in
-              let (T, i, held, counted, marks) = done .outcome s j _ e l (row-is s j e l) (subst (Comes _ _ _ _ v′ _) z (comes-found s t k)) in
+              let (T, i, held, counted, marks) = done .marked .outcome s j _ e l (row-is s j e l) (subst (Comes _ _ _ _ v′ _) z (comes-found s t k)) in
               by-model s j e l (λ x y. Follows receiverLayout s y m m′ (Done known)) (some T) i (ap value counted, held);
           starts = λ s t M k b.
               let j = foundBy s t (esiOf c) in
               let e = header-found s t k in
               let l = stands-found s t k in
-              let (T, i, held, counted, marks) = done .outcome s j _ e l (row-is s j e l) (subst (Comes _ _ _ _ v′ _) z (comes-found s t k)) in
+              let (T, i, held, counted, marks) = done .marked .outcome s j _ e l (row-is s j e l) (subst (Comes _ _ _ _ v′ _) z (comes-found s t k)) in
               by-model s j e l (λ x y. MarksBy s t j M m′ x y) (some T) i
               (subst (λ N. MarksFrom m′ s (record { base = j .base + at .rise; window = T }) N) (models s j e l M T own (owns s (j .base)))
               (marks M (found-marks m s t (esiOf c) M b)));
@@ -329,7 +323,7 @@ module _ (c : Call) (m v : List ℕ) (h : Header) (q : ℕ → Located) (d : ℕ
               let j = foundBy s t (esiOf c) in
               let e = header-found s t k in
               let l = stands-found s t k in
-              let (T, i, held, counted, marks) = done .outcome s j _ e l (row-is s j e l) (subst (Comes _ _ _ _ v′ _) z (comes-found s t k)) in
+              let (T, i, held, counted, marks) = done .marked .outcome s j _ e l (row-is s j e l) (subst (Comes _ _ _ _ v′ _) z (comes-found s t k)) in
               let heard = subst (λ (y : Header). Accepted y at kept own known v′ m m′) e done .hears (j .base) H refl (found-hears m s t (esiOf c) H b) in
               by-model s j e l (λ x y. HearsBy s t H m′ x y) (some T) i
               (hears-alike (s .width) (s .size) (j .base + at .rise) m′ _ _ (brings (j .base) H) heard);
