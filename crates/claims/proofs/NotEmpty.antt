@@ -27,21 +27,17 @@ use Rattle.memory.specs.Contained.{Contained}
 use Rattle.holding.specs.Layout.{headerOf, Holds, Marks, Hears}
 use Rattle.receiver.specs.Layout.{receiverLayout}
 use Rattle.holding.proofs.Building.{built}
-use Rattle.holding.proofs.Congruent.{Same, SameFrom, holds-same, held-same, found-same, Alike, both-refused, both-done, answering-alike, marking-alike}
+use Rattle.holding.proofs.Congruent.{on, Same, SameFrom, holds-same, held-same, found-same, Alike, both-refused, both-done, answering-alike, marking-alike}
 use Rattle.holding.proofs.Congruent.{AgreeFrom, baseAfter, origins-alike}
 use Rattle.history.proofs.Naming.{Sound, answering-sound}
 use Rattle.holding.proofs.Headers.{header-room, header-fits, setting-of, setting-held}
-use Rattle.admission.proofs.Joining.{found-stands}
+use Rattle.admission.proofs.Joining.{found-stands, found-hears}
 use Rattle.admission.proofs.Marking.{starts-holds, starts-contained}
 use Rattle.claims.specs.Run.{Step, Run}
 use Rattle.claims.specs.NotEmpty.{Asked, asked, AllOfBytes, Runs-exist}
 use Rattle.claims.proofs.Demand.{had-setting}
 use Rattle.marks.specs.Marks as stored
 use Rattle.origins.specs.Origins as origins
-
--- Positions that go on from congruent ones are congruent.
-going-on : (w b c i : ℕ) → b % w ≡ c % w → (b + i) % w ≡ (c + i) % w
-going-on w b c i h = sym (mod-add-mod b w i) ∙ ap (λ x. (x + i) % w) h ∙ mod-add-mod c w i
 
 module _ (s : Setting) (v : Valid s) where
   abbrev some-bytes : 0 < s .size
@@ -52,23 +48,24 @@ module _ (s : Setting) (v : Valid s) where
   settings-same m t u x h k =
       sym (setting-of s t) ∙ ap (λ (y : Header). y .setting) (Option·some-injective _ _ (sym (h .header) ∙ k .header)) ∙ setting-of u x
 
+  -- So what holds of every such state of this setting holds of every one.
+  each-held : (m : List ℕ) (t : State s) → Holds m s t → (P : (u : Setting) → State u → Type 0) → ((x : State s) → Holds m s x → P s x)
+      → (u : Setting) (x : State u) → Holds m u x → P u x
+  each-held m t h P f u x k = subst (λ y. (x : State y) → Holds m y x → P y x) (settings-same m t u x h k) f x k
+
   receiving-alike : (t u : State s) (room : ℕ) (c : Call) → Same s t u → Alike s (receiving s t room c) (receiving s u room c)
   receiving-alike t u room c k = answering-alike s (foundBy s t (esiOf c)) (foundBy s u (esiOf c)) room c (found-same s t u (esiOf c) k)
 
   -- The call does, of every state that the memory holds, what it does of one.
   follows-all : (m m′ : List ℕ) (a : Answer) (t : State s) (room : ℕ) (c : Call) → Holds m s t → Follows receiverLayout s (receiving s t room c) m m′ a
       → (u : Setting) (x : State u) → Holds m u x → Follows receiverLayout u (receiving u x room c) m m′ a
-  follows-all m m′ a t room c h d u x k = go u (settings-same m t u x h k) x k
+  follows-all m m′ a t room c h d =
+      each-held m t h (λ u x. Follows receiverLayout u (receiving u x room c) m m′ a)
+      (λ x k. one _ _ (receiving-alike t x room c (held-same s m t x h k)) d)
     where
       one : (o p : Outcome s) → Alike s o p → Follows receiverLayout s o m m′ a → Follows receiverLayout s p m m′ a
       one o p (both-refused n) g = g
       one o p (both-done n y z e) (q, g) = (q, holds-same s m′ y z e g)
-
-      here : (x : State s) → Holds m s x → Follows receiverLayout s (receiving s x room c) m m′ a
-      here x k = one _ _ (receiving-alike t x room c (held-same s m t x h k)) d
-
-      go : (u : Setting) → s ≡ u → (x : State u) → Holds m u x → Follows receiverLayout u (receiving u x room c) m m′ a
-      go u e = subst (λ y. (x : State y) → Holds m y x → Follows receiverLayout y (receiving y x room c) m m′ a) e here
 
   -- And so it leaves marks, of every state and marks that the memory has: those that the memory shows for the state as the packet finds it.
   abbrev now-marked : List ℕ → Joined s → Starts
@@ -92,7 +89,7 @@ module _ (s : Setting) (v : Valid s) where
 
   starts-refused : (m : List ℕ) (t : State s) (room : ℕ) (c : Call) (n : ℕ) → Holds m s t → receiving s t room c ≡ refused n
       → (u : Setting) (x : State u) (M : Starts) → Holds m u x → Marks m u x M → Marks m u (stateAfter x (receiving u x room c)) (marks-by u x M room c)
-  starts-refused m t room c n h e u x M k g = go u (settings-same m t u x h k) x k g
+  starts-refused m t room c n h e u x M = each-held m t h (λ u x. Marks m u x M → Marks m u (stateAfter x (receiving u x room c)) (marks-by u x M room c)) here u x
     where
       here : (x : State s) → Holds m s x → Marks m s x M → Marks m s (stateAfter x (receiving s x room c)) (marks-by s x M room c)
       here x k g =
@@ -101,9 +98,6 @@ module _ (s : Setting) (v : Valid s) where
           was-refused n (subst (λ o. Alike s o (receiving s x room c)) e (receiving-alike t x room c (held-same s m t x h k))) in
           subst (λ o. Marks m s (stateAfter x o) (marking s j M (reading s (j .base) room c) o)) (sym z)
           (subst (Marks m s x) (sym (refused-marks j M n (reading s (j .base) room c))) g)
-
-      go : (u : Setting) → s ≡ u → (x : State u) → Holds m u x → Marks m u x M → Marks m u (stateAfter x (receiving u x room c)) (marks-by u x M room c)
-      go u e = subst (λ y. (x : State y) → Holds m y x → Marks m y x M → Marks m y (stateAfter x (receiving y x room c)) (marks-by y x M room c)) e here
 
   after-pass : (x x′ : Joined s) (q : Located) (M : Starts) (f : ℕ) → f ≢ 0
       → Settled (s .size) (s .width) (seen (s .size) (s .width) (x′ .window)) f (startsAfter s x x′ q M)
@@ -132,7 +126,7 @@ module _ (s : Setting) (v : Valid s) where
       → let j = foundBy s t (esiOf c) in
       stored.Marks (s .width) (s .size) (y .base % s .width) m′ (marking s j (now-marked m j) (reading s (j .base) room c) (done n y))
       → (u : Setting) (x : State u) (M : Starts) → Holds m u x → Marks m u x M → Marks m′ u (stateAfter x (receiving u x room c)) (marks-by u x M room c)
-  starts-done m m′ t room c n y h e noted d u x M k g = go u (settings-same m t u x h k) x k g
+  starts-done m m′ t room c n y h e noted d u x M = each-held m t h (λ u x. Marks m u x M → Marks m′ u (stateAfter x (receiving u x room c)) (marks-by u x M room c)) here u x
     where
       here : (x : State s) → Holds m s x → Marks m s x M → Marks m′ s (stateAfter x (receiving s x room c)) (marks-by s x M room c)
       here x k g =
@@ -153,9 +147,6 @@ module _ (s : Setting) (v : Valid s) where
             settled = settles-done i M (notedIn m′) n z noted room c is;
           })
 
-      go : (u : Setting) → s ≡ u → (x : State u) → Holds m u x → Marks m u x M → Marks m′ u (stateAfter x (receiving u x room c)) (marks-by u x M room c)
-      go u e = subst (λ y. (x : State y) → Holds m y x → Marks m y x M → Marks m′ y (stateAfter x (receiving y x room c)) (marks-by y x M room c)) e here
-
   -- And so it leaves what is heard: what the memory says of the window of the state as the packet finds it, and nothing past that.
   abbrev now-heard : List ℕ → Joined s → Origins
   now-heard m j x = ltb x (j .base + s .width) && heardIn (s .width) (s .size) m (x % s .width)
@@ -163,22 +154,18 @@ module _ (s : Setting) (v : Valid s) where
   abbrev heard-by : (u : Setting) (x : State u) → Origins → (room : ℕ) → Call → Origins
   heard-by u x H room c = originsAfter (reading u (foundBy u x (esiOf c) .base) room c) (receiving u x room c) H
 
-  found-heard : (m : List ℕ) (x : State s) (e : ℕ) (H : Origins) → Hears m s x H → origins.Hears (s .width) (s .size) (foundBy s x e .base) m H
-  found-heard m none e H k = k e
-  found-heard m (some t) e H k = k
-
   -- Any origins that the memory has for a state agree with that.
   found-agree : (m : List ℕ) (j : Joined s) (x : State s) (e : ℕ) (H : Origins) → SameFrom s j (foundBy s x e) → Hears m s x H
       → AgreeFrom (j .base) (foundBy s x e .base) (now-heard m j) H
   found-agree m j x e H same k i = go (decLt i (s .width))
     where
       k′ : origins.Hears (s .width) (s .size) (foundBy s x e .base) m H
-      k′ = found-heard m x e H k
+      k′ = found-hears m s x e H k
 
       go : Dec (i < s .width) → now-heard m j (j .base + i) ≡ H (foundBy s x e .base + i)
       go (yes l) =
           ap (λ b. b && heardIn (s .width) (s .size) m ((j .base + i) % s .width)) (lt-ltb (j .base + i) (j .base + s .width) (omega arith))
-          ∙ ap (heardIn (s .width) (s .size) m) (going-on (s .width) (j .base) (foundBy s x e .base) i (same .row)) ∙ k′ .window i l
+          ∙ ap (heardIn (s .width) (s .size) m) (on (s .width) (j .base) (foundBy s x e .base) i (same .row)) ∙ k′ .window i l
       go (no l) =
           ap (λ b. b && heardIn (s .width) (s .size) m ((j .base + i) % s .width)) (le-ltb (j .base + i) (j .base + s .width) (omega arith))
           ∙ sym (k′ .later i (omega arith))
@@ -189,7 +176,7 @@ module _ (s : Setting) (v : Valid s) where
 
   heard-refused : (m : List ℕ) (t : State s) (room : ℕ) (c : Call) (n : ℕ) → Holds m s t → receiving s t room c ≡ refused n
       → (u : Setting) (x : State u) (H : Origins) → Holds m u x → Hears m u x H → Hears m u (stateAfter x (receiving u x room c)) (heard-by u x H room c)
-  heard-refused m t room c n h e u x H k g = go u (settings-same m t u x h k) x k g
+  heard-refused m t room c n h e u x H = each-held m t h (λ u x. Hears m u x H → Hears m u (stateAfter x (receiving u x room c)) (heard-by u x H room c)) here u x
     where
       here : (x : State s) → Holds m s x → Hears m s x H → Hears m s (stateAfter x (receiving s x room c)) (heard-by s x H room c)
       here x k g =
@@ -197,9 +184,6 @@ module _ (s : Setting) (v : Valid s) where
           let z : receiving s x room c ≡ refused n =
           was-refused n (subst (λ o. Alike s o (receiving s x room c)) e (receiving-alike t x room c (held-same s m t x h k))) in
           subst (λ o. Hears m s (stateAfter x o) (originsAfter r o H)) (sym z) (subst (Hears m s x) (sym (refused-heard H n r)) g)
-
-      go : (u : Setting) → s ≡ u → (x : State u) → Holds m u x → Hears m u x H → Hears m u (stateAfter x (receiving u x room c)) (heard-by u x H room c)
-      go u e = subst (λ y. (x : State y) → Holds m y x → Hears m y x H → Hears m y (stateAfter x (receiving y x room c)) (heard-by y x H room c)) e here
 
   none-later : (j : Joined s) (room : ℕ) (c : Call) (n : ℕ) (y : Joined s) (H : Origins) → answering s j room c ≡ done n y
       → ((i : ℕ) → s .width ≤ i → H (j .base + i) ≡ false) → (i : ℕ) → s .width ≤ i
@@ -212,7 +196,7 @@ module _ (s : Setting) (v : Valid s) where
       ((i : ℕ) → i < s .width → heardIn (s .width) (s .size) m′ ((y .base + i) % s .width)
       ≡ originsAfter {s = s} (reading s (j .base) room c) (done n y) (now-heard m j) (y .base + i))
       → (u : Setting) (x : State u) (H : Origins) → Holds m u x → Hears m u x H → Hears m′ u (stateAfter x (receiving u x room c)) (heard-by u x H room c)
-  heard-done m m′ t room c n y h e d u x H k g = go u (settings-same m t u x h k) x k g
+  heard-done m m′ t room c n y h e d u x H = each-held m t h (λ u x. Hears m u x H → Hears m′ u (stateAfter x (receiving u x room c)) (heard-by u x H room c)) here u x
     where
       here : (x : State s) → Holds m s x → Hears m s x H → Hears m′ s (stateAfter x (receiving s x room c)) (heard-by s x H room c)
       here x k g =
@@ -230,12 +214,9 @@ module _ (s : Setting) (v : Valid s) where
           (origins-alike s j i room c (now-heard m j) H found (found-agree m j x (esiOf c) H found g))) in
           subst (λ o. Hears m′ s (stateAfter x o) (originsAfter q o H)) (sym is)
           (record {
-            window = λ b l. ap (heardIn (s .width) (s .size) m′) (sym (going-on (s .width) (y .base) (z .base) b (alike .row))) ∙ d b l ∙ after b;
-            later = none-later i room c n z H is (found-heard m x (esiOf c) H g .later);
+            window = λ b l. ap (heardIn (s .width) (s .size) m′) (sym (on (s .width) (y .base) (z .base) b (alike .row))) ∙ d b l ∙ after b;
+            later = none-later i room c n z H is (found-hears m s x (esiOf c) H g .later);
           })
-
-      go : (u : Setting) → s ≡ u → (x : State u) → Holds m u x → Hears m u x H → Hears m′ u (stateAfter x (receiving u x room c)) (heard-by u x H room c)
-      go u e = subst (λ y. (x : State y) → Holds m y x → Hears m y x H → Hears m′ y (stateAfter x (receiving y x room c)) (heard-by y x H room c)) e here
 
   contained : (m m′ w : List ℕ) (t : State s) → Holds m s t → Contained (memorySize s) m m′ → (h : Header) → headerIn m ≡ some h
       → Contained (memorySize (h .setting)) m m′ × Contained (workingSize (h .setting)) w w
