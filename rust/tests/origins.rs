@@ -99,15 +99,17 @@ fn solved_first_and_heard_later() {
     });
 }
 
-/// A source packet that is refused counts for nothing, whether it names the position (11, 4) or another (8, 9).
+/// A source packet that is refused counts for nothing, whether it names the position (11, 4, and 8 where the window has room for its two
+/// symbols) or another (9).
 #[test]
 fn refused_packets_are_not_heard() {
     each(&[1, 2, 3, 255], |fed, first| {
+        let two = fed.receivers.setting().width.min(2);
         let refused = [
             (FLOW, source_packet(&[!(first as u8)], first), 11),
             (FLOW + 1, source(first), 11),
             (FLOW, source_packet(&vec![first as u8; 4 * fed.receivers.setting().width - 2], first), 4),
-            (FLOW, source(first + (1 << 32) - 1), 8),
+            (FLOW, source_packet(&vec![first as u8; two], first + (1 << 32) - 1), 8),
             (FLOW, source(first + 65_536), 9),
         ];
         assert_eq!(fed.mend(first..first + 1), Ok(1));

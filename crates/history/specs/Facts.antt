@@ -243,9 +243,9 @@ pub origins :
     ∷ heard (gf2 2) (combines 0 15 2 0 (zeros 4) ∷ adu 0 0 0 0 1 ∷ [])
     ∷ heard (gf2 2) (adu 0 0 0 0 1 ∷ adu 0 0 0 0 1 ∷ [])
     ∷ heard (gf2 2) (combines 0 15 1 1 (1 ∷ 0 ∷ 2 ∷ 0 ∷ []) ∷ adu 2 0 0 0 1 ∷ [])
-    -- a source packet that is refused with 11, and with 8
+    -- a source packet that is refused with 11; and with 8, though its second symbol is in the window
     ∷ heard (gf2 2) (combines 0 15 1 0 (zeros 4) ∷ adu 0 0 0 0 0 ∷ [])
-    ∷ heard (gf2 2) (combines 0 15 2 1 (zeros 4) ∷ adu 0 0 0 0 0 ∷ combines 0 15 1 1 (zeros 4) ∷ [])
+    ∷ heard (gf2 2) (combines 0 15 2 1 (zeros 4) ∷ adu 2 0 0 0 0 ∷ combines 0 15 1 1 (zeros 4) ∷ [])
     -- the window moves on by one, by its width, and by more, for a repair packet: what comes into the rows of those heard is not
     ∷ heard (gf2 2) (adu 0 0 0 0 0 ∷ adu 0 0 0 0 1 ∷ combines 0 15 1 2 (zeros 4) ∷ [])
     ∷ heard (gf2 2) (adu 2 0 0 0 0 ∷ combines 0 15 1 2 (zeros 4) ∷ combines 0 15 1 3 (zeros 4) ∷ [])
