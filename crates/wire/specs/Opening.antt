@@ -12,15 +12,15 @@ abbrev pub Allowed : (scheme E width : ℕ) → Type 0
 Allowed scheme E width = ((scheme ≡ 9) ⊎ (scheme ≡ 10)) × HaveValues E width
 
 -- the bytes that a sender needs, those that a receiver needs, and those of the working memory that each of its packet calls borrows (document 01; document
--- 02, No. 6: `width` more, and `width` + 1 more)
+-- 02, No. 6: `width` more, and `width` + 1 more; No. 7: 32 more each)
 abbrev pub senderMemory : (E width : ℕ) → ℕ
-senderMemory E width = 32 + width * E
+senderMemory E width = 64 + width * E
 
 abbrev pub receiverMemory : (E width : ℕ) → ℕ
-receiverMemory E width = 64 + width * (width + E + 4) + width
+receiverMemory E width = 96 + width * (width + E + 4) + width
 
 abbrev pub workingMemory : (E width : ℕ) → ℕ
-workingMemory E width = 64 + (width + 1) * (width + E + 4) + (width + 1)
+workingMemory E width = 96 + (width + 1) * (width + E + 4) + (width + 1)
 
 -- the answer of a call that is asked for a size of memory: so many bytes, or refusal 1 where E or width is outside its values
 pub record SizeAnswered (bytes E width : ℕ) (a : Answer) : Type 0 where
