@@ -1,0 +1,2 @@
+-- The modules of the proofs that belong to no one function.
+pub mod Bits
