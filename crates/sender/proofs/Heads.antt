@@ -2,7 +2,7 @@
 -- answers told apart: header-is, header-none; sizes: header-room, area
 -- reading: found, none-short, none-held, none-next, none-setting; opened (record Opened)
 -- refusal 3: holds-header, zeros-unopened, other-unopened, short-unopened
--- writing: part-head, header-kept; counts-chain, counts-held, counts-next, counts-esi, counts-written
+-- writing: part-head, header-kept, flows-kept; counts-chain, counts-held, counts-next, counts-esi, counts-written, counts-flows
 use Rattle.words.specs.Words.{_≡_, arith, ℕ, _≤_, _+_, List, length, _<_, refl, _∙_, sym, ap, some, true, none, _*_, false, _++_, Bool, Option, _^_, take, ltb}
 use Rattle.words.specs.Words.{leb, le-leb, _&&_, Option·some-injective, Option·none-ne-some, lt-leb, lt-ltb, zero-add, leb-true, le-ltb, ltb-true, length-take}
 use Rattle.words.specs.Words.{mul-le-mul}
@@ -10,9 +10,10 @@ use lib.Seq.{take-take}
 use Rattle.memory.specs.Part.{part, splice}
 use Rattle.memory.specs.Number.{number, bytes}
 use Rattle.memory.proofs.Number.{number-bytes}
-use Rattle.memory.proofs.Parts.{length-splice, take-splice, part-within, part-part, splice-next}
+use Rattle.memory.proofs.Parts.{length-splice, take-splice, part-within, part-past, part-part, splice-next}
 use Rattle.wire.specs.declared.Setting.{Setting}
 use Rattle.wire.specs.Packets.{zeros}
+use Rattle.wire.specs.Flows.{flowsIn}
 use Rattle.wire.specs.Settings.{Valid}
 use Rattle.wire.specs.Stored.{settingIn}
 use Rattle.wire.proofs.Settings.{both, setting-found, setting-kept, zeros-none, one-kind}
@@ -34,8 +35,8 @@ header-none (some x) e f = cc
 
 -- ---- sizes
 
--- the numbers of the header lie in it
-pub header-room : 16 ≤ headerSize
+-- the numbers of the header and the flows lie in it
+pub header-room : 64 ≤ headerSize
 unfolding headerSize
 header-room = omega arith
 
@@ -153,6 +154,11 @@ header-kept m m′ h e l o =
     let next : number (part 10 2 m′) ≡ h .next = ap (λ (k : Header). k .next) i in
     found m′ (h .setting) (s ∙ a .setting) (rw l (a .room)) (rw held (a .held)) (rw next (a .next)) ∙ ap some i
 
+-- and so are the flows
+pub flows-kept : (m m′ : List ℕ) → take headerSize m′ ≡ take headerSize m → flowsIn m′ ≡ flowsIn m
+unfolding flowsIn
+flows-kept m m′ e = part-head 32 32 m′ m header-room e
+
 module _ (held next esi : ℕ) where
   -- stores of the numbers one after the other
   pub counts-chain : {m₁ m₂ m₃ : List ℕ} (m : List ℕ) → 8 ≤ length m
@@ -186,3 +192,8 @@ counts-written m t held next esi e v room a b c =
     let y : number (part 10 2 m′) ≡ next = ap number (part-within 8 2 2 counts m (omega arith) (omega arith)) ∙ counts-next held next esi (omega arith) in
     let z : number (part 12 4 m′) ≡ esi = ap number (part-within 8 4 4 counts m (omega arith) (omega arith)) ∙ counts-esi held next esi c in
     rw (x, y, z) at (found m′ t s (rw (length-splice 8 counts m (omega arith)) room) (rw x a) (rw y b))
+
+-- which leaves the flows
+pub counts-flows : (held next esi : ℕ) (m : List ℕ) → 8 ≤ length m → flowsIn (splice 8 (countBytes held next esi) m) ≡ flowsIn m
+unfolding flowsIn
+counts-flows held next esi m h = part-past 32 32 8 (countBytes held next esi) m (omega arith) h

@@ -2,10 +2,10 @@
 -- Index
 --   fits-few, few-fits: an ADU fits the symbols of the window exactly when it needs no more
 --   adds-judged, key-is, repairs-judged
---   sender-judged: every list of calls
+--   sender-judged, announced-only: every list of calls
 --   opening-judged: every opening
 use Rattle.words.specs.Words.{_≡_, arith, ℕ, _≤_, _+_, List, length, _<_, refl, _∙_, sym, ap, [], some, _∷_, true, none, _*_, false, Bool, Option, subst}
-use Rattle.words.specs.Words.{drop, ltb, length-drop, _||_, not, lt-ltb, le-ltb, _⊎_, inl, inr, suc-mul, mul-le-mul-right}
+use Rattle.words.specs.Words.{drop, ltb, length-drop, _||_, not, lt-ltb, le-ltb, _⊎_, inl, inr, suc-mul, mul-le-mul-right, eq-eqb, ne-eqb, ℕ-discrete}
 use Rattle.memory.specs.Part.{splice}
 use Rattle.wire.specs.declared.Scheme.{Scheme}
 use Rattle.wire.specs.declared.Scheme.the-variants.{Gf2, Gf256}
@@ -13,6 +13,8 @@ use Rattle.wire.specs.declared.Setting.{Setting}
 use Rattle.wire.specs.Numbers.{within}
 use Rattle.wire.specs.Settings.{schemeNumber, schemeOf, inRange, settingOf, Valid}
 use Rattle.wire.specs.Packets.{symbolCount}
+use Rattle.wire.specs.Flows.{Announced, announced}
+use Rattle.wire.proofs.Flows.{announced-exactly, announced-not}
 use Rattle.wire.proofs.Adui.{room, least}
 use Rattle.wire.proofs.Settings.{within-true, within-bounds}
 use Rattle.wire.proofs.Opening.{allowed-setting, setting-none}
@@ -28,7 +30,8 @@ use Rattle.sender.specs.Promises.{answerOf, drawsIn, DoneWith, Follows, 
 use Rattle.sender.specs.Run.{SenderCall, added, repaired, Calls, memoryAfter, symbolsOf}
 use Rattle.sender.specs.Judged.{Refuses, Writes, Ranged, Takeable, AduJudged, keyIn, keysIn, covered, older, packetOf, RepairJudged, CallJudged}
 use Rattle.sender.specs.Judged.{Opening-judged, Sender-judged}
-use Rattle.sender.proofs.Promising.{opening-values, opening-short, opening-done, adding-long, adding-many, adding-short, adding-done}
+use Rattle.sender.specs.Claims.{Announced-only}
+use Rattle.sender.proofs.Promising.{opening-values, opening-short, opening-done, adding-stray, adding-long, adding-many, adding-short, adding-done}
 use Rattle.sender.proofs.Repairing.{repairing-range, repairing-empty, repairing-short, repairing-draws, repairing-done}
 use Rattle.sender.proofs.Combining.{symbols-of}
 use Rattle.sender.proofs.Ring.{below}
@@ -52,7 +55,6 @@ not-so : (b : Bool) → ¬ (b ≡ true) → b ≡ false
 not-so true n = absurd (n refl)
 not-so false n = refl
 
--- DT and count
 passes-range : (dt count : ℕ) → Ranged dt count → (ltb 15 dt || not (within 1 16 count)) ≡ false
 passes-range dt count k = rw (le-ltb 15 dt (k .0), within-true 1 16 count (k .1) (k .2))
 
@@ -74,25 +76,26 @@ writes : (packet : List ℕ) (s : Sender) (m m′ out out′ : List ℕ) (r : An
 unfolding splice
 writes packet s m m′ out out′ r g = record { answer = g .answer; output = g .output }
 
-module _ (t : Setting) (v : Valid t) (xs : List (List ℕ)) where
+module _ (t : Setting) (v : Valid t) (flows : List ℕ) (xs : List (List ℕ)) where
   abbrev holding : Sender
-  holding = record { setting = t; symbols = xs }
+  holding = record { setting = t; flows = flows; symbols = xs }
 
   -- ---- adding an ADU
 
   adds-judged : (flow : ℕ) (adu m out : List ℕ) (r : Answer) (m′ out′ : List ℕ) → Holds m holding → Adds flow adu m out r m′ out′
-      → AduJudged t xs m adu out (said r) m′ out′
+      → AduJudged t flows xs m flow adu out (said r) m′ out′
   unfolding headerSize
   adds-judged flow adu m out r m′ out′ h p =
       let o = adding holding flow adu (length out) in
       let f = p .follows holding h in
       record {
-        long = λ n. refuses 4 o m m′ out out′ r (too-long n) f;
-        short = λ k l.
+        stray = λ n. refuses 16 o m m′ out out′ r (adding-stray flow adu (length out) holding (announced-not flows flow n)) f;
+        long = λ a n. refuses 4 o m m′ out out′ r (too-long (is-announced a) n) f;
+        short = λ a k l.
             refuses 2 o m m′ out out′ r
-            (adding-short flow adu (length out) holding (headerOf holding) refl (omega (arith, k .0)) (omega (arith, few k)) l) f;
-        takes = λ k l.
-            let e = adding-done flow adu (length out) holding (headerOf holding) refl (omega (arith, k .0)) (omega (arith, few k)) l in
+            (adding-short flow adu (length out) holding (is-announced a) (headerOf holding) refl (omega (arith, k .0)) (omega (arith, few k)) l) f;
+        takes = λ a k l.
+            let e = adding-done flow adu (length out) holding (is-announced a) (headerOf holding) refl (omega (arith, k .0)) (omega (arith, few k)) l in
             let g = subst (λ x. Follows x m out r m′ out′) e f in
             (writes _ _ m m′ out out′ r g, record { same = g .length; past = g .past });
       }
@@ -103,11 +106,14 @@ module _ (t : Setting) (v : Valid t) (xs : List (List ℕ)) where
       few : Takeable t adu → symbolCount (t .size) (length adu) ≤ t .width
       few k = fits-few (t .size) (t .width) (length adu) z (k .1)
 
-      too-long : ¬ Takeable t adu → adding holding flow adu (length out) ≡ refused 4
-      too-long n =
-          below 65535 (length adu) (λ l. adding-long flow adu (length out) holding (omega arith))
+      is-announced : Announced flows flow → announced flows flow ≡ true
+      is-announced = announced-exactly flows flow .1
+
+      too-long : announced flows flow ≡ true → ¬ Takeable t adu → adding holding flow adu (length out) ≡ refused 4
+      too-long a n =
+          below 65535 (length adu) (λ l. adding-long flow adu (length out) holding a (omega arith))
           (λ l. below (t .width) (symbolCount (t .size) (length adu))
-          (λ k. adding-many flow adu (length out) holding (headerOf holding) refl (omega arith) (omega arith))
+          (λ k. adding-many flow adu (length out) holding a (headerOf holding) refl (omega arith) (omega arith))
           (λ k. absurd (n (l, few-fits (t .size) (t .width) (length adu) z k))))
 
   -- ---- making repair
@@ -170,28 +176,35 @@ module _ (t : Setting) (v : Valid t) (xs : List (List ℕ)) where
 
 -- ---- every list of calls
 
-call-judged : (t : Setting) (v : Valid t) (xs : List (List ℕ)) (m : List ℕ) (c : SenderCall) (l : List SenderCall)
-    → Holds m (record { setting = t; symbols = xs }) → Calls m (c ∷ l) → CallJudged t xs m c
-call-judged t v xs m (added flow adu out r m′ out′) l h (f, b, p, c) = adds-judged t v xs flow adu m out r m′ out′ h p
-call-judged t v xs m (repaired key dt count out r out′) l h (k, p, c) = repairs-judged t v xs key dt count m out r out′ h p
+call-judged : (t : Setting) (v : Valid t) (flows : List ℕ) (xs : List (List ℕ)) (m : List ℕ) (c : SenderCall) (l : List SenderCall)
+    → Holds m (record { setting = t; flows = flows; symbols = xs }) → Calls m (c ∷ l) → CallJudged t flows xs m c
+call-judged t v flows xs m (added flow adu out r m′ out′) l h (f, b, p, c) = adds-judged t v flows xs flow adu m out r m′ out′ h p
+call-judged t v flows xs m (repaired key dt count out r out′) l h (k, p, c) = repairs-judged t v flows xs key dt count m out r out′ h p
 
 pub sender-judged : Sender-judged
 sender-judged t l r before c after e =
-    let (h, d) = ran t [] (r .after) before (c ∷ after) (run-holds t l r) (rw e at (r .calls)) in
-    call-judged t (run-valid t l r) (symbolsOf (t .size) before) (memoryAfter (r .after) before) c after h d
+    let (h, d) = ran t (r .flows) [] (r .after) before (c ∷ after) (run-holds t l r) (rw e at (r .calls)) in
+    call-judged t (run-valid t l r) (r .flows) (symbolsOf (t .size) before) (memoryAfter (r .after) before) c after h d
+
+pub announced-only : Announced-only
+announced-only t l r before flow adu out n m′ out′ after e = go (ℕ-discrete _ 1)
+  where
+    go : Dec (Announced (r .flows) flow) → Announced (r .flows) flow
+    go (yes a) = a
+    go (no x) = absurd (impossible n 16 (sender-judged t l r before _ after e .stray x .answer))
 
 -- ---- opening
 
 pub opening-judged : Opening-judged
 unfolding headerSize
-opening-judged scheme E width m r m′ f =
-    let o = opening scheme E width (length m) in
+opening-judged scheme E width flows m r m′ f =
+    let o = opening scheme E width flows (length m) in
     record {
-      values = λ n. let x = refuses 1 o m m′ [] [] r (opening-values scheme E width m (setting-none scheme E width n)) f in (x .answer, x .memory);
+      values = λ n. let x = refuses 1 o m m′ [] [] r (opening-values scheme E width flows m (setting-none scheme E width n)) f in (x .answer, x .memory);
       short = λ k l.
-          let x = refuses 2 o m m′ [] [] r (opening-short scheme E width m _ (allowed-setting scheme E width k) l) f in
+          let x = refuses 2 o m m′ [] [] r (opening-short scheme E width flows m _ (allowed-setting scheme E width k) l) f in
           (x .answer, x .memory);
       opens = λ k l.
-          let g = subst (λ x. Follows x m [] r m′ []) (opening-done scheme E width m _ (allowed-setting scheme E width k) l) f in
+          let g = subst (λ x. Follows x m [] r m′ []) (opening-done scheme E width flows m _ (allowed-setting scheme E width k) l) f in
           (g .answer, record { same = g .length; past = g .past });
     }

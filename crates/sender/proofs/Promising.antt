@@ -1,5 +1,5 @@
 -- From the case that a call came to, to what it promises.
-use Rattle.words.specs.Words.{_≡_, arith, ℕ, _≤_, _+_, List, length, _<_, refl, _∙_, sym, ap, [], some, none, subst, drop, Option·some-injective}
+use Rattle.words.specs.Words.{_≡_, arith, ℕ, _≤_, _+_, List, length, _<_, refl, _∙_, sym, ap, [], some, true, none, false, subst, drop, Option·some-injective}
 use Rattle.words.specs.Words.{Option·none-ne-some, lt-ltb, le-ltb}
 use Rattle.memory.specs.Part.{splice}
 use Rattle.memory.proofs.Parts.{length-splice, past-splice}
@@ -8,6 +8,7 @@ use Rattle.wire.specs.declared.Setting.{Setting}
 use Rattle.wire.specs.Numbers.{numberOf}
 use Rattle.wire.specs.Answers.{value}
 use Rattle.wire.specs.Settings.{settingOf}
+use Rattle.wire.specs.Flows.{announced}
 use Rattle.wire.specs.Packets.{longestAdu, symbolCount, sourcePacket}
 use Rattle.wire.specs.declared.Answer.{Answer}
 use Rattle.wire.specs.declared.Answer.the-variants.{Done, Refused}
@@ -72,43 +73,48 @@ module _ (f : Sender → Outcome) (m out : List ℕ) where
 
 -- ---- opening
 
-module _ (scheme size width : ℕ) (m : List ℕ) where
-  pub opening-values : settingOf scheme size width ≡ none → opening scheme size width (length m) ≡ refused 1
+module _ (scheme size width : ℕ) (flows m : List ℕ) where
+  pub opening-values : settingOf scheme size width ≡ none → opening scheme size width flows (length m) ≡ refused 1
   unfolding opening
   opening-values e = rw e
 
   module _ (t : Setting) (e : settingOf scheme size width ≡ some t) where
-    pub opening-short : length m < memorySize t → opening scheme size width (length m) ≡ refused 2
+    pub opening-short : length m < memorySize t → opening scheme size width flows (length m) ≡ refused 2
     unfolding opening
     opening-short k = rw (e, lt-ltb (length m) (memorySize t) k)
 
-    pub opening-done : memorySize t ≤ length m → opening scheme size width (length m) ≡ done [] (fresh t)
+    pub opening-done : memorySize t ≤ length m → opening scheme size width flows (length m) ≡ done [] (fresh t flows)
     unfolding opening
     opening-done k = rw (e, le-ltb (length m) (memorySize t) k)
 
 -- ---- adding an ADU, by what the header says
 
 module _ (flow : ℕ) (adu : List ℕ) (room : ℕ) (s : Sender) where
-  pub adding-long : longestAdu < length adu → adding s flow adu room ≡ refused 4
+  pub adding-stray : announced (s .flows) flow ≡ false → adding s flow adu room ≡ refused 16
   unfolding adding
-  adding-long l = rw (lt-ltb longestAdu (length adu) l)
+  adding-stray f = rw f
 
-  module _ (h : Header) (q : h ≡ headerOf s) (l : length adu ≤ longestAdu) where
-    t : h .setting ≡ s .setting
-    t = ap (λ (x : Header). x .setting) q
-
-    abbrev count : ℕ
-    count = symbolCount (s .setting .size) (length adu)
-
-    pub adding-many : h .setting .width < symbolCount (h .setting .size) (length adu) → adding s flow adu room ≡ refused 4
+  module _ (f : announced (s .flows) flow ≡ true) where
+    pub adding-long : longestAdu < length adu → adding s flow adu room ≡ refused 4
     unfolding adding
-    adding-many k = rw (le-ltb longestAdu (length adu) l, lt-ltb (s .setting .width) count (rw t at k))
+    adding-long l = rw (f, lt-ltb longestAdu (length adu) l)
 
-    module _ (n : symbolCount (h .setting .size) (length adu) ≤ h .setting .width) where
-      pub adding-short : room < length adu + 4 → adding s flow adu room ≡ refused 2
-      unfolding adding
-      adding-short k = rw (le-ltb longestAdu (length adu) l, le-ltb (s .setting .width) count (rw t at n), lt-ltb room (length adu + 4) k)
+    module _ (h : Header) (q : h ≡ headerOf s) (l : length adu ≤ longestAdu) where
+      t : h .setting ≡ s .setting
+      t = ap (λ (x : Header). x .setting) q
 
-      pub adding-done : length adu + 4 ≤ room → adding s flow adu room ≡ done (sourcePacket adu (h .esi .0)) (taken s flow adu)
+      abbrev count : ℕ
+      count = symbolCount (s .setting .size) (length adu)
+
+      pub adding-many : h .setting .width < symbolCount (h .setting .size) (length adu) → adding s flow adu room ≡ refused 4
       unfolding adding
-      adding-done k = rw (le-ltb longestAdu (length adu) l, le-ltb (s .setting .width) count (rw t at n), le-ltb room (length adu + 4) k, q)
+      adding-many k = rw (f, le-ltb longestAdu (length adu) l, lt-ltb (s .setting .width) count (rw t at k))
+
+      module _ (n : symbolCount (h .setting .size) (length adu) ≤ h .setting .width) where
+        pub adding-short : room < length adu + 4 → adding s flow adu room ≡ refused 2
+        unfolding adding
+        adding-short k = rw (f, le-ltb longestAdu (length adu) l, le-ltb (s .setting .width) count (rw t at n), lt-ltb room (length adu + 4) k)
+
+        pub adding-done : length adu + 4 ≤ room → adding s flow adu room ≡ done (sourcePacket adu (h .esi .0)) (taken s flow adu)
+        unfolding adding
+        adding-done k = rw (f, le-ltb longestAdu (length adu) l, le-ltb (s .setting .width) count (rw t at n), le-ltb room (length adu + 4) k, q)

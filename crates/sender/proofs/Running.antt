@@ -1,8 +1,9 @@
 -- What a sender's memory holds after every list of its calls.
 use Rattle.words.specs.Words.{_≡_, arith, ℕ, _+_, List, length, refl, _∙_, sym, ap, [], some, _∷_, true, none, false, _++_, Bool, Option, ltb, append-assoc}
-use Rattle.words.specs.Words.{append-nil, _||_}
+use Rattle.words.specs.Words.{append-nil, _||_, not}
 use Rattle.wire.specs.declared.Setting.{Setting}
 use Rattle.wire.specs.Settings.{schemeNumber, Valid, settingOf}
+use Rattle.wire.specs.Flows.{announced}
 use Rattle.wire.specs.Packets.{longestAdu, symbolCount, sourceSymbols}
 use Rattle.wire.proofs.Settings.{setting-named, setting-names}
 use Rattle.wire.specs.declared.Answer.{Answer}
@@ -34,9 +35,9 @@ symbols-append E (added flow adu out (Done n) m′ out′ ∷ k) l =
 symbols-append E (added flow adu out (Refused n) m′ out′ ∷ k) l = symbols-append E k l
 symbols-append E (repaired key dt count out r out′ ∷ k) l = symbols-append E k l
 
-module _ (t : Setting) where
+module _ (t : Setting) (flows : List ℕ) where
   abbrev holding : List (List ℕ) → Sender
-  holding xs = record { setting = t; symbols = xs }
+  holding xs = record { setting = t; flows = flows; symbols = xs }
 
   -- an ADU that was taken, and one that was refused
   added-done : (xs : List (List ℕ)) (flow : ℕ) (adu : List ℕ) (n : ℕ) (m out m′ out′ : List ℕ) (o : Outcome) → adding (holding xs) flow adu (length out) ≡ o
@@ -44,7 +45,8 @@ module _ (t : Setting) where
   unfolding adding
   added-done xs flow adu n m out m′ out′ (refused k) e f = absurd (impossible n k (f .answer))
   added-done xs flow adu n m out m′ out′ (done p s) e f =
-      let a = passed (ltb longestAdu (length adu) || ltb (t .width) (symbolCount (t .size) (length adu))) 4 _ p s e in
+      let z = passed (not (announced flows flow)) 16 _ p s e in
+      let a = passed (ltb longestAdu (length adu) || ltb (t .width) (symbolCount (t .size) (length adu))) 4 _ p s (z .1) in
       let b = passed (ltb (length out) (length adu + 4)) 2 _ p s (a .1) in
       let r : taken (holding xs) flow adu ≡ s = cc in
       rw r (f .holds)
@@ -68,13 +70,13 @@ module _ (t : Setting) where
 
 -- ---- the opening
 
-opened-holds : (t : Setting) (m m′ : List ℕ) (r : Answer) (o : Outcome) → opening (schemeNumber (t .scheme)) (t .size) (t .width) (length m) ≡ o
-    → Follows o m [] r m′ [] → said r ≡ value 0 → Holds m′ (fresh t)
+opened-holds : (t : Setting) (flows m m′ : List ℕ) (r : Answer) (o : Outcome) → opening (schemeNumber (t .scheme)) (t .size) (t .width) flows (length m) ≡ o
+    → Follows o m [] r m′ [] → said r ≡ value 0 → Holds m′ (fresh t flows)
 unfolding opening
-opened-holds t m m′ r (refused k) e f a = absurd (impossible 0 k (sym a ∙ f .answer))
-opened-holds t m m′ r (done p s) e f a = go (settingOf (schemeNumber (t .scheme)) (t .size) (t .width)) refl
+opened-holds t flows m m′ r (refused k) e f a = absurd (impossible 0 k (sym a ∙ f .answer))
+opened-holds t flows m m′ r (done p s) e f a = go (settingOf (schemeNumber (t .scheme)) (t .size) (t .width)) refl
   where
-    go : (x : Option Setting) → settingOf (schemeNumber (t .scheme)) (t .size) (t .width) ≡ x → Holds m′ (fresh t)
+    go : (x : Option Setting) → settingOf (schemeNumber (t .scheme)) (t .size) (t .width) ≡ x → Holds m′ (fresh t flows)
     go none q = absurd (let c : refused 1 ≡ done p s = rw q at e in let z : _≡_ {A = ℕ} 0 1 = cc in omega arith)
     go (some u) q =
         let n = setting-names (schemeNumber (t .scheme)) (t .size) (t .width) u q in
@@ -84,18 +86,18 @@ opened-holds t m m′ r (done p s) e f a = go (settingOf (schemeNumber (t .schem
           width-least = omega (arith, n .width, n .valid .width-least);
           width-most = omega (arith, n .width, n .valid .width-most);
         } in
-        let c : refuseIf (ltb (length m) (memorySize t)) 2 (done [] (fresh t)) ≡ done p s = rw (setting-named t v) at e in
-        let d = passed (ltb (length m) (memorySize t)) 2 (done [] (fresh t)) p s c in
-        let g : fresh t ≡ s = cc in
+        let c : refuseIf (ltb (length m) (memorySize t)) 2 (done [] (fresh t flows)) ≡ done p s = rw (setting-named t v) at e in
+        let d = passed (ltb (length m) (memorySize t)) 2 (done [] (fresh t flows)) p s c in
+        let g : fresh t flows ≡ s = cc in
         rw g (f .holds)
 
 module _ (t : Setting) (l : List SenderCall) (r : SenderRun t l) where
-  pub run-holds : Holds (r .after) (fresh t)
-  run-holds = opened-holds t (r .before) (r .after) (r .answer) _ refl (r .opened) (r .answered)
+  pub run-holds : Holds (r .after) (fresh t (r .flows))
+  run-holds = opened-holds t (r .flows) (r .before) (r .after) (r .answer) _ refl (r .opened) (r .answered)
 
   -- and the memory after the calls holds what they took
-  pub run-held : Holds (memoryAfter (r .after) l) (record { setting = t; symbols = symbolsOf (t .size) l })
-  run-held = ran t [] (r .after) l [] run-holds (rw append-nil (r .calls)) .0
+  pub run-held : Holds (memoryAfter (r .after) l) (record { setting = t; flows = r .flows; symbols = symbolsOf (t .size) l })
+  run-held = ran t (r .flows) [] (r .after) l [] run-holds (rw append-nil (r .calls)) .0
 
   pub run-valid : Valid t
-  run-valid = opened (r .after) (headerOf (fresh t)) (run-holds .header) .valid
+  run-valid = opened (r .after) (headerOf (fresh t (r .flows))) (run-holds .header) .valid

@@ -11,7 +11,7 @@ use Rattle.wire.specs.declared.Refusal.{Refusal}
 use Rattle.wire.specs.declared.Refusal.the-variants as refusals
 use Rattle.wire.specs.Numbers.{within, numberOf}
 use Rattle.wire.specs.Settings.{schemeNumber, Valid}
-use Rattle.wire.specs.Stored.{settingBytes}
+use Rattle.wire.specs.Flows.{announced}
 use Rattle.wire.specs.Packets.{longestAdu, symbolCount, sourceSymbols, sourcePacket}
 use Rattle.wire.proofs.Adui.{symbols-count, symbol-length}
 use Rattle.wire.proofs.Reading.{source-length}
@@ -26,16 +26,16 @@ use Rattle.sender.specs.State.{Sender, fresh, taken, headerSize, headerI
 use Rattle.sender.specs.Repair.{writtenKey}
 use Rattle.sender.specs.Calls as calls
 use Rattle.sender.specs.Promises.{Adds, RepairMade}
-use Rattle.sender.specs.Inner.{countBytes, Placed, packetFrom}
+use Rattle.sender.specs.Inner.{Placed, packetFrom}
 use Rattle.sender.specs.Run.{SenderCall, added, repaired, Calls}
 use Rattle.sender.specs.Claims.{Given, given, OfBytes, Runs-exist}
 use Rattle.sender.specs.Claims as claims
 use Rattle.sender.proofs.Heads.{opened}
-use Rattle.sender.proofs.Promising.{promise-refused, promise-done, opening-done, adding-long, adding-many, adding-short, adding-done}
+use Rattle.sender.proofs.Promising.{promise-refused, promise-done, opening-done, adding-stray, adding-long, adding-many, adding-short, adding-done}
 use Rattle.sender.proofs.Repairing.{repairing-range, repairing-empty, repairing-short}
 use Rattle.sender.proofs.Combining.{repair-made, refused-made}
 use Rattle.sender.proofs.Ring.{below, placed-none, placed-more}
-use Rattle.sender.proofs.Taking.{took, opens}
+use Rattle.sender.proofs.Taking.{took, begun, opens}
 
 -- symbols placed one after the other
 placed-all : (E w : ℕ) (m : List ℕ) (first : ℕ) (new : List (List ℕ)) → first < w → headerSize + w * E ≤ length m
@@ -64,20 +64,19 @@ module _ (m : List ℕ) (s : Sender) (held : Holds m s) where
     holds : Holds memory sender
 
   add : (flow : ℕ) (adu out : List ℕ) → Added flow adu out
-  add flow adu out =
-      below longestAdu (length adu) (λ l. refused refusals.Long (λ e. omega arith) (λ u k q. adding-long flow adu (length out) u l))
-      (λ l. below (h .setting .width) (symbolCount (h .setting .size) (length adu))
-      (λ n. refused refusals.Long (λ e. omega arith) (λ u k q. adding-many flow adu (length out) u h q l n))
-      (λ n. below (length out) (length adu + 4)
-      (λ r. refused refusals.Short (λ e. omega arith) (λ u k q. adding-short flow adu (length out) u h q l n r))
-      (λ r. taking l n r)))
+  add flow adu out = go (announced (s .flows) flow) refl
     where
+      -- every sender that the memory holds announces the same
+      same : (b : Bool) → announced (s .flows) flow ≡ b → (u : Sender) → Holds m u → announced (u .flows) flow ≡ b
+      same b e u k = rw (← k .flows, held .flows) e
+
       refused : (n : Refusal) → (numberOf n ≡ 3 → ⊥)
           → ((u : Sender) → Holds m u → h ≡ headerOf u → calls.adding u flow adu (length out) ≡ calls.refused (numberOf n)) → Added flow adu out
       refused n z g = record { answer = Refused n; memory = m; output = out; adds = promise-refused _ m out h o n z g; sender = s; holds = held }
 
-      taking : length adu ≤ longestAdu → symbolCount (h .setting .size) (length adu) ≤ h .setting .width → length adu + 4 ≤ length out → Added flow adu out
-      taking l n r =
+      taking : announced (s .flows) flow ≡ true → length adu ≤ longestAdu → symbolCount (h .setting .size) (length adu) ≤ h .setting .width
+          → length adu + 4 ≤ length out → Added flow adu out
+      taking e l n r =
           let E = h .setting .size in
           let w = h .setting .width in
           let g = opened m h o in
@@ -93,10 +92,20 @@ module _ (m : List ℕ) (s : Sender) (held : Holds m s) where
             memory = _;
             output = splice 0 (sourcePacket adu (h .esi .0)) out;
             adds = promise-done _ m out h o (sourcePacket adu (h .esi .0)) (length adu + 4) _ _ (source-length adu (h .esi .0)) r refl (k .same) (k .past)
-                (λ u i q. (taken u flow adu, adding-done flow adu (length out) u h q l n r, k .holds u i, ap (λ (x : Header). x .setting) q));
+                (λ u i q. (taken u flow adu, adding-done flow adu (length out) u (same true e u i) h q l n r, k .holds u i, ap (λ (x : Header). x .setting) q));
             sender = taken s flow adu;
             holds = k .holds s held;
           }
+
+      go : (b : Bool) → announced (s .flows) flow ≡ b → Added flow adu out
+      go false e = refused refusals.Unannounced (λ z. omega arith) (λ u k q. adding-stray flow adu (length out) u (same false e u k))
+      go true e =
+          below longestAdu (length adu) (λ l. refused refusals.Long (λ z. omega arith) (λ u k q. adding-long flow adu (length out) u (same true e u k) l))
+          (λ l. below (h .setting .width) (symbolCount (h .setting .size) (length adu))
+          (λ n. refused refusals.Long (λ z. omega arith) (λ u k q. adding-many flow adu (length out) u (same true e u k) h q l n))
+          (λ n. below (length out) (length adu + 4)
+          (λ r. refused refusals.Short (λ z. omega arith) (λ u k q. adding-short flow adu (length out) u (same true e u k) h q l n r))
+          (λ r. taking e l n r)))
 
   -- making repair
   record Repaired (key dt count : ℕ) (out : List ℕ) : Type 0 where
@@ -149,20 +158,22 @@ runs (claims.repairing key dt count out ∷ gs) (k, b) m s h =
 
 pub runs-exist : Runs-exist
 unfolding headerSize
-runs-exist t k m room gs b =
+runs-exist t k flows f m room gs b =
     let v : Valid t = let (e, e′, w, w′) = k .1 in record { size-least = e; size-most = e′; width-least = w; width-most = w′ } in
-    let d = opens t m v room in
-    let m′ = splice 8 (countBytes 0 0 0) (splice 0 (settingBytes 1 t) m) in
-    let (l, c, e) = runs gs b m′ (fresh t) (d .holds) in (
+    let d = opens t flows m f v room in
+    let m′ = begun t flows m in
+    let (l, c, e) = runs gs b m′ (fresh t flows) (d .holds) in (
       l,
       record {
+        flows = flows;
         before = m;
         after = m′;
         answer = Done 0;
-        opened = rw (opening-done (schemeNumber (t .scheme)) (t .size) (t .width) m t (setting-named t v) room) d;
+        opened = rw (opening-done (schemeNumber (t .scheme)) (t .size) (t .width) flows m t (setting-named t v) room) d;
         answered = refl;
         calls = c;
       },
+      refl,
       refl,
       e,
     )

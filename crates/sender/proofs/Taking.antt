@@ -4,20 +4,21 @@ use Rattle.words.specs.Words.{length-append, not-suc-le-zero, mod-add-mod, leng
 use native.Mathlib.Nat.{zero-mod}
 use lib.Seq.{drop-nil}
 use Rattle.memory.specs.Part.{part, splice}
-use Rattle.memory.proofs.Parts.{part-drop, length-splice, past-splice}
+use Rattle.memory.proofs.Parts.{part-drop, part-splice, length-splice, take-splice, past-splice}
 use Rattle.wire.specs.declared.Setting.{Setting}
 use Rattle.wire.specs.Settings.{Valid}
-use Rattle.wire.specs.Stored.{settingBytes}
+use Rattle.wire.specs.Stored.{settingIn, settingBytes}
+use Rattle.wire.specs.Flows.{flowsIn}
 use Rattle.wire.specs.Inner.{esiAfter}
 use Rattle.wire.specs.Packets.{symbolCount, sourceSymbols}
 use Rattle.wire.proofs.Adui.{symbols-count}
-use Rattle.wire.proofs.Settings.{setting-written}
+use Rattle.wire.proofs.Settings.{setting-written, setting-kept}
 use Rattle.sender.specs.declared.Header.{Header}
 use Rattle.wire.specs.declared.Answer.the-variants.{Done}
 use Rattle.sender.specs.State.{Sender, window, windowStart, fresh, taken, headerSize, memorySize, headerIn, headerOf}
 use Rattle.sender.specs.Promises.{DoneWith}
 use Rattle.sender.specs.Inner.{countBytes, Placed, Took}
-use Rattle.sender.proofs.Heads.{header-room, opened, header-kept, counts-written}
+use Rattle.sender.proofs.Heads.{header-room, opened, header-kept, flows-kept, counts-written, counts-flows}
 
 -- the number of symbols in the window
 pub held-is : (s : Sender) → length (window s) ≡ min (length (s .symbols)) (s .setting .width)
@@ -72,6 +73,7 @@ took h flow adu m m₁ next count held o ec eh p =
           let p′ = rw q at p in
           record {
             header = e ∙ ap some (rw (ec, q) (sym (taken-header s flow adu held next (rw (ec, q) at eh) (p′ .slot (s .symbols) refl))));
+            flows = counts-flows held next esi m₁ (omega arith) ∙ flows-kept m m₁ (p .head) ∙ k .flows;
             slots = λ i a b.
                 behind m₁ m₂ (counts-past headerSize held next esi m₁ (omega arith) (omega arith)) (i % s .setting .width * s .setting .size) (s .setting .size)
                 ∙ p′ .slots (s .symbols) refl (k .slots) i a b;
@@ -84,22 +86,34 @@ nothing : _≡_ {A = List ℕ} [] (splice 0 [] [])
 unfolding splice
 nothing = refl
 
--- the header of a fresh sender was written
-pub opens : (t : Setting) (m : List ℕ) → Valid t → memorySize t ≤ length m
-    → DoneWith [] (fresh t) m [] (Done 0) (splice 8 (countBytes 0 0 0) (splice 0 (settingBytes 1 t) m)) []
-unfolding settingBytes
-opens t m v room =
+-- the memory with the header of a fresh sender
+abbrev pub begun : (t : Setting) (flows m : List ℕ) → List ℕ
+begun t flows m = splice 8 (countBytes 0 0 0) (splice 32 flows (splice 0 (settingBytes 1 t) m))
+
+pub opens : (t : Setting) (flows m : List ℕ) → length flows ≡ 32 → Valid t → memorySize t ≤ length m
+    → DoneWith [] (fresh t flows) m [] (Done 0) (begun t flows m) []
+unfolding settingBytes flowsIn
+opens t flows m f v room =
     let least = header-room in
     let m₁ = splice 0 (settingBytes 1 t) m in
+    let m₂ = splice 32 flows m₁ in
     let l : length m₁ ≡ length m = length-splice 0 (settingBytes 1 t) m (omega arith) in
-    let e = counts-written m₁ t 0 0 0 (setting-written 1 t m (omega arith) v) v (rw l room) (omega arith) (omega arith) (lit< tt) in
+    let k : length m₂ ≡ length m = length-splice 32 flows m₁ (omega arith) ∙ l in
+    let s : settingIn 1 m₂ ≡ some t =
+    setting-kept 1 m₂ m₁ (take-splice 8 32 flows m₁ (omega arith) (omega arith)) ∙ setting-written 1 t m (omega arith) v in
+    let e = counts-written m₂ t 0 0 0 s v (rw k room) (omega arith) (omega arith) (lit< tt) in
     record {
       answer = refl;
       output = nothing;
-      holds = record { header = e ∙ ap some first; slots = λ p k. absurd (not-suc-le-zero k) };
-      length = length-splice 8 (countBytes 0 0 0) m₁ (omega arith) ∙ l;
-      past = counts-past (memorySize t) 0 0 0 m₁ (omega arith) (omega arith) ∙ past-splice (memorySize t) 0 (settingBytes 1 t) m (omega arith) (omega arith);
+      holds = record {
+        header = e ∙ ap some first;
+        flows = counts-flows 0 0 0 m₂ (omega arith) ∙ rw f at (part-splice 32 flows m₁ (omega arith));
+        slots = λ p k. absurd (not-suc-le-zero k);
+      };
+      length = length-splice 8 (countBytes 0 0 0) m₂ (omega arith) ∙ k;
+      past = counts-past (memorySize t) 0 0 0 m₂ (omega arith) (omega arith) ∙ past-splice (memorySize t) 32 flows m₁ (omega arith) (omega arith)
+          ∙ past-splice (memorySize t) 0 (settingBytes 1 t) m (omega arith) (omega arith);
     }
   where
-    first : record { setting = t; held = 0; next = 0; esi = record { 0 = 0 } } ≡ headerOf (fresh t)
+    first : record { setting = t; held = 0; next = 0; esi = record { 0 = 0 } } ≡ headerOf (fresh t flows)
     first = rw (zero-mod (t .width), drop-nil {A = List ℕ} (0 - t .width))

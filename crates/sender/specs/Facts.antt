@@ -1,12 +1,13 @@
--- Computed from the definitions of the calls: refusals in their order, the limits of memory and of ADUs, the keys and density thresholds that are written,
--- and windows that have lost symbols: one table, one result.
-use Rattle.words.specs.Words.{_≡_, ℕ, List, length, refl, [], _∷_, getD, map}
+-- Computed from the definitions of the calls: refusals in their order, the limits of memory and of ADUs, flows that are announced and not, the keys and
+-- density thresholds that are written, and windows that have lost symbols: one table, one result.
+use Rattle.words.specs.Words.{_≡_, ℕ, List, length, refl, _-_, [], _∷_, getD, _++_, replicate, map}
 use Rattle.tinymt.specs.Computing.{computing}
 use Rattle.field.specs.Gf256.{product}
 use Rattle.memory.specs.Part.{part}
 use Rattle.rows.specs.Combination.{combination}
 use Rattle.wire.specs.declared.Scheme.the-variants.{Gf2}
 use Rattle.wire.specs.Settings.{inRange, settingOf}
+use Rattle.wire.specs.Flows.{announced}
 use Rattle.wire.specs.Packets.{zeros, symbolCount, adui, sourceSymbols, sourcePacket, repairHeader, repairPacket, densityThreshold}
 use Rattle.coefficients.specs.Coefficients.{nonzeroFrom, bitOf, byteOf, extend, coefficientsOf}
 use Rattle.sender.specs.State.{Sender, fresh, headerSize}
@@ -29,12 +30,19 @@ written (refused n) = []
 written (done p s) = p
 
 abbrev after : Outcome → Sender
-after (refused n) = fresh (record { scheme = Gf2; size = 0; width = 0 })
+after (refused n) = fresh (record { scheme = Gf2; size = 0; width = 0 }) []
 after (done p s) = s
+
+-- all flows announced; and those of one byte, the i-th
+abbrev all : List ℕ
+all = replicate 32 255
+
+abbrev only : (i byte : ℕ) → List ℕ
+only i byte = zeros i ++ (byte ∷ zeros (31 - i))
 
 -- a fresh sender of a scheme, E 4 and width 2; and one that took the ADUs of a list, with F 1
 abbrev opened : (scheme : ℕ) → Sender
-opened scheme = after (opening scheme 4 2 40)
+opened scheme = after (opening scheme 4 2 all 72)
 
 abbrev took : (scheme : ℕ) → List (List ℕ) → Sender
 took scheme [] = opened scheme
@@ -58,7 +66,18 @@ all-new = took 9 ((1 ∷ 2 ∷ []) ∷ (0x42 ∷ []) ∷ (0x41 ∷ []) ∷ [])
 
 -- E 1,500 and width 255, the largest
 abbrev largest : Sender
-largest = after (opening 10 1500 255 382532)
+largest = after (opening 10 1500 255 all 382564)
+
+-- one that announces the flows of one byte; and the refusals, 0 for none, of an empty ADU of each flow of a list
+abbrev announces : (i byte : ℕ) → Sender
+announces i byte = after (opening 9 4 2 (only i byte) 72)
+
+abbrev number : Outcome → ℕ
+number (refused n) = n
+number (done p s) = 0
+
+abbrev refusals : Sender → List ℕ → Line
+refusals s flows = numbers (map (λ (flow : ℕ). number (adding s flow [] 4)) flows)
 
 -- every density threshold
 abbrev thresholds : List ℕ
@@ -66,8 +85,15 @@ thresholds = 0 ∷ 1 ∷ 2 ∷ 3 ∷ 4 ∷ 5 ∷ 6 ∷ 7 ∷ 8 ∷ 9 ∷ 10 ∷ 
 
 pub calls :
     -- opening: 1 before 2; memory one byte short, and just enough, for the smallest sender and the largest
-    line (opening 8 4 1 0) ∷ line (opening 9 3 1 0) ∷ line (opening 9 4 256 0)
-    ∷ line (opening 9 4 1 35) ∷ line (opening 9 4 1 36) ∷ line (opening 10 1500 255 382531) ∷ line (opening 10 1500 255 382532)
+    line (opening 8 4 1 all 0) ∷ line (opening 9 3 1 all 0) ∷ line (opening 9 4 256 all 0)
+    ∷ line (opening 9 4 1 all 67) ∷ line (opening 9 4 1 all 68) ∷ line (opening 10 1500 255 all 382563) ∷ line (opening 10 1500 255 all 382564)
+    -- an ADU of a flow that is not announced, of a symbol too many, with no output: 16 before 4; with output one byte short: 16 before 2; and of one that is
+    ∷ line (adding (announces 0 1) 1 (zeros 6) 0) ∷ line (adding (announces 0 1) 1 (zeros 5) 8) ∷ line (adding (announces 0 2) 1 (zeros 6) 0)
+    ∷ line (adding (announces 0 2) 1 (zeros 5) 8)
+    -- flows 0, 7, 8 and 255, each announced alone; flows 1 to 6; and none
+    ∷ refusals (announces 0 0x01) (0 ∷ 1 ∷ 7 ∷ 8 ∷ 255 ∷ []) ∷ refusals (announces 0 0x80) (7 ∷ 0 ∷ 6 ∷ 8 ∷ 15 ∷ [])
+    ∷ refusals (announces 1 0x01) (8 ∷ 0 ∷ 7 ∷ 9 ∷ 15 ∷ []) ∷ refusals (announces 31 0x80) (255 ∷ 0 ∷ 7 ∷ 248 ∷ 254 ∷ [])
+    ∷ refusals (announces 0 0x7E) (0 ∷ 1 ∷ 6 ∷ 7 ∷ 8 ∷ []) ∷ refusals (announces 0 0) (0 ∷ 1 ∷ 7 ∷ 8 ∷ 255 ∷ [])
     -- an ADU of a symbol too many with no output: 4 before 2; one that fills the window, with output one byte short, and enough
     ∷ line (adding (opened 9) 1 (zeros 6) 0) ∷ line (adding (opened 9) 1 (zeros 5) 8) ∷ line (adding (opened 9) 1 (zeros 5) 9)
     -- an empty ADU, with output one byte short, and enough
@@ -95,6 +121,10 @@ pub calls :
     ∷ []
     ≡ refusal 1 ∷ refusal 1 ∷ refusal 1
     ∷ refusal 2 ∷ packet [] ∷ refusal 2 ∷ packet []
+    ∷ refusal 16 ∷ refusal 16 ∷ refusal 4 ∷ refusal 2
+    ∷ numbers (0 ∷ 16 ∷ 16 ∷ 16 ∷ 16 ∷ []) ∷ numbers (0 ∷ 16 ∷ 16 ∷ 16 ∷ 16 ∷ [])
+    ∷ numbers (0 ∷ 16 ∷ 16 ∷ 16 ∷ 16 ∷ []) ∷ numbers (0 ∷ 16 ∷ 16 ∷ 16 ∷ 16 ∷ [])
+    ∷ numbers (16 ∷ 0 ∷ 0 ∷ 16 ∷ 16 ∷ []) ∷ numbers (16 ∷ 16 ∷ 16 ∷ 16 ∷ 16 ∷ [])
     ∷ refusal 4 ∷ refusal 2 ∷ packet (zeros 9)
     ∷ refusal 2 ∷ packet (zeros 4)
     ∷ refusal 4 ∷ refusal 2
@@ -114,5 +144,5 @@ pub calls :
 unfolding
     computing product nonzeroFrom bitOf byteOf extend coefficientsOf combination part
     symbolCount adui sourceSymbols sourcePacket repairHeader repairPacket densityThreshold
-    inRange settingOf headerSize repairSymbol opening adding repairing
+    inRange settingOf announced headerSize repairSymbol opening adding repairing
 calls = refl

@@ -1,11 +1,12 @@
--- What a sender has to answer and to write: call by call, from what the call is given and the ADUs taken before it (document 01, "Packets" and "Why a call
--- says no"; RFC 8681, sections 3.3, 4.1.2 and 4.1.3). m, out and a are memory, output and answer; m′ and out′ memory and output afterwards; `taken` are the
--- symbols of the ADUs that the sender took before the call, the oldest first. Each record has the refusals in the order of their tests; 3 has no place here,
--- since the calls follow an opening.
+-- What a sender has to answer and to write: call by call, from what the call is given, the flows announced and the ADUs taken before it (document 01,
+-- "Packets" and "Why a call says no"; document 02, No. 7; RFC 8681, sections 3.3, 4.1.2 and 4.1.3). m, out and a are memory, output and answer; m′ and out′
+-- memory and output afterwards; `flows` are the 32 bytes of the opening; `taken` are the symbols of the ADUs that the sender took before the call, the oldest
+-- first. Each record has the refusals in the order of their tests; 3 has no place here, since the calls follow an opening.
 use Rattle.words.specs.Words.{_≡_, ℕ, _≤_, _+_, List, length, _<_, _-_, [], _%_, _∷_, true, _*_, _++_, drop, _^_, cond, eqb, _&&_, map, min}
 use Rattle.memory.specs.Contained.{Contained}
 use Rattle.wire.specs.declared.Setting.{Setting}
 use Rattle.wire.specs.Settings.{schemeNumber}
+use Rattle.wire.specs.Flows.{Announced}
 use Rattle.wire.specs.Packets.{sourcePacket, repairPacket}
 use Rattle.wire.specs.Answers.{Said, value, refusal, said}
 use Rattle.wire.specs.Opening.{senderMemory, OpeningJudged}
@@ -38,11 +39,12 @@ module _ (t : Setting) where
   abbrev pub Takeable : List ℕ → Type 0
   Takeable adu = (length adu ≤ 65535) × (3 + length adu ≤ width * E)
 
-  -- adding an ADU: refusals 4, 2; its packet has the ESI of its first symbol: the number of symbols taken before, in 32 bits
-  pub record AduJudged (taken : List (List ℕ)) (m adu out : List ℕ) (a : Said) (m′ out′ : List ℕ) : Type 0 where
-    pub long : ¬ Takeable adu → Refuses 4 a m m′ out out′
-    pub short : Takeable adu → length out < length adu + 4 → Refuses 2 a m m′ out out′
-    pub takes : Takeable adu → length adu + 4 ≤ length out
+  -- adding an ADU: refusals 16, 4, 2; its packet has the ESI of its first symbol: the number of symbols taken before, in 32 bits
+  pub record AduJudged (flows : List ℕ) (taken : List (List ℕ)) (m : List ℕ) (flow : ℕ) (adu out : List ℕ) (a : Said) (m′ out′ : List ℕ) : Type 0 where
+    pub stray : ¬ Announced flows flow → Refuses 16 a m m′ out out′
+    pub long : Announced flows flow → ¬ Takeable adu → Refuses 4 a m m′ out out′
+    pub short : Announced flows flow → Takeable adu → length out < length adu + 4 → Refuses 2 a m m′ out out′
+    pub takes : Announced flows flow → Takeable adu → length adu + 4 ≤ length out
         → Writes (sourcePacket adu (length taken % 2 ^ 32)) a out out′ × Contained (senderMemory E width) m m′
 
   -- the key of a repair packet: 0 in scheme 9 with DT 15, else the call's; and the keys of its repair symbols, counting up from there
@@ -76,21 +78,21 @@ module _ (t : Setting) where
         → Writes (packetOf taken key dt count) a out out′ × (draws ≡ drawsOf scheme dt (covered taken) (keysIn key dt count))
 
   -- a call on the memory m; and each call of a list that begins on the memory m, after the calls before it
-  abbrev pub CallJudged : (taken : List (List ℕ)) (m : List ℕ) → SenderCall → Type 0
-  CallJudged taken m (added flow adu out r m′ out′) = AduJudged taken m adu out (said r) m′ out′
-  CallJudged taken m (repaired key dt count out r out′) = RepairJudged taken m key dt count out (said (answerOf r)) (drawsIn r) out′
+  abbrev pub CallJudged : (flows : List ℕ) (taken : List (List ℕ)) (m : List ℕ) → SenderCall → Type 0
+  CallJudged flows taken m (added flow adu out r m′ out′) = AduJudged flows taken m flow adu out (said r) m′ out′
+  CallJudged flows taken m (repaired key dt count out r out′) = RepairJudged taken m key dt count out (said (answerOf r)) (drawsIn r) out′
 
-  abbrev pub CallsJudged : (m : List ℕ) → List SenderCall → Type 0
-  CallsJudged m l =
+  abbrev pub CallsJudged : (flows m : List ℕ) → List SenderCall → Type 0
+  CallsJudged flows m l =
       (before : List SenderCall) (c : SenderCall) (after : List SenderCall) → l ≡ before ++ (c ∷ after)
-      → CallJudged (symbolsOf E before) (memoryAfter m before) c
+      → CallJudged flows (symbolsOf E before) (memoryAfter m before) c
 
 -- every opening of a sender answers and leaves what `OpeningJudged` says
 abbrev pub Opening-judged : Type 0
 Opening-judged =
-    (scheme E width : ℕ) (m : List ℕ) (r : Answer) (m′ : List ℕ) → Opens scheme E width m r m′
+    (scheme E width : ℕ) (flows m : List ℕ) (r : Answer) (m′ : List ℕ) → Opens scheme E width flows m r m′
     → OpeningJudged (senderMemory E width) scheme E width m (said r) m′
 
 -- and every call of every list after an opening that answered 0 what `CallJudged` says
 abbrev pub Sender-judged : Type 0
-Sender-judged = (t : Setting) (l : List SenderCall) (r : SenderRun t l) → CallsJudged t (r .after) l
+Sender-judged = (t : Setting) (l : List SenderCall) (r : SenderRun t l) → CallsJudged t (r .flows) (r .after) l

@@ -56,8 +56,8 @@ pub record Promise (f : Sender → Outcome) (m out : List ℕ) (r : Answer) (m�
 -- ---- each call
 
 -- opening, which has no output
-abbrev pub Opens : (scheme size width : ℕ) (m : List ℕ) (r : Answer) (m′ : List ℕ) → Type 0
-Opens scheme size width m r m′ = Follows (opening scheme size width (length m)) m [] r m′ []
+abbrev pub Opens : (scheme size width : ℕ) (flows m : List ℕ) (r : Answer) (m′ : List ℕ) → Type 0
+Opens scheme size width flows m r m′ = Follows (opening scheme size width flows (length m)) m [] r m′ []
 
 -- adding an ADU
 abbrev pub Adds : (flow : ℕ) (adu m out : List ℕ) (r : Answer) (m′ out′ : List ℕ) → Type 0

@@ -27,12 +27,13 @@ memoryAfter m [] = m
 memoryAfter m (added flow adu out r m′ out′ ∷ l) = memoryAfter m′ l
 memoryAfter m (repaired key dt count out r out′ ∷ l) = memoryAfter m l
 
--- the calls follow an opening that answered 0
+-- the calls follow an opening with these flows that answered 0
 pub record SenderRun (t : Setting) (l : List SenderCall) : Type 0 where
+  pub flows : List ℕ
   pub before : List ℕ
   pub after : List ℕ
   pub answer : Answer
-  pub opened : Opens (schemeNumber (t .scheme)) (t .size) (t .width) before answer after
+  pub opened : Opens (schemeNumber (t .scheme)) (t .size) (t .width) flows before answer after
   pub answered : said answer ≡ value 0
   pub calls : Calls after l
 

@@ -1,16 +1,18 @@
--- What a sender is (document 01, "Packets"; RFC 8681, section 3.3), and how its memory holds it: a header, then a slot of E bytes for each
--- symbol of the window.
+-- What a sender is (document 01, "Packets"; document 02, No. 7; RFC 8681, section 3.3), and how its memory holds it: a header, which keeps the flows, then
+-- a slot of E bytes for each symbol of the window.
 use Rattle.words.specs.Words.{_≡_, ℕ, _≤_, _+_, List, length, _<_, _-_, [], some, _%_, none, _*_, getD, _++_, Option, drop, _^_, cond, ltb, leb, _&&_}
 use Rattle.memory.specs.Part.{part}
 use Rattle.memory.specs.Number.{number}
 use Rattle.wire.specs.declared.Setting.{Setting}
 use Rattle.wire.specs.Stored.{settingIn}
 use Rattle.wire.specs.Packets.{sourceSymbols}
+use Rattle.wire.specs.Flows.{flowsIn}
 use Rattle.sender.specs.declared.Header.{Header}
 
--- a sender: its setting, and the source symbols of all ADUs that it took, the oldest first
+-- a sender: its setting, the flows that it announces, in 32 bytes, and the source symbols of all ADUs that it took, the oldest first
 pub record Sender : Type 0 where
   pub setting : Setting
+  pub flows : List ℕ
   pub symbols : List (List ℕ)
 
 -- the position of the window's first symbol: how many symbols have left the window
@@ -22,18 +24,18 @@ abbrev pub window : Sender → List (List ℕ)
 window s = drop (windowStart s) (s .symbols)
 
 -- a sender that took nothing
-abbrev pub fresh : Setting → Sender
-fresh t = record { setting = t; symbols = [] }
+abbrev pub fresh : Setting → (flows : List ℕ) → Sender
+fresh t flows = record { setting = t; flows = flows; symbols = [] }
 
 -- the sender after taking an ADU of a flow: its symbols join those before
 abbrev pub taken : Sender → ℕ → List ℕ → Sender
-taken s flow adu = record { setting = s .setting; symbols = s .symbols ++ sourceSymbols flow adu (s .setting .size) }
+taken s flow adu = record { setting = s .setting; flows = s .flows; symbols = s .symbols ++ sourceSymbols flow adu (s .setting .size) }
 
 -- ---- the memory
 
 -- the bytes of the header
 unfoldable pub headerSize : ℕ
-headerSize = 32
+headerSize = 64
 
 -- the bytes of memory that a sender needs
 abbrev pub memorySize : Setting → ℕ
@@ -69,4 +71,5 @@ InSlots size width m symbols =
 -- the memory m holds the sender s
 pub record Holds (m : List ℕ) (s : Sender) : Type 0 where
   pub header : headerIn m ≡ some (headerOf s)
+  pub flows : flowsIn m ≡ s .flows
   pub slots : InSlots (s .setting .size) (s .setting .width) m (s .symbols)

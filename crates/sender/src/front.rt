@@ -11,7 +11,7 @@ use wire::Esi;
 use wire::Setting;
 
 // The bytes of the header.
-pub const HEADER: usize = 32;
+pub const HEADER: usize = 64;
 
 // How many bytes of memory a sender needs.
 pub fn memory_size(setting: Setting) -> usize
