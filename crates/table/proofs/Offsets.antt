@@ -3,8 +3,8 @@ use Rattle.words.specs.Words.{arith, ℕ, _≤_, _+_, _<_, mul-le-mul-right}
 use Rattle.memory.proofs.Parts.{row-fits}
 use Rattle.table.specs.Window.{headerSize, stride, rowOffset}
 
--- The header has the bytes that the marks take in it.
-pub header-long : 16 ≤ headerSize
+-- The header has the bytes that the marks and the flows take in it.
+pub header-long : 64 ≤ headerSize
 unfolding headerSize
 header-long = omega arith
 

@@ -9,7 +9,7 @@ use Rattle.decoder.specs.Stretch.{line-of}
 
 -- How many bytes the header has, and a row, with its flags.
 unfoldable pub headerSize : ℕ
-headerSize = 64
+headerSize = 96
 
 unfoldable pub stride : ℕ → ℕ → ℕ
 stride w E = w + E + 4

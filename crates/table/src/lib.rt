@@ -32,7 +32,7 @@ pub fn row_of(shape: Shape, i: usize) -> usize
 fn header_size() -> usize
     ensures { λ n. ⌜ n ≡ headerSize ⌝ }
 {
-    64
+    96
 }
 
 // How many bytes a row has: its coefficients, its symbol and its flags.
