@@ -1,15 +1,16 @@
 -- From what the code reads in the memory to what the ADU call promises: one law for each answer.
 -- What the window knows: known-is, known-none, known-more, known-all, known-not, known-beyond.
 -- What has been read: Read, Whole, whole-is, spans.
--- The answers: no-start, first-unknown, too-many, another-unknown, not-padded, no-room, hands-out.
+-- The answers: no-start, first-unknown, too-many, another-unknown, not-padded, stray, no-room, hands-out.
 use Rattle.words.specs.Words.{_≡_, arith, ℕ, _≤_, _+_, List, length, _<_, refl, _∙_, sym, ap, _-_, some, _%_, true, none, getD, false, Bool, subst, Option}
 use Rattle.words.specs.Words.{drop, _≢_, ap₂, leb, mod-lt, le-leb, ℕ-discrete, lt-leb, not-suc-le-zero, mod-add-mod}
 use Rattle.memory.specs.Part.{part, splice}
 use Rattle.memory.specs.Number.{number, Bytes}
 use Rattle.memory.proofs.Parts.{length-part, length-splice, past-splice}
 use Rattle.wire.specs.declared.Refusal.{Refusal}
-use Rattle.wire.specs.declared.Refusal.the-variants.{Short, Unknown, NoStart, Padding}
+use Rattle.wire.specs.declared.Refusal.the-variants.{Short, Unannounced, Unknown, NoStart, Padding}
 use Rattle.wire.specs.Numbers.{numberOf}
+use Rattle.wire.specs.Flows.{announced, flowsIn}
 use Rattle.wire.specs.Packets.{symbolCount}
 use Rattle.decoder.specs.Bytes.{Coded}
 use Rattle.decoder.specs.Model.{State, end}
@@ -119,7 +120,7 @@ reason (Withheld x) = numberOf x
 -- What the call comes to, by what the memory holds.
 abbrev Comes : (w E oldest d : ℕ) (m : List ℕ) (room : ℕ) → Handing → Type 0
 Comes w E oldest d m room h = (b : ℕ) (S : State (Coded E) w) (M : Starts) → b % w ≡ oldest → Window w E m b S → Marks w E oldest m M
-    → handing E w room M (seen E w S) d ≡ h
+    → handing E w (flowsIn m) room M (seen E w S) d ≡ h
 
 refused : (w E oldest d : ℕ) (m out : List ℕ) (x : Refusal) → numberOf x ≢ 3 → Comes w E oldest d m (length out) (withholds (numberOf x))
     → HandedOut w E oldest d m out out (Withheld x)
@@ -134,14 +135,14 @@ module _ (w E oldest d : ℕ) (m out : List ℕ) where
   unfolding handing need
   no-start h t =
       refused w E oldest d m out NoStart (λ q. absurd (omega (arith, q)))
-      (λ b S M e v k. ap (λ x. need x 13 (begin E w (length out) (seen E w S) d (seen E w S d))) (sym (k d (omega arith)) ∙ t))
+      (λ b S M e v k. ap (λ x. need x 13 (begin E w (flowsIn m) (length out) (seen E w S) d (seen E w S d))) (sym (k d (omega arith)) ∙ t))
 
   begun : d < w → marked w E oldest m d ≡ true → (b : ℕ) (S : State (Coded E) w) (M : Starts) → Marks w E oldest m M
-      → (o : Option (List ℕ)) → seen E w S d ≡ o → handing E w (length out) M (seen E w S) d ≡ begin E w (length out) (seen E w S) d o
+      → (o : Option (List ℕ)) → seen E w S d ≡ o → handing E w (flowsIn m) (length out) M (seen E w S) d ≡ begin E w (flowsIn m) (length out) (seen E w S) d o
   unfolding handing need
   begun h start b S M k o x =
-      ap (λ y. need y 13 (begin E w (length out) (seen E w S) d (seen E w S d))) (sym (k d (omega arith)) ∙ start)
-      ∙ ap (begin E w (length out) (seen E w S) d) x
+      ap (λ y. need y 13 (begin E w (flowsIn m) (length out) (seen E w S) d (seen E w S d))) (sym (k d (omega arith)) ∙ start)
+      ∙ ap (begin E w (flowsIn m) (length out) (seen E w S) d) x
 
   pub first-unknown : Fits w E m → Bytes m → d < w → marked w E oldest m d ≡ true → PositionKnown w E oldest m d false
       → HandedOut w E oldest d m out out (Withheld Unknown)
@@ -155,24 +156,24 @@ module _ (w E oldest d : ℕ) (m out : List ℕ) where
 
     -- What is left to look at: whether there are too many symbols, and what all of them make up.
     looked : (b : ℕ) (S : State (Coded E) w) (M : Starts) → b % w ≡ oldest → Window w E m b S → Marks w E oldest m M
-        → handing E w (length out) M (seen E w S) d ≡ need (leb n w) 14 (unpack E w (length out) (joint (seen E w S) d n))
+        → handing E w (flowsIn m) (length out) M (seen E w S) d ≡ need (leb n w) 14 (unpack E w (flowsIn m) (length out) (joint (seen E w S) d n))
     looked b S M e v k =
         begun (r .inside) (r .start) b S M k (some (symbolIn w E oldest m d))
         (see-known w E oldest m (r .fits) (r .bytes) b S e v d (r .inside) (r .first))
-        ∙ ap (λ x. need (leb x w) 14 (unpack E w (length out) (joint (seen E w S) d x))) (ap (symbolCount E) size-is ∙ sym (r .count))
+        ∙ ap (λ x. need (leb x w) 14 (unpack E w (flowsIn m) (length out) (joint (seen E w S) d x))) (ap (symbolCount E) size-is ∙ sym (r .count))
 
     pub too-many : w < n → HandedOut w E oldest d m out out (Withheld Padding)
     unfolding need
     too-many h =
         refused w E oldest d m out Padding (λ q. absurd (omega (arith, q)))
-        (λ b S M e v k. looked b S M e v k ∙ ap (λ x. need x 14 (unpack E w (length out) (joint (seen E w S) d n))) (lt-leb n w h))
+        (λ b S M e v k. looked b S M e v k ∙ ap (λ x. need x 14 (unpack E w (flowsIn m) (length out) (joint (seen E w S) d n))) (lt-leb n w h))
 
     unpacked : n ≤ w → (b : ℕ) (S : State (Coded E) w) (M : Starts) → b % w ≡ oldest → Window w E m b S → Marks w E oldest m M
-        → (o : Option (List ℕ)) → joint (seen E w S) d n ≡ o → handing E w (length out) M (seen E w S) d ≡ unpack E w (length out) o
+        → (o : Option (List ℕ)) → joint (seen E w S) d n ≡ o → handing E w (flowsIn m) (length out) M (seen E w S) d ≡ unpack E w (flowsIn m) (length out) o
     unfolding need
     unpacked few b S M e v k o q =
-        looked b S M e v k ∙ ap (λ x. need x 14 (unpack E w (length out) (joint (seen E w S) d n))) (le-leb n w few)
-        ∙ ap (unpack E w (length out)) q
+        looked b S M e v k ∙ ap (λ x. need x 14 (unpack E w (flowsIn m) (length out) (joint (seen E w S) d n))) (le-leb n w few)
+        ∙ ap (unpack E w (flowsIn m) (length out)) q
 
     pub another-unknown : n ≤ w → (t : Bool) → t ≡ false → AllKnown w E oldest d n t m → HandedOut w E oldest d m out out (Withheld Unknown)
     another-unknown few t q a =
@@ -189,35 +190,50 @@ module _ (w E oldest d : ℕ) (m out : List ℕ) where
     some-symbols : 0 < n
     some-symbols = span-some w E d n L (fits .some-symbol) (spans k)
 
-    opened : Comes w E oldest d m (length out) (need (allZero (drop (3 + L) x)) 14 (need (leb L (length out)) 2 (hands (flowIn x) (part 3 L x))))
+    -- What is left when L is found: the checks after the padding, and what is handed out.
+    abbrev given : (L : ℕ) → Handing
+    given L = need (leb L (length out)) 2 (hands (flowIn x) (part 3 L x))
+
+    abbrev checked : (L : ℕ) → Handing
+    checked L = need (announced (flowsIn m) (flowIn x)) 16 (given L)
+
+    flow-is : flowIn x ≡ getD m at 0
+    flow-is = text-flow w E oldest m fits d n some-symbols ∙ ap (λ y. getD m y 0) (sym (k .read .here))
+
+    opened : Comes w E oldest d m (length out) (need (allZero (drop (3 + L) x)) 14 (checked L))
     opened b S M e v c =
         unpacked at L n (k .read) (k .few) b S M e v c (some x) (k .all .1 b S e v)
-        ∙ ap (λ l. need (allZero (drop (3 + l) x)) 14 (need (leb l (length out)) 2 (hands (flowIn x) (part 3 l x))))
+        ∙ ap (λ l. need (allZero (drop (3 + l) x)) 14 (checked l))
         (text-size w E oldest m fits d n some-symbols ∙ size-is at L n (k .read))
 
     pub not-padded : allZero (drop (3 + L) x) ≡ false → HandedOut w E oldest d m out out (Withheld Padding)
     unfolding need
     not-padded t =
         refused w E oldest d m out Padding (λ q. absurd (omega (arith, q)))
-        (λ b S M e v c. opened b S M e v c ∙ ap (λ y. need y 14 (need (leb L (length out)) 2 (hands (flowIn x) (part 3 L x)))) t)
+        (λ b S M e v c. opened b S M e v c ∙ ap (λ y. need y 14 (checked L)) t)
 
-    padded : allZero (drop (3 + L) x) ≡ true → Comes w E oldest d m (length out) (need (leb L (length out)) 2 (hands (flowIn x) (part 3 L x)))
+    padded : allZero (drop (3 + L) x) ≡ true → (g : Bool) → announced (flowsIn m) (getD m at 0) ≡ g → Comes w E oldest d m (length out) (need g 16 (given L))
     unfolding need
-    padded t b S M e v c = opened b S M e v c ∙ ap (λ y. need y 14 (need (leb L (length out)) 2 (hands (flowIn x) (part 3 L x)))) t
+    padded t g a b S M e v c =
+        opened b S M e v c ∙ ap (λ y. need y 14 (checked L)) t ∙ ap (λ y. need y 16 (given L)) (ap (announced (flowsIn m)) flow-is ∙ a)
 
-    pub no-room : allZero (drop (3 + L) x) ≡ true → length out < L → HandedOut w E oldest d m out out (Withheld Short)
+    pub stray : allZero (drop (3 + L) x) ≡ true → announced (flowsIn m) (getD m at 0) ≡ false → HandedOut w E oldest d m out out (Withheld Unannounced)
     unfolding need
-    no-room t h =
+    stray t a = refused w E oldest d m out Unannounced (λ q. absurd (omega (arith, q))) (padded t false a)
+
+    pub no-room : allZero (drop (3 + L) x) ≡ true → announced (flowsIn m) (getD m at 0) ≡ true → length out < L
+        → HandedOut w E oldest d m out out (Withheld Short)
+    unfolding need
+    no-room t a h =
         refused w E oldest d m out Short (λ q. absurd (omega (arith, q)))
-        (λ b S M e v c. padded t b S M e v c ∙ ap (λ y. need y 2 (hands (flowIn x) (part 3 L x))) (lt-leb L (length out) h))
+        (λ b S M e v c. padded t true a b S M e v c ∙ ap (λ y. need y 2 (hands (flowIn x) (part 3 L x))) (lt-leb L (length out) h))
 
-    pub hands-out : allZero (drop (3 + L) x) ≡ true → L ≤ length out → (out′ : List ℕ) → out′ ≡ splice 0 (part 3 L x) out
-        → HandedOut w E oldest d m out out′ (Adu (getD m at 0) L)
+    pub hands-out : allZero (drop (3 + L) x) ≡ true → announced (flowsIn m) (getD m at 0) ≡ true → L ≤ length out
+        → (out′ : List ℕ) → out′ ≡ splice 0 (part 3 L x) out → HandedOut w E oldest d m out out′ (Adu (getD m at 0) L)
     unfolding need splice
-    hands-out t h out′ q =
+    hands-out t a h out′ q =
         let size : length (part 3 L x) ≡ L =
         length-part 3 L x (omega (arith, text-length w E oldest m fits d n, span-end w E d n L (fits .some-symbol) (spans k))) in
-        let flow : flowIn x ≡ getD m at 0 = text-flow w E oldest m fits d n some-symbols ∙ ap (λ y. getD m y 0) (sym (k .read .here)) in
         record {
           opened = λ y q z. absurd (omega (arith, ap reason q, z));
           leaves = (
@@ -228,6 +244,6 @@ module _ (w E oldest d : ℕ) (m out : List ℕ) where
           );
           told = λ b S M e v c.
               subst (λ y. HandedAs y out out′ (Adu (getD m at 0) L))
-              (sym (padded t b S M e v c ∙ ap (λ y. need y 2 (hands (flowIn x) (part 3 L x))) (le-leb L (length out) h)))
-              (ap₂ Adu (sym flow) (sym size), q);
+              (sym (padded t true a b S M e v c ∙ ap (λ y. need y 2 (hands (flowIn x) (part 3 L x))) (le-leb L (length out) h)))
+              (ap₂ Adu (sym flow-is) (sym size), q);
         }

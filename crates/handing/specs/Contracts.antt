@@ -3,6 +3,7 @@
 use Rattle.words.specs.Words.{_≡_, ℕ, List, length, _%_, _≢_}
 use Rattle.wire.specs.declared.Refusal.{Refusal}
 use Rattle.wire.specs.Numbers.{numberOf}
+use Rattle.wire.specs.Flows.{flowsIn}
 use Rattle.decoder.specs.Bytes.{Coded}
 use Rattle.decoder.specs.Model.{State}
 use Rattle.table.specs.Window.{Window}
@@ -17,4 +18,4 @@ pub record HandedOut (w E oldest d : ℕ) (m out out′ : List ℕ) (r : Handed)
   pub opened : (x : Refusal) → r ≡ Withheld x → numberOf x ≢ 3
   pub leaves : Leaves out out′ r
   pub told : (b : ℕ) (S : State (Coded E) w) (M : Starts) → b % w ≡ oldest → Window w E m b S → Marks w E oldest m M
-      → HandedAs (handing E w (length out) M (seen E w S) d) out out′ r
+      → HandedAs (handing E w (flowsIn m) (length out) M (seen E w S) d) out out′ r

@@ -1,4 +1,4 @@
-// Handing out an ADU: its symbols are looked up in the window, its padding is checked, and its bytes are copied from where the symbols stand.
+// Handing out an ADU: its symbols are looked up in the window, its padding and its flow are checked, and its bytes are copied from where the symbols stand.
 ghost use Rattle.words.specs.Words.{_≡_, _≤_, _+_, length, _<_, drop};
 ghost use Rattle.memory.specs.Part.{part, splice};
 ghost use Rattle.table.specs.Window.{Fits};
@@ -88,9 +88,13 @@ pub fn hand_out(mem: &[u8], shape: Shape, d: usize, out: &mut [u8]) -> Handed
     if !is_padded(mem, shape, d, n, len) {
         return Handed::Withheld(Refusal::Padding);
     }
+    let flow = mem[at];
+    if !wire::is_announced(mem, flow) {
+        return Handed::Withheld(Refusal::Unannounced);
+    }
     if out.len() < len {
         return Handed::Withheld(Refusal::Short);
     }
     copy_adu(mem, shape, d, n, len, out);
-    Handed::Adu(mem[at], len)
+    Handed::Adu(flow, len)
 }

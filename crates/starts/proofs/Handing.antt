@@ -13,6 +13,7 @@ use Rattle.memory.proofs.Number.{bytes-part}
 use Rattle.wire.specs.Packets.{joined, chunks, Sized, symbolCount, adui, sourceSymbols}
 use Rattle.wire.proofs.Adui.{room as wire-room, length-adui, symbols-count, symbols-sized}
 use Rattle.wire.proofs.Reading.{length-joined, cut-joined}
+use Rattle.wire.specs.Flows.{announced}
 use Rattle.starts.specs.Adu.{flowIn, lengthIn, needs, allZero, View, before, joint, Handing, hands, withholds, need, unpack, begin, handing}
 use Rattle.starts.specs.Starts.{Starts}
 use Rattle.starts.proofs.Chaining.{needs-some, symbols-some}
@@ -83,29 +84,36 @@ shows-joint see i (v ∷ vs) h = ap₂ before (h .0) (shows-joint see (suc i) vs
 
 -- ---- The call
 
-module _ (E width room : ℕ) (least : 4 ≤ E) (see : View) where
+module _ (E width : ℕ) (flows : List ℕ) (room : ℕ) (least : 4 ≤ E) (see : View) where
   -- What is handed out at the d-th position.
   pub record Unpacked (M : Starts) (d flow : ℕ) (adu : List ℕ) : Type 0 where
     pub marked : M d ≡ true
     pub long : length adu ≤ 65535
     pub short : symbolCount E (length adu) ≤ width
+    pub flow-announced : announced flows flow ≡ true
     pub fits : length adu ≤ room
     pub symbols : Shows see d (sourceSymbols flow adu E)
+
+  -- What is left of a whole ADUI when its padding is zero and its flow is announced.
+  abbrev given : List ℕ → Handing
+  given x = need (leb (lengthIn x) room) 2 (hands (flowIn x) (part 3 (lengthIn x) x))
 
   some-bytes : 0 < E
   some-bytes = omega arith
 
-  -- A whole ADUI is handed out where output has room.
-  whole-hands : (flow : ℕ) (adu : List ℕ) → length adu ≤ 65535 → length adu ≤ room → unpack E width room (some (adui flow adu E)) ≡ hands flow adu
-  whole-hands flow adu l f =
+  -- A whole ADUI of an announced flow is handed out where output has room.
+  whole-hands : (flow : ℕ) (adu : List ℕ) → length adu ≤ 65535 → announced flows flow ≡ true → length adu ≤ room
+      → unpack E width flows room (some (adui flow adu E)) ≡ hands flow adu
+  whole-hands flow adu l k f =
       let x = adui flow adu E in
       let e : lengthIn x ≡ length adu = adui-length flow adu E l in
-      met (allZero (drop (3 + lengthIn x) x)) 14 (need (leb (lengthIn x) room) 2 (hands (flowIn x) (part 3 (lengthIn x) x)))
+      met (allZero (drop (3 + lengthIn x) x)) 14 (need (announced flows (flowIn x)) 16 (given x))
       (subst (λ n. allZero (drop (3 + n) x) ≡ true) (sym e) (adui-padding flow adu E))
+      ∙ met (announced flows (flowIn x)) 16 (given x) (ap (announced flows) (adui-flow flow adu E) ∙ k)
       ∙ met (leb (lengthIn x) room) 2 (hands (flowIn x) (part 3 (lengthIn x) x)) (le-leb (lengthIn x) room (omega (arith, e)))
       ∙ ap₂ hands (adui-flow flow adu E) (ap (λ n. part 3 n x) e ∙ adui-adu flow adu E)
 
-  unpacked-hands : (M : Starts) (d flow : ℕ) (adu : List ℕ) → Unpacked M d flow adu → handing E width room M see d ≡ hands flow adu
+  unpacked-hands : (M : Starts) (d flow : ℕ) (adu : List ℕ) → Unpacked M d flow adu → handing E width flows room M see d ≡ hands flow adu
   unfolding handing sourceSymbols
   unpacked-hands M d flow adu u =
       let n = symbols-count flow adu E in
@@ -113,7 +121,7 @@ module _ (E width room : ℕ) (least : 4 ≤ E) (see : View) where
       (joined-chunks (symbolCount E (length adu)) E (adui flow adu E) (length-adui flow adu E some-bytes)) (u .symbols)
     where
       go : (vs : List (List ℕ)) → length vs ≡ symbolCount E (length adu) → Sized E vs → joined vs ≡ adui flow adu E → Shows see d vs
-          → need (M d) 13 (begin E width room see d (see d)) ≡ hands flow adu
+          → need (M d) 13 (begin E width flows room see d (see d)) ≡ hands flow adu
       go [] n z j s = absurd (omega (arith, n, symbols-some E (length adu) some-bytes))
       go (v ∷ vs) n z j s =
           let l : lengthIn v ≡ length adu =
@@ -121,9 +129,9 @@ module _ (E width room : ℕ) (least : 4 ≤ E) (see : View) where
           let k : needs E v ≡ symbolCount E (length adu) = ap (symbolCount E) l in
           let x : joint see d (needs E v) ≡ some (adui flow adu E) =
           ap (joint see d) (k ∙ sym n) ∙ shows-joint see d (v ∷ vs) s ∙ ap (λ (y : List ℕ). some y) j in
-          met (M d) 13 (begin E width room see d (see d)) (u .marked) ∙ ap (begin E width room see d) (s .0)
-          ∙ met (leb (needs E v) width) 14 (unpack E width room (joint see d (needs E v))) (le-leb (needs E v) width (omega (arith, k, u .short)))
-          ∙ ap (unpack E width room) x ∙ whole-hands flow adu (u .long) (u .fits)
+          met (M d) 13 (begin E width flows room see d (see d)) (u .marked) ∙ ap (begin E width flows room see d) (s .0)
+          ∙ met (leb (needs E v) width) 14 (unpack E width flows room (joint see d (needs E v))) (le-leb (needs E v) width (omega (arith, k, u .short)))
+          ∙ ap (unpack E width flows room) x ∙ whole-hands flow adu (u .long) (u .flow-announced) (u .fits)
 
   module _ (whole : (i : ℕ) (v : List ℕ) → see i ≡ some v → (length v ≡ E) × Bytes v) where
     shows-sized : (i : ℕ) (vs : List (List ℕ)) → Shows see i vs → Sized E vs
@@ -133,11 +141,12 @@ module _ (E width room : ℕ) (least : 4 ≤ E) (see : View) where
     module _ (M : Starts) (d flow : ℕ) (adu : List ℕ) where
       -- The symbols are the ADU's.
       its-symbols : (v x : List ℕ) → see d ≡ some v → needs E v ≤ width → M d ≡ true → (vs : List (List ℕ)) → length vs ≡ needs E v → Shows see d vs
-          → x ≡ joined vs → allZero (drop (3 + lengthIn x) x) ≡ true → lengthIn x ≤ room → hands (flowIn x) (part 3 (lengthIn x) x) ≡ hands flow adu
+          → x ≡ joined vs → allZero (drop (3 + lengthIn x) x) ≡ true → announced flows (flowIn x) ≡ true → lengthIn x ≤ room
+          → hands (flowIn x) (part 3 (lengthIn x) x) ≡ hands flow adu
           → Unpacked M d flow adu
       unfolding sourceSymbols
-      its-symbols v x e w m [] n s j z r h = absurd (omega (arith, n, needs-some E v some-bytes))
-      its-symbols v x e w m (y ∷ vs) n s j z r h =
+      its-symbols v x e w m [] n s j z g r h = absurd (omega (arith, n, needs-some E v some-bytes))
+      its-symbols v x e w m (y ∷ vs) n s j z g r h =
           let same : y ≡ v = Option·some-injective _ _ (sym (s .0) ∙ e) in
           let (size, small) = whole d v e in
           let front : part 1 2 x ≡ part 1 2 v =
@@ -158,31 +167,32 @@ module _ (E width room : ℕ) (least : 4 ≤ E) (see : View) where
             marked = m;
             long = omega (arith, c, l, length-small v (omega (arith, size)) small′);
             short = omega (arith, w, ap (symbolCount E) (c ∙ l));
+            flow-announced = ap (announced flows) (sym f) ∙ g;
             fits = omega (arith, c, r);
             symbols = subst (Shows see d) (sym cut) s;
           }
 
-      hands-unpacked : handing E width room M see d ≡ hands flow adu → Unpacked M d flow adu
+      hands-unpacked : handing E width flows room M see d ≡ hands flow adu → Unpacked M d flow adu
       unfolding handing
       hands-unpacked h =
-          let (m, k) = needed (M d) 13 (begin E width room see d (see d)) flow adu h in
+          let (m, k) = needed (M d) 13 (begin E width flows room see d (see d)) flow adu h in
           begun m (see d) refl k
         where
           opened : M d ≡ true → (v : List ℕ) → see d ≡ some v → needs E v ≤ width → (o : Option (List ℕ)) → joint see d (needs E v) ≡ o
-              → unpack E width room o ≡ hands flow adu → Unpacked M d flow adu
+              → unpack E width flows room o ≡ hands flow adu → Unpacked M d flow adu
           opened m v e w none j h = absurd (withheld 12 flow adu h)
           opened m v e w (some x) j h =
-              let (z, k) = needed (allZero (drop (3 + lengthIn x) x)) 14
-              (need (leb (lengthIn x) room) 2 (hands (flowIn x) (part 3 (lengthIn x) x))) flow adu h in
+              let (z, q) = needed (allZero (drop (3 + lengthIn x) x)) 14 (need (announced flows (flowIn x)) 16 (given x)) flow adu h in
+              let (g, k) = needed (announced flows (flowIn x)) 16 (given x) flow adu q in
               let (r, i) = needed (leb (lengthIn x) room) 2 (hands (flowIn x) (part 3 (lengthIn x) x)) flow adu k in
               let y = joint-shows see d (needs E v) x j in
-              its-symbols v x e w m (y .symbols) (y .count) (y .shown) (y .bytes) z (leb-true (lengthIn x) room r) i
+              its-symbols v x e w m (y .symbols) (y .count) (y .shown) (y .bytes) z g (leb-true (lengthIn x) room r) i
 
-          begun : M d ≡ true → (o : Option (List ℕ)) → see d ≡ o → begin E width room see d o ≡ hands flow adu → Unpacked M d flow adu
+          begun : M d ≡ true → (o : Option (List ℕ)) → see d ≡ o → begin E width flows room see d o ≡ hands flow adu → Unpacked M d flow adu
           begun m none e h = absurd (withheld 12 flow adu h)
           begun m (some v) e h =
-              let (w, k) = needed (leb (needs E v) width) 14 (unpack E width room (joint see d (needs E v))) flow adu h in
+              let (w, k) = needed (leb (needs E v) width) 14 (unpack E width flows room (joint see d (needs E v))) flow adu h in
               opened m v e (leb-true (needs E v) width w) (joint see d (needs E v)) refl k
 
-      pub handing-exactly : (handing E width room M see d ≡ hands flow adu) ↔ Unpacked M d flow adu
+      pub handing-exactly : (handing E width flows room M see d ≡ hands flow adu) ↔ Unpacked M d flow adu
       handing-exactly = (hands-unpacked, unpacked-hands M d flow adu)

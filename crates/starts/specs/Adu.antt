@@ -1,9 +1,10 @@
--- Handing out an ADU: F and L of an ADUI, and the ADU call at a position of the window, with its refusals in document 01's order.
+-- Handing out an ADU: F and L of an ADUI, and the ADU call at a position of the window, with its refusals in their order (document 01; document 02, No. 7).
 use Rattle.words.specs.Words.{_≡_, ℕ, _≤_, _+_, List, length, [], some, _∷_, suc, true, zero, none, getD, false, _++_, Bool, Option, drop, leb, eqb, _&&_}
 use Rattle.memory.specs.Part.{part}
 use Rattle.memory.specs.Number.{number}
 use Rattle.wire.specs.Numbers.{numberOf}
 use Rattle.wire.specs.Packets.{longestAdu, symbolCount}
+use Rattle.wire.specs.Flows.{announced}
 use Rattle.starts.specs.declared.Handed.{Handed}
 use Rattle.starts.specs.declared.Handed.the-variants.{Adu, Withheld}
 
@@ -47,13 +48,13 @@ unfoldable pub need : Bool → ℕ → Handing → Handing
 need true n r = r
 need false n r = withholds n
 
-module _ (E width room : ℕ) where
-  -- A whole ADUI: padding not zero (14), output too short (2).
+module _ (E width : ℕ) (flows : List ℕ) (room : ℕ) where
+  -- A whole ADUI: padding not zero (14), a flow that is not announced (16), output too short (2).
   abbrev pub unpack : Option (List ℕ) → Handing
   unpack none = withholds 12
   unpack (some x) =
       let L = lengthIn x in
-      need (allZero (drop (3 + L) x)) 14 (need (leb L room) 2 (hands (flowIn x) (part 3 L x)))
+      need (allZero (drop (3 + L) x)) 14 (need (announced flows (flowIn x)) 16 (need (leb L room) 2 (hands (flowIn x) (part 3 L x))))
 
   -- Its first symbol: not known (12), too many symbols (14), another not known (12).
   abbrev pub begin : View → (d : ℕ) → Option (List ℕ) → Handing

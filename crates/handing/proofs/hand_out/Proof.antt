@@ -1,7 +1,11 @@
 -- `handing::hand_out` meets its contract.
-use Rattle.words.specs.Words.{arith, ℕ, List, needs, _∙_, sym, true, false, not-false, not-true}
+use Rattle.words.specs.Words.{_≡_, arith, ℕ, _+_, List, needs, _∙_, sym, drop, getD, true, false, not-false, not-true}
+use Rattle.wire.specs.Flows.{announced, flowsIn}
+use Rattle.table.proofs.Offsets.{header-long}
+use Rattle.starts.specs.Adu.{allZero}
+use Rattle.handing.specs.HandSteps.{text}
 use Rattle.handing.proofs.Giving.{known-is, Read, Whole, whole-is, spans, no-start, first-unknown, too-many, another-unknown, not-padded, no-room}
-use Rattle.handing.proofs.Giving.{hands-out}
+use Rattle.handing.proofs.Giving.{stray, hands-out}
 use Rattle.handing.proofs.hand_out.Statement.{statement}
 use Rattle.handing.proofs.hand_out.Tie as tie
 
@@ -39,6 +43,20 @@ whole p =
     let all = p .before .all-known in
     whole-is (read (p .before .before .before .before)) (p .before .before .if3 .left) (all .result) (not-false (all .result) (p .if4 .left)) (all .ensures)
 
+-- Its padding is zero; and its flow is announced.
+abbrev Padded : tie.Else4 → Type 0
+Padded p =
+    let a = start (p .before .before .before .before) .args in
+    let s = a .shape in
+    let q = p .before .before .before .before in
+    allZero (drop (3 + q .before .load-u16 .result) (text (s .width) (s .size) (s .oldest) (a .mem .now) (a .d) (q .symbol-count .result))) ≡ true
+
+abbrev Announced : tie.Else4 → Type 0
+Announced p =
+    let q = p .before .before .before .before in
+    let m = start q .args .mem .now in
+    announced (flowsIn m) (getD m (q .before .before .symbol-of .result) 0) ≡ true
+
 returns : tie.Need-returns
 returns c =
     let marked = c .before .is-marked in
@@ -70,27 +88,47 @@ returns-5 c =
     let padded = c .before .is-padded in
     not-padded _ _ _ _ _ _ _ _ _ (whole (c .before .before)) (sym (padded .ensures) ∙ not-true (padded .result) (c .if5 .taken))
 
+-- The padding is zero, and the flow is read.
+abbrev flow-read : tie.After-shared-slice-known2 → tie.Else4
+flow-read c = c .before .before .before
+
+zero-padded : (c : tie.After-shared-slice-known2) → Padded (flow-read c)
+zero-padded c =
+    let padded = c .before .before .is-padded in
+    sym (padded .ensures) ∙ not-false (padded .result) (c .before .if5 .left)
+
+shared-slice-read-flow : tie.Need-shared-slice-read-flow
+shared-slice-read-flow c = let r = whole (flow-read c) .read in omega (arith, r .end, r .fits .room, r .fits .some-symbol)
+
+is-announced-requires : tie.Need-is-announced-requires
+is-announced-requires c κs = let r = whole (flow-read c) .read in omega (arith, header-long, r .fits .room)
+
+-- And announced.
+its-flow : (c : tie.Else6) → Announced (flow-read (c .before .before))
+its-flow c = sym (c .before .is-announced .ensures) ∙ not-false (c .before .is-announced .result) (c .if6 .left)
+
 returns-6 : tie.Need-returns-6
 returns-6 c =
-    let padded = c .before .before .is-padded in
-    no-room _ _ _ _ _ _ _ _ _ (whole (c .before .before .before)) (sym (padded .ensures) ∙ not-false (padded .result) (c .before .if5 .left)) (c .if6 .taken)
-
-copy-adu-requires : tie.Need-copy-adu-requires
-copy-adu-requires c κs =
-    let s = start (c .before .before .before .before .before .before .before .before) .pre in
-    (s .0, s .1, spans (whole (c .before .before .before .before)), c .before .if6 .left)
-
-shared-slice-read-t23 : tie.Need-shared-slice-read-t23
-shared-slice-read-t23 c =
-    let r = whole (c .before .before .before .before .before .before .before .before) .read in
-    omega (arith, r .end, r .fits .room, r .fits .some-symbol)
+    let p = c .before .before in
+    let k = c .before .is-announced in
+    stray _ _ _ _ _ _ _ _ _ (whole (flow-read p)) (zero-padded p) (sym (k .ensures) ∙ not-true (k .result) (c .if6 .taken))
 
 returns-7 : tie.Need-returns-7
 returns-7 c =
-    let room = c .before .before .before .before .before in
-    let padded = room .before .before .is-padded in
-    hands-out _ _ _ _ _ _ _ _ _ (whole (room .before .before .before))
-    (sym (padded .ensures) ∙ not-false (padded .result) (room .before .if5 .left)) (room .if6 .left) _ (c .before .before .before .copy-adu .ensures)
+    let p = c .before .before .before in
+    no-room _ _ _ _ _ _ _ _ _ (whole (flow-read p)) (zero-padded p) (its-flow (c .before)) (c .if7 .taken)
+
+copy-adu-requires : tie.Need-copy-adu-requires
+copy-adu-requires c κs =
+    let p = flow-read (c .before .before .before .before) in
+    let s = start (p .before .before .before .before) .pre in
+    (s .0, s .1, spans (whole p), c .before .if7 .left)
+
+returns-8 : tie.Need-returns-8
+returns-8 c =
+    let room = c .before .before .before .before in
+    let p = room .before .before .before in
+    hands-out _ _ _ _ _ _ _ _ _ (whole (flow-read p)) (zero-padded p) (its-flow (room .before)) (room .if7 .left) _ (c .before .before .copy-adu .ensures)
 
 pub hand-out-spec : {M : Type 1} → statement M
 hand-out-spec =
@@ -111,8 +149,10 @@ hand-out-spec =
     returns-4
     is-padded-requires
     returns-5
+    shared-slice-read-flow
+    is-announced-requires
     returns-6
+    returns-7
     copy-adu-requires
-    shared-slice-read-t23
     (λ c. search needs)
-    returns-7)
+    returns-8)
