@@ -2,7 +2,7 @@
 use Rattle.words.specs.Words.{_≡_, arith, ℕ, _+_, List, _<_, refl, some, true, none, false, Bool, Option, _≢_, leb}
 use Rattle.wire.specs.declared.Setting.{Setting}
 use Rattle.wire.specs.declared.Refusal.{Refusal}
-use Rattle.wire.specs.declared.Refusal.the-variants.{Short, Long, Form, Range, Behind, Ahead, Draws, Contradiction}
+use Rattle.wire.specs.declared.Refusal.the-variants.{Short, Long, Form, Range, Behind, Ahead, Draws, Contradiction, Unannounced}
 use Rattle.wire.specs.Numbers.{numberOf}
 use Rattle.wire.specs.Packets.{sourceEsi, firstEsi}
 use Rattle.decoder.specs.Bytes.{Coded}
@@ -38,13 +38,14 @@ unfolding fromSide
 placed-named n behind f k = named Behind (λ e. absurd (omega (arith, e)))
 placed-named n (ahead d) f k = check-named (leb (d + n) farthest) 9 (f d) (named Ahead (λ e. absurd (omega (arith, e)))) (k d)
 
-reading-named : (s : Setting) (base room : ℕ) (c : Call) → NamedReading (reading s base room c)
+reading-named : (s : Setting) (flows : List ℕ) (base room : ℕ) (c : Call) → NamedReading (reading s flows base room c)
 unfolding reading readSource readRepair
-reading-named s base room (source-call flow p) =
+reading-named s flows base room (source-call flow p) =
     check-named _ 2 _ (named Short (λ e. absurd (omega (arith, e))))
     (check-named _ 5 _ (named Form (λ e. absurd (omega (arith, e))))
-    (check-named _ 4 _ (named Long (λ e. absurd (omega (arith, e)))) (placed-named _ (sideOf base (sourceEsi p)) _ (λ d. tt))))
-reading-named s base room (repair-call p) =
+    (check-named _ 16 _ (named Unannounced (λ e. absurd (omega (arith, e))))
+    (check-named _ 4 _ (named Long (λ e. absurd (omega (arith, e)))) (placed-named _ (sideOf base (sourceEsi p)) _ (λ d. tt)))))
+reading-named s flows base room (repair-call p) =
     check-named _ 2 _ (named Short (λ e. absurd (omega (arith, e))))
     (check-named _ 5 _ (named Form (λ e. absurd (omega (arith, e))))
     (check-named _ 6 _ (named Range (λ e. absurd (omega (arith, e))))
@@ -73,6 +74,6 @@ module _ (s : Setting) (e : 0 < s .size) where
       (history.insert-all-added (laws E e) es S (history.advance-by-rref (laws E e) d (t .window) k))
 
   -- What a packet call comes to: a refusal with its number, or a reduced window.
-  pub answering-sound : (t : Joined s) → Rref (t .window) → (room : ℕ) (c : Call) → Sound (answering s t room c)
+  pub answering-sound : (flows : List ℕ) (t : Joined s) → Rref (t .window) → (room : ℕ) (c : Call) → Sound (answering s flows t room c)
   unfolding answering
-  answering-sound t k room c = responds-sound t k (reading s (t .base) room c) (reading-named s (t .base) room c)
+  answering-sound flows t k room c = responds-sound t k (reading s flows (t .base) room c) (reading-named s flows (t .base) room c)

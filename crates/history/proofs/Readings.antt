@@ -128,10 +128,11 @@ module _ (s : Setting) where
     pub near : distanceOf (sourceEsi p) (base % 2 ^ 32) < halfway
     pub says : source (base + distanceOf (sourceEsi p) (base % 2 ^ 32)) (sourceSymbols flow (sourceAdu p) E) ≡ q
 
-  pub source-read : (base flow : ℕ) (p : List ℕ) (q : Located) → readSource s base flow p ≡ located q → SourceRead base flow p q
+  pub source-read : (flows : List ℕ) (base flow : ℕ) (p : List ℕ) (q : Located) → readSource s flows base flow p ≡ located q → SourceRead base flow p q
   unfolding readSource
-  source-read base flow p q h =
-      let (a, g) = check-passed _ 5 _ q h in
+  source-read flows base flow p q h =
+      let (a, f) = check-passed _ 5 _ q h in
+      let (_, g) = check-passed _ 16 _ q f in
       let (b, j) = check-passed _ 4 _ q g in
       let (c, d) = both (leb (length (sourceAdu p)) 65535) _ b in
       let l = places base (sourceEsi p) (symbolCount E (length (sourceAdu p))) _ q j in
@@ -155,21 +156,22 @@ module _ (s : Setting) where
       let (f, k) = check-passed _ 10 _ q (l .here) in
       record { form = a; fits = within-bounds 1 width (protectedCount p) b .1; near = l .near; says = packet-path k }
 
-  pub reading-passed : (base room : ℕ) (c : Call) (q : Located) → reading s base room c ≡ located q → readPacket s base c ≡ located q
+  pub reading-passed : (flows : List ℕ) (base room : ℕ) (c : Call) (q : Located) → reading s flows base room c ≡ located q
+      → readPacket s flows base c ≡ located q
   unfolding reading
-  reading-passed base room c q h = check-passed (leb (workingSize s) room) 2 _ q h .1
+  reading-passed flows base room c q h = check-passed (leb (workingSize s) room) 2 _ q h .1
 
-  read-fits : 0 < E → (base : ℕ) (c : Call) (q : Located) → OfBytes c → readPacket s base c ≡ located q → Fits s base q
+  read-fits : (flows : List ℕ) → 0 < E → (base : ℕ) (c : Call) (q : Located) → OfBytes c → readPacket s flows base c ≡ located q → Fits s base q
   unfolding sourceAdu part
-  read-fits z base (source-call flow p) q (f, b) h =
-      let r = source-read base flow p q h in
+  read-fits flows z base (source-call flow p) q (f, b) h =
+      let r = source-read flows base flow p q h in
       subst (Fits s base) (r .says)
       (record {
         ahead = omega arith;
         short = omega (arith, symbols-count flow (sourceAdu p) E, r .fits);
         formed = source-whole flow (sourceAdu p) E z f (bytes-part 0 (length p - 4) p b);
       })
-  read-fits z base (repair-call p) q b h =
+  read-fits flows z base (repair-call p) q b h =
       let r = repair-read base p q h in
       let ks = keys (repairKey p) (length (repairSymbols E p)) in
       subst (Fits s base) (r .says)
@@ -184,8 +186,8 @@ module _ (s : Setting) where
       })
 
   -- Whatever passes the checks lies ahead of the base, is no longer than the window, and has symbols of E bytes.
-  pub reading-fits : 0 < E → (base room : ℕ) (c : Call) (q : Located) → OfBytes c → reading s base room c ≡ located q → Fits s base q
-  reading-fits z base room c q b h = read-fits z base c q b (reading-passed base room c q h)
+  pub reading-fits : (flows : List ℕ) → 0 < E → (base room : ℕ) (c : Call) (q : Located) → OfBytes c → reading s flows base room c ≡ located q → Fits s base q
+  reading-fits flows z base room c q b h = read-fits flows z base c q b (reading-passed flows base room c q h)
 
 -- ---- Joining
 
@@ -208,12 +210,12 @@ at-itself : (e : ℕ) → e < 2 ^ 32 → e + distanceOf e (e % 2 ^ 32) ≡ e
 at-itself e h = omega arith
 
 -- A packet that finds no base begins at its own first ESI.
-pub joins-at : (s : Setting) (room : ℕ) (c : Call) (q : Located) → OfBytes c → reading s (esiOf c) room c ≡ located q → first q ≡ esiOf c
-joins-at s room (source-call flow p) q (f, b) h =
-    let r = source-read s (sourceEsi p) flow p q (reading-passed s (sourceEsi p) room (source-call flow p) q h) in
+pub joins-at : (s : Setting) (flows : List ℕ) (room : ℕ) (c : Call) (q : Located) → OfBytes c → reading s flows (esiOf c) room c ≡ located q → first q ≡ esiOf c
+joins-at s flows room (source-call flow p) q (f, b) h =
+    let r = source-read s flows (sourceEsi p) flow p q (reading-passed s flows (sourceEsi p) room (source-call flow p) q h) in
     ap first (sym (r .says)) ∙ at-itself (sourceEsi p) (source-small p (r .form) b)
-joins-at s room (repair-call p) q b h =
-    let r = repair-read s (firstEsi p) p q (reading-passed s (firstEsi p) room (repair-call p) q h) in
+joins-at s flows room (repair-call p) q b h =
+    let r = repair-read s (firstEsi p) p q (reading-passed s flows (firstEsi p) room (repair-call p) q h) in
     ap first (sym (r .says)) ∙ at-itself (firstEsi p) (repair-small (s .size) p (r .form) b)
 
 -- A check that does not fail with a number, nor what comes after it.
@@ -229,17 +231,19 @@ side-here n e next small h =
     ap (λ x. fromSide n (sideOf e x) next) z ∙ side-taken e 0 (omega arith) n next (omega (arith, limits)) (omega arith)
 
 -- Neither 8 nor 9 can stop it.
-pub joins-near : (s : Setting) → Valid s → (room : ℕ) (c : Call) → OfBytes c → (k : ℕ) → 8 ≤ k → k ≤ 9 → reading s (esiOf c) room c ≡ fails k → ⊥
+pub joins-near : (s : Setting) (flows : List ℕ) → Valid s → (room : ℕ) (c : Call) → OfBytes c → (k : ℕ) → 8 ≤ k → k ≤ 9
+    → reading s flows (esiOf c) room c ≡ fails k → ⊥
 unfolding reading readSource readRepair
-joins-near s v room (source-call flow p) (f, b) k lo hi =
+joins-near s flows v room (source-call flow p) (f, b) k lo hi =
     let n = symbolCount (s .size) (length (sourceAdu p)) in
     not-check k _ 2 _ (λ e. omega (arith, e))
     (λ _. not-check k (sourceForm p) 5 _ (λ e. omega (arith, e))
-    (λ form. not-check k (leb (length (sourceAdu p)) 65535 && leb n (s .width)) 4 _ (λ e. omega (arith, e))
+    (λ form. not-check k _ 16 _ (λ e. omega (arith, e))
+    (λ _. not-check k (leb (length (sourceAdu p)) 65535 && leb n (s .width)) 4 _ (λ e. omega (arith, e))
     (λ fits h.
     let few = leb-true n (s .width) (both (leb (length (sourceAdu p)) 65535) _ fits .1) in
-    subst IsLocated (sym (side-here n (sourceEsi p) _ (source-small p form b) (omega (arith, few, v .width-most, limits))) ∙ h) tt)))
-joins-near s v room (repair-call p) b k lo hi =
+    subst IsLocated (sym (side-here n (sourceEsi p) _ (source-small p form b) (omega (arith, few, v .width-most, limits))) ∙ h) tt))))
+joins-near s flows v room (repair-call p) b k lo hi =
     not-check k _ 2 _ (λ e. omega (arith, e))
     (λ _. not-check k (repairForm (s .size) p) 5 _ (λ e. omega (arith, e))
     (λ form. not-check k (within 1 (s .width) (protectedCount p)) 6 _ (λ e. omega (arith, e))
@@ -249,11 +253,12 @@ joins-near s v room (repair-call p) b k lo hi =
     (sym (side-here (protectedCount p) (firstEsi p) _ (repair-small (s .size) p form b) (omega (arith, few, v .width-most, limits))) ∙ h))))
 
 -- What a call's packet has passed after a history.
-pub reading-passes : (s : Setting) → 0 < s .size → (l : Log) (room : ℕ) (c : Call) (q : Located) → OfBytes c → readAfter s l room c ≡ located q
+pub reading-passes : (s : Setting) (flows : List ℕ) → 0 < s .size → (l : Log) (room : ℕ) (c : Call) (q : Located) → OfBytes c
+    → readAfter s flows l room c ≡ located q
     → Fits s (baseFor (baseOf s l) (esiOf c)) q × (baseFor (baseOf s l) (first q) ≡ baseFor (baseOf s l) (esiOf c))
-reading-passes s z l room c q b h =
-    (reading-fits s z (baseFor (baseOf s l) (esiOf c)) room c q b h, go (baseOf s l) h)
+reading-passes s flows z l room c q b h =
+    (reading-fits s flows z (baseFor (baseOf s l) (esiOf c)) room c q b h, go (baseOf s l) h)
   where
-    go : (o : Option ℕ) → reading s (baseFor o (esiOf c)) room c ≡ located q → baseFor o (first q) ≡ baseFor o (esiOf c)
-    go none k = joins-at s room c q b k
+    go : (o : Option ℕ) → reading s flows (baseFor o (esiOf c)) room c ≡ located q → baseFor o (first q) ≡ baseFor o (esiOf c)
+    go none k = joins-at s flows room c q b k
     go (some x) k = refl

@@ -1,5 +1,6 @@
 -- Where the ESI of the position base + d lies.
-use Rattle.words.specs.Words.{_≡_, arith, ℕ, _≤_, _+_, _<_, refl, sym, ap, some, _%_, true, false, Bool, subst, _^_, cond, ltb, le-leb, lt-leb, lt-ltb, le-ltb}
+use Rattle.words.specs.Words.{_≡_, arith, ℕ, _≤_, _+_, List, _<_, refl, sym, ap, some, _%_, true, false, Bool, subst, _^_, cond, ltb, le-leb, lt-leb, lt-ltb}
+use Rattle.words.specs.Words.{le-ltb}
 use Rattle.words.specs.Words.{ltb-true}
 use Rattle.wire.specs.declared.Setting.{Setting}
 use Rattle.wire.specs.Numbers.{distanceOf}
@@ -89,16 +90,16 @@ module _ (s : Setting) (t : Joined s) (d : ℕ) (small : d < 2 ^ 32) where
   found-behind h = rw (side-behind (t .base) d small h)
 
 -- The ADU call.
-module _ (s : Setting) (t : Joined s) (M : Starts) (room d : ℕ) (small : d < 2 ^ 32) where
+module _ (s : Setting) (flows : List ℕ) (t : Joined s) (M : Starts) (room d : ℕ) (small : d < 2 ^ 32) where
   pub adu-inside : d < halfway → d < s .width
-      → aduAt s (some t) M room ((t .base + d) % 2 ^ 32) ≡ handing (s .size) (s .width) room M (seen (s .size) (s .width) (t .window)) d
+      → aduAt s flows (some t) M room ((t .base + d) % 2 ^ 32) ≡ handing (s .size) (s .width) flows room M (seen (s .size) (s .width) (t .window)) d
   unfolding aduAt need
   adu-inside h k = rw (side-ahead (t .base) d small h, lt-ltb d (s .width) k)
 
-  pub adu-past : d < halfway → s .width ≤ d → aduAt s (some t) M room ((t .base + d) % 2 ^ 32) ≡ withholds 12
+  pub adu-past : d < halfway → s .width ≤ d → aduAt s flows (some t) M room ((t .base + d) % 2 ^ 32) ≡ withholds 12
   unfolding aduAt need
   adu-past h k = rw (side-ahead (t .base) d small h, le-ltb d (s .width) k)
 
-  pub adu-behind : halfway ≤ d → aduAt s (some t) M room ((t .base + d) % 2 ^ 32) ≡ withholds 8
+  pub adu-behind : halfway ≤ d → aduAt s flows (some t) M room ((t .base + d) % 2 ^ 32) ≡ withholds 8
   unfolding aduAt
   adu-behind h = rw (side-behind (t .base) d small h)

@@ -1,8 +1,9 @@
--- The checks of a packet call that stand before 11, in their order (document 01, "Why a call says no": 2, 5, 4 or 6, 8, 9, 10), from the packet's bytes,
--- the working memory lent and the base, in plain arithmetic: each gives its number where it is the first that fails.
+-- The checks of a packet call that stand before 11, in their order (document 01, "Why a call says no", and document 02, No. 7: 2, 5, 16, 4 or 6, 8, 9, 10),
+-- from the packet's bytes, the flows, the working memory lent and the base, in plain arithmetic: each gives its number where it is the first that fails.
 use Rattle.words.specs.Words.{_≡_, ℕ, _≤_, _+_, List, length, _<_, _-_, _%_, true, _*_, take, _^_, _/_}
 use Rattle.wire.specs.declared.Setting.{Setting}
 use Rattle.wire.specs.Settings.{Valid}
+use Rattle.wire.specs.Flows.{Announced}
 use Rattle.wire.specs.Packets.{sourceSymbols, repairKey, densityThreshold, protectedCount, repairSymbols}
 use Rattle.wire.specs.Opening.{workingMemory}
 use Rattle.coefficients.specs.Coefficients.{keys, listsOf, allOk}
@@ -23,6 +24,11 @@ module _ (s : Setting) where
   abbrev pub Formed : Call → Type 0
   Formed (source-call flow p) = 4 ≤ length p
   Formed (repair-call p) = (k : ℕ) × (1 ≤ k) × (k ≤ 16) × (length p ≡ 8 + k * E)
+
+  -- The flow of a source packet is announced (else 16).
+  abbrev pub Known-flow : (flows : List ℕ) → Call → Type 0
+  Known-flow flows (source-call flow p) = Announced flows flow
+  Known-flow flows (repair-call p) = Unit {0}
 
   -- An ADU has no more than 65,535 bytes, and fits `width` symbols with F and L before it (else 4); a repair packet protects 1 to `width` (else 6).
   abbrev pub Few : Call → Type 0
@@ -55,18 +61,19 @@ module _ (s : Setting) where
       let n = protectedCount p in
       repair first n (listsOf scheme (densityThreshold p) n (keysIn p)) (repairSymbols E p)
 
-  -- A call that is lent `room` bytes of working memory finds the base b: what the checks make of it.
-  pub record Checked (b room : ℕ) (c : Call) (r : Reading) : Type 0 where
+  -- A call that is lent `room` bytes of working memory finds the base b, where these flows are announced: what the checks make of it.
+  pub record Checked (flows : List ℕ) (b room : ℕ) (c : Call) (r : Reading) : Type 0 where
     pub short : ¬ Lent room → r ≡ fails 2
     pub form : Lent room → ¬ Formed c → r ≡ fails 5
-    pub many : Lent room → Formed c → ¬ Few c → r ≡ fails (fourOrSix c)
-    pub behind : Lent room → Formed c → Few c → 2 ^ 31 ≤ distance b c → r ≡ fails 8
-    pub far : Lent room → Formed c → Few c → distance b c < 2 ^ 31 → 65536 < distance b c + namedBy c → r ≡ fails 9
-    pub zeros : Lent room → Formed c → Few c → distance b c < 2 ^ 31 → distance b c + namedBy c ≤ 65536 → ¬ Drawn c → r ≡ fails 10
+    pub stray : Lent room → Formed c → ¬ Known-flow flows c → r ≡ fails 16
+    pub many : Lent room → Formed c → Known-flow flows c → ¬ Few c → r ≡ fails (fourOrSix c)
+    pub behind : Lent room → Formed c → Known-flow flows c → Few c → 2 ^ 31 ≤ distance b c → r ≡ fails 8
+    pub far : Lent room → Formed c → Known-flow flows c → Few c → distance b c < 2 ^ 31 → 65536 < distance b c + namedBy c → r ≡ fails 9
+    pub zeros : Lent room → Formed c → Known-flow flows c → Few c → distance b c < 2 ^ 31 → distance b c + namedBy c ≤ 65536 → ¬ Drawn c → r ≡ fails 10
     -- Where none fails, the packet lies so far past the base.
-    pub passes : Lent room → Formed c → Few c → distance b c < 2 ^ 31 → distance b c + namedBy c ≤ 65536 → Drawn c
+    pub passes : Lent room → Formed c → Known-flow flows c → Few c → distance b c < 2 ^ 31 → distance b c + namedBy c ≤ 65536 → Drawn c
         → r ≡ located (saysAt (b + distance b c) c)
 
--- Of every call, whatever its packet, with any base.
+-- Of every call, whatever its packet, with any flows and any base.
 abbrev pub Reading-checked : Type 0
-Reading-checked = (s : Setting) → Valid s → (b room : ℕ) (c : Call) → Checked s b room c (reading s b room c)
+Reading-checked = (s : Setting) → Valid s → (flows : List ℕ) (b room : ℕ) (c : Call) → Checked s flows b room c (reading s flows b room c)

@@ -10,6 +10,7 @@ use Rattle.wire.specs.declared.Setting.{Setting}
 use Rattle.wire.specs.Answers.{Said, value, refusal}
 use Rattle.wire.specs.Packets.{zeros, symbolCount, adui, sourceSymbols, sourceForm, sourceAdu, sourceEsi, repairCount, repairForm, repairKey, densityThreshold}
 use Rattle.wire.specs.Packets.{protectedCount, firstEsi, repairSymbols}
+use Rattle.wire.specs.Flows.{announced}
 use Rattle.coefficients.specs.Coefficients.{nonzeroFrom, bitOf, byteOf, extend, coefficientsOf}
 use Rattle.starts.specs.Starts.{Starts, nowhere, pass}
 use Rattle.history.specs.History.{source, repair, Call, source-call, repair-call, esiOf, sideOf, Reading, fails, located, check, fromSide}
@@ -18,6 +19,10 @@ use Rattle.history.specs.Model.{State, opened, foundBy, saidOf, stateAft
 use Rattle.decoder.specs.Model as model
 use Rattle.decoder.specs.Receiver as decoder
 use Rattle.decoder.specs.Packets as packets
+
+-- Flow 1 alone is announced.
+abbrev one : List ℕ
+one = 2 ∷ zeros 31
 
 -- ---- Calls
 
@@ -32,19 +37,19 @@ pub record Progress (s : Setting) : Type 0 where
 abbrev pub begun : (s : Setting) → Progress s
 begun s = record { answers = []; state = opened s; marks = nowhere; heard = unheard }
 
--- One more call, with working memory enough; and the calls of a list.
-abbrev pub call : (s : Setting) → Progress s → Call → Progress s
-call s a c =
+-- One more call, with working memory enough, where these flows are announced; and the calls of a list.
+abbrev pub call : (s : Setting) (flows : List ℕ) → Progress s → Call → Progress s
+call s flows a c =
     let j = foundBy s (a .state) (esiOf c) in
-    let r = reading s (j .base) (workingSize s) c in
-    let o = receiving s (a .state) (workingSize s) c in
+    let r = reading s flows (j .base) (workingSize s) c in
+    let o = receiving s flows (a .state) (workingSize s) c in
     let M = marking s j (a .marks) r o in
     let H = originsAfter r o (a .heard) in
     record { answers = a .answers ++ saidOf o ∷ []; state = stateAfter (a .state) o; marks = M; heard = H }
 
-abbrev pub called : (s : Setting) → Progress s → List Call → Progress s
-called s a [] = a
-called s a (c ∷ cs) = called s (call s a c) cs
+abbrev pub called : (s : Setting) (flows : List ℕ) → Progress s → List Call → Progress s
+called s flows a [] = a
+called s flows a (c ∷ cs) = called s flows (call s flows a c) cs
 
 -- What calls have answered, the base after them, and which positions of the window are known and which are marked, by their distance from the base.
 pub data Standing : Type 0 where
@@ -72,7 +77,7 @@ module _ (s : Setting) where
 
   -- The calls of a list from a fresh receiver.
   abbrev after : List Call → Standing
-  after cs = let a = called s (begun s) cs in standing (a .answers) (a .state) (a .marks)
+  after cs = let a = called s one (begun s) cs in standing (a .answers) (a .state) (a .marks)
 
   -- And with the origins in place of the marks.
   abbrev origin : (answers : List Said) → State s → Origins → Origin
@@ -82,7 +87,7 @@ module _ (s : Setting) where
       told l (those known (s .width)) (those (λ i. known i && H (t .base + i)) (s .width))
 
   abbrev heard : List Call → Origin
-  heard cs = let a = called s (begun s) cs in origin (a .answers) (a .state) (a .heard)
+  heard cs = let a = called s one (begun s) cs in origin (a .answers) (a .state) (a .heard)
 
 -- The coefficients that a reading has for a packet's symbols.
 abbrev coefficientsIn : Reading → List (List ℕ)
@@ -115,6 +120,10 @@ largest = record { scheme = Gf256; size = 1500; width = 255 }
 abbrev adu : (n a b c d : ℕ) → Call
 adu n a b c d = source-call 1 (zeros n ++ a ∷ b ∷ c ∷ d ∷ [])
 
+-- With F 2, which is not announced.
+abbrev stray : (n a b c d : ℕ) → Call
+stray n a b c d = source-call 2 (zeros n ++ a ∷ b ∷ c ∷ d ∷ [])
+
 -- With DT 15, NSS of these bytes, and the ESI of these: a repair packet whose n bytes of repair symbols are zero.
 abbrev over : (x y : ℕ) (a b c d : ℕ) (n : ℕ) → Call
 over x y a b c d n = repair-call (0 ∷ 0 ∷ (0xF0 + x) ∷ y ∷ a ∷ b ∷ c ∷ d ∷ zeros n)
@@ -132,29 +141,35 @@ empty-at p = located (source p ((1 ∷ zeros 3) ∷ []))
 -- The bytes that a receiver needs and borrows: at E 4 and width 1, at E 4 and width 2, at the largest.
 pub sizes :
     memorySize (gf2 1) ∷ workingSize (gf2 1) ∷ memorySize (gf2 2) ∷ workingSize (gf2 2) ∷ memorySize largest ∷ workingSize largest ∷ []
-    ≡ 74 ∷ 84 ∷ 86 ∷ 97 ∷ 448864 ∷ 450624 ∷ []
+    ≡ 106 ∷ 116 ∷ 118 ∷ 129 ∷ 448896 ∷ 450656 ∷ []
 sizes = refl
 
 -- What the checks before 11 make of packets, at a base and with working memory of a size.
 pub checks :
     -- working memory of exactly the size, and one byte short
-    (reading (gf2 1) 0 84 (adu 0 0 0 0 0) ∷ reading (gf2 1) 0 83 (adu 0 0 0 0 0) ∷ [])
+    (reading (gf2 1) one 0 116 (adu 0 0 0 0 0) ∷ reading (gf2 1) one 0 115 (adu 0 0 0 0 0) ∷ [])
     -- 2 before 5, 4, 6, 8 and 9
-    ∷ map (reading (gf2 2) 1 96) (source-call 1 (zeros 3) ∷ adu 6 0 0 0 0 ∷ over 0 0 0 0 0 0 4 ∷ adu 0 0 0 0 0 ∷ adu 0 0 1 0 1 ∷ [])
+    ∷ map (reading (gf2 2) one 1 128) (source-call 1 (zeros 3) ∷ adu 6 0 0 0 0 ∷ over 0 0 0 0 0 0 4 ∷ adu 0 0 0 0 0 ∷ adu 0 0 1 0 1 ∷ [])
     -- 5 before 6, 8 and 9: source packets of 3 bytes and of none; repair packets of no symbol, of one and a byte, of 17; one of 16 has the form
-    ∷ map (reading (gf2 2) 1 97) (source-call 1 (zeros 3) ∷ source-call 1 (1 ∷ 0 ∷ 1 ∷ []) ∷ source-call 1 [] ∷ [])
-    ∷ map (reading (gf2 2) 1 97) (over 0 0 0 0 0 0 0 ∷ over 0 2 0 0 0 0 5 ∷ over 0 2 0 1 0 1 68 ∷ over 0 0 0 0 0 0 64 ∷ [])
+    ∷ map (reading (gf2 2) one 1 129) (source-call 1 (zeros 3) ∷ source-call 1 (1 ∷ 0 ∷ 1 ∷ []) ∷ source-call 1 [] ∷ [])
+    ∷ map (reading (gf2 2) one 1 129) (over 0 0 0 0 0 0 0 ∷ over 0 2 0 0 0 0 5 ∷ over 0 2 0 1 0 1 68 ∷ over 0 0 0 0 0 0 64 ∷ [])
     -- 4 and 6 before 8, at their limits; NSS has 12 bits
-    ∷ map (reading (gf2 2) 1 97) (adu 5 0 0 0 0 ∷ adu 6 0 0 0 0 ∷ [])
-    ∷ map (reading largest 1 450624) (adu 65535 0 0 0 0 ∷ adu 65536 0 0 0 0 ∷ [])
-    ∷ map (reading (gf2 2) 1 97) (over 0 0 0 0 0 0 4 ∷ over 0 1 0 0 0 0 4 ∷ over 0 2 0 0 0 0 4 ∷ over 0 3 0 0 0 0 4 ∷ over 1 1 0 0 0 0 4 ∷ [])
+    ∷ map (reading (gf2 2) one 1 129) (adu 5 0 0 0 0 ∷ adu 6 0 0 0 0 ∷ [])
+    ∷ map (reading largest one 1 450656) (adu 65535 0 0 0 0 ∷ adu 65536 0 0 0 0 ∷ [])
+    ∷ map (reading (gf2 2) one 1 129) (over 0 0 0 0 0 0 4 ∷ over 0 1 0 0 0 0 4 ∷ over 0 2 0 0 0 0 4 ∷ over 0 3 0 0 0 0 4 ∷ over 1 1 0 0 0 0 4 ∷ [])
     -- 4 and 6 before 9
-    ∷ map (reading (gf2 2) 0 97) (adu 5 0 1 0 0 ∷ adu 6 0 1 0 0 ∷ over 0 0 0 1 0 0 4 ∷ over 0 2 0 1 0 0 4 ∷ over 0 3 0 1 0 0 4 ∷ [])
+    ∷ map (reading (gf2 2) one 0 129) (adu 5 0 1 0 0 ∷ adu 6 0 1 0 0 ∷ over 0 0 0 1 0 0 4 ∷ over 0 2 0 1 0 0 4 ∷ over 0 3 0 1 0 0 4 ∷ [])
     -- the last position 65,535 and 65,536 past the base; the first 2^31 - 1 and 2^31 past it; the base at the last ESI, and past 2^32
-    ∷ map (reading (gf2 2) 0 97) (adu 0 0 0 0xFF 0xFF ∷ adu 0 0 1 0 0 ∷ adu 2 0 0 0xFF 0xFF ∷ adu 0 0x7F 0xFF 0xFF 0xFF ∷ adu 0 0x80 0 0 0 ∷ [])
-    ∷ (reading (gf2 2) 4294967295 97 (adu 0 0 0 0 0) ∷ reading (gf2 2) 4294967298 97 (adu 0 0 0 0 3) ∷ [])
+    ∷ map (reading (gf2 2) one 0 129) (adu 0 0 0 0xFF 0xFF ∷ adu 0 0 1 0 0 ∷ adu 2 0 0 0xFF 0xFF ∷ adu 0 0x7F 0xFF 0xFF 0xFF ∷ adu 0 0x80 0 0 0 ∷ [])
+    ∷ (reading (gf2 2) one 4294967295 129 (adu 0 0 0 0 0) ∷ reading (gf2 2) one 4294967298 129 (adu 0 0 0 0 3) ∷ [])
+    -- a flow that is not announced: 2 and 5 before 16; 16 before 4, 8 and 9, and where nothing else fails; its neighbours 0 and 2, and 9, one byte on
+    ∷ map (reading (gf2 2) one 1 128) (source-call 2 (zeros 3) ∷ stray 0 0 0 0 1 ∷ []) ∷ map (reading (gf2 2) one 1 129) (source-call 2 (zeros 3) ∷ [])
+    ∷ map (reading (gf2 2) one 1 129) (stray 6 0 0 0 1 ∷ stray 0 0 0 0 0 ∷ stray 0 0 1 0 1 ∷ stray 0 0 0 0 1 ∷ [])
+    ∷ map (reading (gf2 2) one 0 129) (source-call 0 (zeros 4) ∷ source-call 9 (zeros 4) ∷ source-call 1 (zeros 4) ∷ [])
+    -- none is announced: a repair packet is read all the same
+    ∷ map (reading (gf2 2) (zeros 32) 0 129) (adu 0 0 0 0 0 ∷ over 0 3 0 0 0 0 4 ∷ [])
     -- the keys 65,535 and 0 of two repair symbols
-    ∷ (reading (gf256 2) 0 97 (repair-call (0xFF ∷ 0xFF ∷ 0xF0 ∷ 2 ∷ zeros 12)) ∷ [])
+    ∷ (reading (gf256 2) one 0 129 (repair-call (0xFF ∷ 0xFF ∷ 0xF0 ∷ 2 ∷ zeros 12)) ∷ [])
     ∷ []
     ≡ (empty-at 0 ∷ fails 2 ∷ [])
     ∷ (fails 2 ∷ fails 2 ∷ fails 2 ∷ fails 2 ∷ fails 2 ∷ [])
@@ -162,17 +177,21 @@ pub checks :
     ∷ (fails 8 ∷ fails 4 ∷ []) ∷ (fails 8 ∷ fails 4 ∷ []) ∷ (fails 6 ∷ fails 8 ∷ fails 8 ∷ fails 6 ∷ fails 6 ∷ [])
     ∷ (fails 9 ∷ fails 4 ∷ fails 6 ∷ fails 9 ∷ fails 6 ∷ [])
     ∷ (empty-at 65535 ∷ fails 9 ∷ fails 9 ∷ fails 9 ∷ fails 8 ∷ []) ∷ (empty-at 4294967296 ∷ empty-at 4294967299 ∷ [])
+    ∷ (fails 2 ∷ fails 2 ∷ []) ∷ (fails 5 ∷ [])
+    ∷ (fails 16 ∷ fails 16 ∷ fails 16 ∷ fails 16 ∷ [])
+    ∷ (fails 16 ∷ fails 16 ∷ empty-at 0 ∷ [])
+    ∷ (fails 16 ∷ fails 6 ∷ [])
     ∷ (located (repair 0 2 ((52 ∷ 199 ∷ []) ∷ (39 ∷ 42 ∷ []) ∷ []) (zeros 4 ∷ zeros 4 ∷ [])) ∷ [])
     ∷ []
 unfolding
     computing nonzeroFrom bitOf byteOf extend coefficientsOf part
     symbolCount adui sourceSymbols sourceForm sourceAdu sourceEsi repairCount repairForm repairKey densityThreshold protectedCount firstEsi repairSymbols
-    halfway sideOf check farthest fromSide readSource readRepair reading
+    halfway sideOf check farthest fromSide announced readSource readRepair reading
 checks = refl
 
 -- How many symbols the key 17,283 takes of 15, at every DT: its draws compare DT with each number from 1 to 15 once.
 pub densities :
-    map (λ dt. total (coefficientsIn (reading (gf2 15) 0 (workingSize (gf2 15)) (repair-call (0x43 ∷ 0x83 ∷ dt * 16 ∷ 15 ∷ zeros 8)))))
+    map (λ dt. total (coefficientsIn (reading (gf2 15) one 0 (workingSize (gf2 15)) (repair-call (0x43 ∷ 0x83 ∷ dt * 16 ∷ 15 ∷ zeros 8)))))
     (0 ∷ 1 ∷ 2 ∷ 3 ∷ 4 ∷ 5 ∷ 6 ∷ 7 ∷ 8 ∷ 9 ∷ 10 ∷ 11 ∷ 12 ∷ 13 ∷ 14 ∷ 15 ∷ [])
     ≡ 0 ∷ 1 ∷ 2 ∷ 3 ∷ 4 ∷ 5 ∷ 6 ∷ 7 ∷ 8 ∷ 9 ∷ 10 ∷ 11 ∷ 12 ∷ 13 ∷ 14 ∷ 15 ∷ []
 unfolding
@@ -185,6 +204,11 @@ pub calls :
     -- before any base refusals leave none: 4, 6, and 11 of a symbol that is not zero and combines nothing; after them the base is the first ESI
     after (gf2 2) (adu 6 0 0 0 0 ∷ over 0 3 0 0 0 0 4 ∷ combines 1 4 1 0 (1 ∷ zeros 3) ∷ [])
     ∷ after (gf2 2) (combines 1 4 1 0 (1 ∷ zeros 3) ∷ adu 0 0 0 0 7 ∷ [])
+    -- so does one of a flow that is not announced, and what comes after it joins; later it raises nothing, makes nothing known and marks nothing
+    ∷ after (gf2 2) (stray 0 0 0 0 3 ∷ []) ∷ after (gf2 2) (stray 0 0 0 0 3 ∷ adu 0 0 0 0 7 ∷ [])
+    ∷ after (gf2 2) (adu 0 0 0 0 0 ∷ stray 0 0 0 0 2 ∷ stray 0 0 0 0 1 ∷ stray 0 0 0 0 0 ∷ [])
+    -- a solved ADU of such a flow is counted, and marks on
+    ∷ after (gf2 2) (adu 0 0 0 0 0 ∷ combines 0 15 1 1 (2 ∷ 0 ∷ 1 ∷ 7 ∷ []) ∷ [])
     -- positions go on past 2^32
     ∷ after (gf2 1) (adu 0 0xFF 0xFF 0xFF 0xFF ∷ adu 0 0 0 0 0 ∷ [])
     -- the base rises for a packet that combines nothing, and for one that combines a known symbol alone; not for one that is refused
@@ -207,6 +231,9 @@ pub calls :
     ∷ []
     ≡ stands (refusal 4 ∷ refusal 6 ∷ refusal 11 ∷ []) none [] []
     ∷ stands (refusal 11 ∷ value 1 ∷ []) (some 7) (0 ∷ []) (0 ∷ 1 ∷ [])
+    ∷ stands (refusal 16 ∷ []) none [] [] ∷ stands (refusal 16 ∷ value 1 ∷ []) (some 7) (0 ∷ []) (0 ∷ 1 ∷ [])
+    ∷ stands (value 1 ∷ refusal 16 ∷ refusal 16 ∷ refusal 16 ∷ []) (some 0) (0 ∷ []) (0 ∷ 1 ∷ [])
+    ∷ stands (value 1 ∷ value 1 ∷ []) (some 0) (0 ∷ 1 ∷ []) (0 ∷ 1 ∷ 2 ∷ [])
     ∷ stands (value 1 ∷ value 1 ∷ []) (some 4294967296) (0 ∷ []) (0 ∷ 1 ∷ [])
     ∷ stands (value 1 ∷ value 0 ∷ []) (some 1) [] (0 ∷ [])
     ∷ stands (value 1 ∷ value 1 ∷ value 0 ∷ []) (some 1) (0 ∷ []) (0 ∷ 1 ∷ [])
@@ -224,7 +251,7 @@ pub calls :
 unfolding
     computing product inverse inverse-below nonzeroFrom bitOf byteOf extend coefficientsOf part
     symbolCount adui sourceSymbols sourceForm sourceAdu sourceEsi repairCount repairForm repairKey densityThreshold protectedCount firstEsi repairSymbols
-    halfway sideOf check farthest fromSide readSource readRepair reading answering
+    halfway sideOf check farthest fromSide announced readSource readRepair reading answering
     packets.source packets.source-rows packets.row packets.only packets.repair
     decoder.empty decoder.receive decoder.rise decoder.newly decoder.count-new decoder.is-new
     decoder.embed decoder.advance-by decoder.insert-all
@@ -276,7 +303,7 @@ pub origins :
 unfolding
     computing product inverse inverse-below nonzeroFrom bitOf byteOf extend coefficientsOf part
     symbolCount adui sourceSymbols sourceForm sourceAdu sourceEsi repairCount repairForm repairKey densityThreshold protectedCount firstEsi repairSymbols
-    halfway sideOf check farthest fromSide readSource readRepair reading answering
+    halfway sideOf check farthest fromSide announced readSource readRepair reading answering
     packets.source packets.source-rows packets.row packets.only packets.repair
     decoder.empty decoder.receive decoder.rise decoder.newly decoder.count-new decoder.is-new
     decoder.embed decoder.advance-by decoder.insert-all

@@ -1,4 +1,4 @@
--- The receiver as a plain history (document 01, "Receiver, as a plain history", and document 02, No. 2): what a packet says where it lies, which
+-- The receiver as a plain history (document 01, "Receiver, as a plain history", and document 02, No. 2 and 7): what a packet says where it lies, which
 -- packets a list of calls has accepted, where that has brought the base, and what the next call has to answer. No memory and no elimination stands here.
 use Rattle.words.specs.Words.{_≡_, ℕ, _≤_, _+_, List, length, _<_, _-_, [], some, _%_, _∷_, suc, true, zero, none, false, Bool, Option, _^_, cond, ltb}
 use Rattle.words.specs.Words.{leb, _↔_, _&&_, map, _⊎_, max}
@@ -9,6 +9,7 @@ use Rattle.wire.specs.Answers.{Said, value, refusal}
 use Rattle.wire.specs.Packets.{longestAdu, symbolCount, sourceSymbols, sourceForm, sourceAdu, sourceEsi, repairForm, repairKey, densityThreshold}
 use Rattle.wire.specs.Packets.{protectedCount, firstEsi, repairSymbols}
 use Rattle.wire.specs.Opening.{receiverMemory, workingMemory}
+use Rattle.wire.specs.Flows.{announced}
 use Rattle.coefficients.specs.Coefficients.{keys, listsOf, allOk}
 use Rattle.rows.specs.Combination.{combination}
 use Rattle.starts.specs.Adu.{needs}
@@ -122,14 +123,15 @@ workingSize s = workingMemory (s .size) (s .width)
 module _ (s : Setting) where
   open Setting s using (scheme, size as E, width)
 
-  -- A source packet: form (5), ADU (4), place (8, 9).
-  unfoldable pub readSource : (base flow : ℕ) → List ℕ → Reading
-  readSource base flow p =
+  -- A source packet, where these flows are announced: form (5), flow (16), ADU (4), place (8, 9).
+  unfoldable pub readSource : (flows : List ℕ) (base flow : ℕ) → List ℕ → Reading
+  readSource flows base flow p =
       let adu = sourceAdu p in
       let n = symbolCount E (length adu) in
       check (sourceForm p) 5
+      (check (announced flows flow) 16
       (check (leb (length adu) longestAdu && leb n width) 4
-      (fromSide n (sideOf base (sourceEsi p)) (λ d. located (source (base + d) (sourceSymbols flow adu E)))))
+      (fromSide n (sideOf base (sourceEsi p)) (λ d. located (source (base + d) (sourceSymbols flow adu E))))))
 
   -- A repair packet: form (5), number of symbols protected (6), place (8, 9), coefficients (10).
   unfoldable pub readRepair : (base : ℕ) → List ℕ → Reading
@@ -143,13 +145,13 @@ module _ (s : Setting) where
       (fromSide n (sideOf base (firstEsi p))
       (λ d. check (allOk scheme dt n ks) 10 (located (repair (base + d) n (listsOf scheme dt n ks) symbols)))))
 
-  abbrev pub readPacket : (base : ℕ) → Call → Reading
-  readPacket base (source-call flow p) = readSource base flow p
-  readPacket base (repair-call p) = readRepair base p
+  abbrev pub readPacket : (flows : List ℕ) (base : ℕ) → Call → Reading
+  readPacket flows base (source-call flow p) = readSource flows base flow p
+  readPacket flows base (repair-call p) = readRepair base p
 
   -- A call that is lent `room` bytes of working memory: too few are refused (2) before the packet is read.
-  unfoldable pub reading : (base room : ℕ) → Call → Reading
-  reading base room c = check (leb (workingSize s) room) 2 (readPacket base c)
+  unfoldable pub reading : (flows : List ℕ) (base room : ℕ) → Call → Reading
+  reading flows base room c = check (leb (workingSize s) room) 2 (readPacket flows base c)
 
 -- ---- The history
 
@@ -193,10 +195,10 @@ module _ (s : Setting) where
   baseOf [] = none
   baseOf (q ∷ l) = some (raised (baseOf l) q)
 
-  -- What the checks before 11 make of a call that is lent `room` bytes of working memory: where there is no base yet, the packet's first ESI is taken
-  -- for it.
-  abbrev pub readAfter : Log → (room : ℕ) → Call → Reading
-  readAfter l room c = reading s (baseFor (baseOf l) (esiOf c)) room c
+  -- What the checks before 11 make of a call that is lent `room` bytes of working memory, where these flows are announced: where there is no base yet, the
+  -- packet's first ESI is taken for it.
+  abbrev pub readAfter : (flows : List ℕ) → Log → (room : ℕ) → Call → Reading
+  readAfter flows l room c = reading s flows (baseFor (baseOf l) (esiOf c)) room c
 
   -- The log after a call that answered so: a packet is accepted when its call answers a count and no refusal.
   abbrev pub logged : Log → Reading → Said → Log

@@ -73,12 +73,12 @@ module _ (s : Setting) where
   responds t (fails n) = refused n
   responds t (located q) = added t (decoder.receive t (packetOf E q))
 
-  -- A packet call that is lent `room` bytes of working memory, at a receiver that has a base; and at any.
-  unfoldable pub answering : Joined s → (room : ℕ) → Call → Outcome s
-  answering t room c = responds t (reading s (t .base) room c)
+  -- A packet call that is lent `room` bytes of working memory, at a receiver that announces these flows and has a base; and at any that announces them.
+  unfoldable pub answering : (flows : List ℕ) → Joined s → (room : ℕ) → Call → Outcome s
+  answering flows t room c = responds t (reading s flows (t .base) room c)
 
-  abbrev pub receiving : State s → (room : ℕ) → Call → Outcome s
-  receiving t room c = answering (foundBy s t (esiOf c)) room c
+  abbrev pub receiving : (flows : List ℕ) → State s → (room : ℕ) → Call → Outcome s
+  receiving flows t room c = answering flows (foundBy s t (esiOf c)) room c
 
   abbrev pub shown : (position : ℕ) → Option (Symbol E) → Finding E
   shown p none = hides 12
@@ -115,14 +115,14 @@ module _ (s : Setting) where
   marking t M (fails m) o = M
 
   -- The ADU call at a place: 8 behind the base, 12 past the window, else what the window hands out there.
-  abbrev pub aduIn : Joined s → Starts → (room : ℕ) → Side → Handing
-  aduIn t M room behind = withholds 8
-  aduIn t M room (ahead d) = need (ltb d width) 12 (handing E width room M (seen E width (t .window)) d)
+  abbrev pub aduIn : (flows : List ℕ) → Joined s → Starts → (room : ℕ) → Side → Handing
+  aduIn flows t M room behind = withholds 8
+  aduIn flows t M room (ahead d) = need (ltb d width) 12 (handing E width flows room M (seen E width (t .window)) d)
 
   -- The ADU call for the ESI e, with `room` bytes of output: before any base 12.
-  unfoldable pub aduAt : State s → Starts → (room e : ℕ) → Handing
-  aduAt none M room e = withholds 12
-  aduAt (some t) M room e = aduIn t M room (sideOf (t .base) e)
+  unfoldable pub aduAt : (flows : List ℕ) → State s → Starts → (room e : ℕ) → Handing
+  aduAt flows none M room e = withholds 12
+  aduAt flows (some t) M room e = aduIn flows t M room (sideOf (t .base) e)
 
 -- ---- Origins
 

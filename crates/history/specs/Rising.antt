@@ -1,6 +1,6 @@
 -- Where the base is after a packet call, from the packet's bytes alone (document 01, "Receiver, as a plain history"; document 02, No. 2): the first packet
 -- accepted sets it to its own first ESI; after that it rises, by the least needed, until an accepted packet's last position fits, whatever the packet says.
-use Rattle.words.specs.Words.{_≡_, ℕ, _≤_, _+_, _-_, some, none, Option, max}
+use Rattle.words.specs.Words.{_≡_, ℕ, List, _≤_, _+_, _-_, some, none, Option, max}
 use Rattle.wire.specs.declared.Setting.{Setting}
 use Rattle.wire.specs.Settings.{Valid}
 use Rattle.wire.specs.Answers.{Said, refusal}
@@ -28,5 +28,5 @@ pub record BaseAfter (s : Setting) (before : Option ℕ) (c : Call) (a : Said) (
 -- Of every call that is answered as the history asks.
 abbrev pub Base-raised : Type 0
 Base-raised =
-    (s : Setting) → Valid s → (l : Log) (room : ℕ) (c : Call) → OfBytes c → (a : Said) → Judged s l (readAfter s l room c) a
-    → BaseAfter s (baseOf s l) c a (baseOf s (logged s l (readAfter s l room c) a))
+    (s : Setting) → Valid s → (flows : List ℕ) (l : Log) (room : ℕ) (c : Call) → OfBytes c → (a : Said) → Judged s l (readAfter s flows l room c) a
+    → BaseAfter s (baseOf s l) c a (baseOf s (logged s l (readAfter s flows l room c) a))
