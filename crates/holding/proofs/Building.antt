@@ -8,7 +8,7 @@ use native.Mathlib.Nat.{mod-eq-sub-mod}
 use lib.Seq.{drop-at, getD-append-add}
 use Rattle.memory.specs.Part.{part, splice}
 use Rattle.memory.specs.Number.{number, bytes}
-use Rattle.memory.proofs.Parts.{part-drop}
+use Rattle.memory.proofs.Parts.{part-drop, length-splice, past-splice, getD-past}
 use Rattle.memory.proofs.Number.{number-bytes}
 use Rattle.rows.specs.Combination.{tabulate}
 use Rattle.rows.proofs.Combinations.{length-tabulate, getD-tabulate}
@@ -29,10 +29,11 @@ use Rattle.table.specs.Window.{headerSize, stride}
 use Rattle.history.specs.Symbol.{Symbol, bytesOf}
 use Rattle.history.specs.History.{memorySize}
 use Rattle.history.specs.Model.{Joined, Origins}
-use Rattle.origins.specs.Origins.{heardIn}
+use Rattle.origins.specs.Origins.{originAt, heardIn}
 use Rattle.holding.specs.Header.{rowIn, headerIn}
-use Rattle.holding.specs.Layout.{headerFrom, Holds}
+use Rattle.holding.specs.Layout.{headerFrom, HoldsWith}
 use Rattle.holding.proofs.Headers.{found-joined}
+use Rattle.holding.proofs.Flows.{with-flows}
 use Rattle.history.proofs.Says.{symbol-tail, bytes-sized}
 use Rattle.decoder.specs.Model as model
 use Rattle.table.specs.Window as window
@@ -308,7 +309,7 @@ module _ (s : Setting) (v : Valid s) (t : Joined s) (past : List ℕ) where
       (ap (λ (l : List (List ℕ)). x ∷ l) (cut k xs (h .1)))
 
   abbrev head : List ℕ
-  head = settingBytes 2 s ++ (bytes 2 (t .base % w + 1) ++ (0 ∷ 0 ∷ (bytes 4 (t .base % 2 ^ 32) ++ zeros 48)))
+  head = settingBytes 2 s ++ (bytes 2 (t .base % w + 1) ++ (0 ∷ 0 ∷ (bytes 4 (t .base % 2 ^ 32) ++ zeros 80)))
 
   abbrev body : List ℕ
   body = joined (rowsFrom 0 w) ++ past
@@ -316,7 +317,7 @@ module _ (s : Setting) (v : Valid s) (t : Joined s) (past : List ℕ) where
   abbrev memory : List ℕ
   memory = head ++ body
 
-  length-head : length head ≡ 64
+  length-head : length head ≡ 96
   unfolding settingBytes
   length-head = refl
 
@@ -324,19 +325,19 @@ module _ (s : Setting) (v : Valid s) (t : Joined s) (past : List ℕ) where
   unfolding stride
   length-rows = length-joined (window.stride w E) (rowsFrom 0 w) (rows-sized 0 w) ∙ ap (λ n. n * window.stride w E) (rows-length 0 w)
 
-  length-memory : length memory ≡ 64 + w * (w + E + 4) + length past
+  length-memory : length memory ≡ 96 + w * (w + E + 4) + length past
   length-memory = length-append head body ∙ omega (arith, length-head, length-append (joined (rowsFrom 0 w)) past, length-rows)
 
-  past-memory : drop (64 + w * (w + E + 4)) memory ≡ past
+  past-memory : drop (96 + w * (w + E + 4)) memory ≡ past
   past-memory =
-      sym (drop-drop (w * (w + E + 4)) 64 memory) ∙ ap (drop (w * (w + E + 4))) (drop-at head body 64 length-head)
+      sym (drop-drop (w * (w + E + 4)) 96 memory) ∙ ap (drop (w * (w + E + 4))) (drop-at head body 96 length-head)
       ∙ drop-at (joined (rowsFrom 0 w)) past (w * (w + E + 4)) length-rows
 
   row-is : (r : ℕ) → r < w → window.row w E r memory ≡ rowBytes w E (t .base) wide (t .window) r
   unfolding headerSize stride
   row-is r h =
       let k = window.stride w E in
-      part-drop 64 (r * k) k memory ∙ ap (part (r * k) k) (drop-at head body 64 length-head)
+      part-drop 96 (r * k) k memory ∙ ap (part (r * k) k) (drop-at head body 96 length-head)
       ∙ sym (getD-chunks w k body r h) ∙ ap (λ n. getD (chunks n k body) r []) (sym (rows-length 0 w))
       ∙ ap (λ (l : List (List ℕ)). getD l r []) (cut k (rowsFrom 0 w) (rows-sized 0 w))
       ∙ getD-rows 0 w r h ∙ ap (rowBytes w E (t .base) wide (t .window)) (zero-add r)
@@ -344,7 +345,7 @@ module _ (s : Setting) (v : Valid s) (t : Joined s) (past : List ℕ) where
   setting-is : settingIn 2 memory ≡ some s
   unfolding splice
   setting-is =
-      let rest = bytes 2 (t .base % w + 1) ++ (0 ∷ 0 ∷ (bytes 4 (t .base % 2 ^ 32) ++ zeros 48)) in
+      let rest = bytes 2 (t .base % w + 1) ++ (0 ∷ 0 ∷ (bytes 4 (t .base % 2 ^ 32) ++ zeros 80)) in
       let x = settingBytes 2 s in
       let same : splice 0 x memory ≡ memory =
       ap (λ (l : List ℕ). x ++ l) (ap (drop (length x)) (append-assoc x rest body) ∙ drop-at x (rest ++ body) (length x) refl)
@@ -367,10 +368,10 @@ module _ (s : Setting) (v : Valid s) (t : Joined s) (past : List ℕ) where
 abbrev origin-bytes : (w b : ℕ) → 0 < w → Origins → List ℕ
 origin-bytes w b z H = tabulate (λ r. cond (H (b + index w b z r)) 1 0) w
 
--- A memory that holds the state and says that these positions are heard, with these bytes past its size.
-pub record Built (s : Setting) (t : Joined s) (H : Origins) (past : List ℕ) : Type 0 where
+-- A memory that holds the state and the flows, and says that these positions are heard, with these bytes past its size.
+pub record Built (s : Setting) (flows : List ℕ) (t : Joined s) (H : Origins) (past : List ℕ) : Type 0 where
   pub memory : List ℕ
-  pub holds : Holds memory s (some t)
+  pub holds : HoldsWith memory s flows (some t)
   pub heard : (i : ℕ) → i < s .width → heardIn (s .width) (s .size) memory ((t .base + i) % s .width) ≡ H (t .base + i)
   pub same : length memory ≡ memorySize s + length past
   pub rest : drop (memorySize s) memory ≡ past
@@ -387,7 +388,7 @@ module _ (s : Setting) (v : Valid s) (t : Joined s) (H : Origins) (past : List �
   length-bits : length bits ≡ w
   length-bits = length-tabulate _ w
 
-  bits-past : drop (64 + w * (w + E + 4)) whole ≡ bits ++ past
+  bits-past : drop (96 + w * (w + E + 4)) whole ≡ bits ++ past
   bits-past = past-memory s v t (bits ++ past)
 
   -- What the byte of a row says.
@@ -402,26 +403,31 @@ module _ (s : Setting) (v : Valid s) (t : Joined s) (H : Origins) (past : List �
       let r = (t .base + i) % w in
       let l : r < w = mod-lt (t .base + i) z in
       ap (ltb 0)
-      (sym (getD-drop (64 + w * (w + E + 4)) whole r 0) ∙ ap (λ (x : List ℕ). getD x r 0) bits-past
+      (sym (getD-drop (96 + w * (w + E + 4)) whole r 0) ∙ ap (λ (x : List ℕ). getD x r 0) bits-past
       ∙ List·getD-append bits past 0 r (omega (arith, length-bits, l)) ∙ getD-tabulate _ w r l)
       ∙ says (H (t .base + index w (t .base) z r)) ∙ ap (λ x. H (t .base + x)) (index-is w (t .base) z i h)
 
-pub built : (s : Setting) → Valid s → (t : Joined s) → Rref (t .window) → (H : Origins) (past : List ℕ) → Built s t H past
-built s v t r H past =
+pub built : (s : Setting) (flows : List ℕ) → Valid s → length flows ≡ 32 → (t : Joined s) → Rref (t .window) → (H : Origins) (past : List ℕ)
+    → Built s flows t H past
+unfolding headerSize
+built s flows v q t r H past =
     let w : ℕ = s .width in
     let x = bits s v t H past in
     let l = length-bits s v t H past in
     let m = whole s v t H past in
+    let size : length m ≡ memorySize s + length past = length-memory s v t (x ++ past) ∙ omega (arith, length-append x past, l) in
     record {
-      memory = m;
-      holds = record {
+      memory = splice 32 flows m;
+      holds = with-flows m s flows q (some t) (record {
         header = header-is s v t (x ++ past) (omega (arith, length-append x past, l));
         rows = record {
           reduced = r;
           rows = rows-held w (s .size) (t .base) (wide s v t past) (t .window) m (row-is s v t (x ++ past));
         };
-      };
-      heard = bit-is s v t H past;
-      same = length-memory s v t (x ++ past) ∙ omega (arith, length-append x past, l);
-      rest = sym (drop-drop w (64 + w * (w + s .size + 4)) m) ∙ ap (drop w) (bits-past s v t H past) ∙ drop-at x past w l;
+      });
+      heard = λ i h.
+          ap (ltb 0) (getD-past (originAt w (s .size) ((t .base + i) % w)) 32 flows m (omega (arith, q)) (omega (arith, size))) ∙ bit-is s v t H past i h;
+      same = length-splice 32 flows m (omega (arith, q, size)) ∙ size;
+      rest = past-splice (memorySize s) 32 flows m (omega (arith, q)) (omega (arith, size))
+          ∙ sym (drop-drop w (96 + w * (w + s .size + 4)) m) ∙ ap (drop w) (bits-past s v t H past) ∙ drop-at x past w l;
     }

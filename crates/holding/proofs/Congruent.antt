@@ -150,15 +150,17 @@ module _ (b c : ℕ) where
   side-shifted n behind f g k = both-fail 8
   side-shifted n (ahead d) f g k = check-shifted (leb (d + n) farthest) 9 (f d) (g d) (k d)
 
-  reading-shifted : (s : Setting) (room : ℕ) (call : Call) → b % 2 ^ 32 ≡ c % 2 ^ 32 → Shifted b c (reading s b room call) (reading s c room call)
+  reading-shifted : (s : Setting) (flows : List ℕ) (room : ℕ) (call : Call) → b % 2 ^ 32 ≡ c % 2 ^ 32
+      → Shifted b c (reading s flows b room call) (reading s flows c room call)
   unfolding reading readSource readRepair
-  reading-shifted s room (source-call flow p) h =
+  reading-shifted s flows room (source-call flow p) h =
       check-shifted _ 2 _ _
       (check-shifted _ 5 _ _
+      (check-shifted _ 16 _ _
       (check-shifted _ 4 _ _
       (rw (side-same b c (sourceEsi p) h)
-      (side-shifted _ (sideOf c (sourceEsi p)) _ _ (λ d. both-source d (sourceSymbols flow (sourceAdu p) (s .size)))))))
-  reading-shifted s room (repair-call p) h =
+      (side-shifted _ (sideOf c (sourceEsi p)) _ _ (λ d. both-source d (sourceSymbols flow (sourceAdu p) (s .size))))))))
+  reading-shifted s flows room (repair-call p) h =
       check-shifted _ 2 _ _
       (check-shifted _ 5 _ _
       (check-shifted _ 6 _ _
@@ -227,12 +229,14 @@ module _ (s : Setting) where
   responds-alike b c S r q h g (both-repair d n cs vs) = packet-alike b c d n _ S h g
 
   -- A packet call comes to the same.
-  pub answering-alike : (t u : Joined s) (room : ℕ) (c : Call) → SameFrom s t u → Alike s (answering s t room c) (answering s u room c)
+  pub answering-alike : (flows : List ℕ) (t u : Joined s) (room : ℕ) (c : Call) → SameFrom s t u
+      → Alike s (answering s flows t room c) (answering s flows u room c)
   unfolding answering
-  answering-alike t u room c k =
-      subst (λ S. Alike s (responds s t (reading s (t .base) room c)) (responds s (record { base = u .base; window = S }) (reading s (u .base) room c)))
+  answering-alike flows t u room c k =
+      subst
+      (λ S. Alike s (responds s t (reading s flows (t .base) room c)) (responds s (record { base = u .base; window = S }) (reading s flows (u .base) room c)))
       (k .window)
-      (responds-alike (t .base) (u .base) (t .window) _ _ (k .row) (k .esi) (reading-shifted (t .base) (u .base) s room c (k .esi)))
+      (responds-alike (t .base) (u .base) (t .window) _ _ (k .row) (k .esi) (reading-shifted (t .base) (u .base) s flows room c (k .esi)))
 
 -- ---- Marks
 
@@ -294,15 +298,16 @@ module _ (s : Setting) where
     marking-shifted r q (both-repair d n cs vs) i l = repair-packet d n cs vs _ i l
 
   -- The marks after a packet call.
-  pub marking-alike : (t u : Joined s) (room : ℕ) (c : Call) (M N : Starts) → SameFrom s t u → Agree w M N
-      → Agree w (marking s t M (reading s (t .base) room c) (answering s t room c)) (marking s u N (reading s (u .base) room c) (answering s u room c))
+  pub marking-alike : (flows : List ℕ) (t u : Joined s) (room : ℕ) (c : Call) (M N : Starts) → SameFrom s t u → Agree w M N
+      → Agree w (marking s t M (reading s flows (t .base) room c) (answering s flows t room c))
+      (marking s u N (reading s flows (u .base) room c) (answering s flows u room c))
   unfolding answering
-  marking-alike t u room c M N k a =
-      let r = reading s (t .base) room c in
-      let q = reading s (u .base) room c in
+  marking-alike flows t u room c M N k a =
+      let r = reading s flows (t .base) room c in
+      let q = reading s flows (u .base) room c in
       subst (λ S. let x : Joined s = record { base = u .base; window = S } in Agree w (marking s t M r (responds s t r)) (marking s x N q (responds s x q)))
       (k .window)
-      (marking-shifted (t .base) (u .base) (t .window) M N a r q (reading-shifted (t .base) (u .base) s room c (k .esi)))
+      (marking-shifted (t .base) (u .base) (t .window) M N a r q (reading-shifted (t .base) (u .base) s flows room c (k .esi)))
 
 -- ---- Origins
 
@@ -388,11 +393,11 @@ module _ (s : Setting) where
     heard-shifted r q (both-repair d n cs vs) = packet-heard d n r q _ (λ k. repair-heard d n k cs vs)
 
   -- What is heard after a packet call.
-  pub origins-alike : (t u : Joined s) (room : ℕ) (c : Call) (H K : Origins) → SameFrom s t u → AgreeFrom (t .base) (u .base) H K
-      → HeardAlike t u H K (reading s (t .base) room c) (reading s (u .base) room c) (answering s t room c) (answering s u room c)
+  pub origins-alike : (flows : List ℕ) (t u : Joined s) (room : ℕ) (c : Call) (H K : Origins) → SameFrom s t u → AgreeFrom (t .base) (u .base) H K
+      → HeardAlike t u H K (reading s flows (t .base) room c) (reading s flows (u .base) room c) (answering s flows t room c) (answering s flows u room c)
   unfolding answering
-  origins-alike t u room c H K k a =
-      let r = reading s (t .base) room c in
-      let q = reading s (u .base) room c in
+  origins-alike flows t u room c H K k a =
+      let r = reading s flows (t .base) room c in
+      let q = reading s flows (u .base) room c in
       subst (λ S. let x : Joined s = record { base = u .base; window = S } in HeardAlike t x H K r q (responds s t r) (responds s x q)) (k .window)
-      (heard-shifted (t .base) (u .base) (t .window) H K a r q (reading-shifted (t .base) (u .base) s room c (k .esi)))
+      (heard-shifted (t .base) (u .base) (t .window) H K a r q (reading-shifted (t .base) (u .base) s flows room c (k .esi)))

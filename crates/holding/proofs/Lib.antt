@@ -1,4 +1,5 @@
 pub mod Headers
+pub mod Flows
 pub mod Standing
 pub mod Finding
 pub mod Building

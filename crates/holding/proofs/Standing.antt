@@ -152,7 +152,7 @@ pub record Hidden (m : List ℕ) (e : ℕ) (x : Refusal) : Type 0 where
   pub unopened : headerIn m ≡ none → x ≡ Unopened
   pub opened : (h : Header) → headerIn m ≡ some h → numberOf x ≢ 3
   pub symbol : (s : Setting) (t : State s) → Holds m s t → finding s t e ≡ hides (numberOf x)
-  pub adu : (s : Setting) (t : State s) → Holds m s t → (M : Starts) (room : ℕ) → aduAt s t M room e ≡ withholds (numberOf x)
+  pub adu : (s : Setting) (t : State s) → Holds m s t → (flows : List ℕ) (M : Starts) (room : ℕ) → aduAt s flows t M room e ≡ withholds (numberOf x)
 
 -- Every base with the header's ESI has the header's side.
 pub side-held : (e b : ℕ) (h : Header) → h .esi .0 ≡ b % 2 ^ 32 → sideOf b e ≡ sideOf (h .esi .0) e
@@ -174,7 +174,7 @@ module _ (m : List ℕ) (e : ℕ) where
       unopened = λ z. absurd (Option·none-ne-some h (sym z ∙ k));
       opened = λ y z q. omega (arith, q);
       symbol = of-header m h k (λ s t. finding s t e ≡ hides 12) (λ _. refl) (λ t g i r b. absurd (true≢false (sym i ∙ j)));
-      adu = of-header m h k (λ s t. (M : Starts) (room : ℕ) → aduAt s t M room e ≡ withholds 12) (λ _ M room. refl)
+      adu = of-header m h k (λ s t. (flows : List ℕ) (M : Starts) (room : ℕ) → aduAt s flows t M room e ≡ withholds 12) (λ _ flows M room. refl)
           (λ t g i r b. absurd (true≢false (sym i ∙ j)));
     }
 
@@ -182,26 +182,26 @@ module _ (m : List ℕ) (e : ℕ) where
       -- With a base, by the side alone.
       by-side : (x : Refusal) → numberOf x ≢ 3
           → ((t : Joined (h .setting)) → sideOf (t .base) e ≡ sideOf (h .esi .0) e → finding (h .setting) (some t) e ≡ hides (numberOf x))
-          → ((t : Joined (h .setting)) → sideOf (t .base) e ≡ sideOf (h .esi .0) e → (M : Starts) (room : ℕ)
-          → aduAt (h .setting) (some t) M room e ≡ withholds (numberOf x))
+          → ((t : Joined (h .setting)) → sideOf (t .base) e ≡ sideOf (h .esi .0) e → (flows : List ℕ) (M : Starts) (room : ℕ)
+          → aduAt (h .setting) flows (some t) M room e ≡ withholds (numberOf x))
           → Hidden m e x
       by-side x n f g = record {
         unopened = λ z. absurd (Option·none-ne-some h (sym z ∙ k));
         opened = λ y z. n;
         symbol = of-joined m h k j (λ s t. finding s t e ≡ hides (numberOf x)) (λ t _ _ b. f t (side-held e (t .base) h b));
-        adu = of-joined m h k j (λ s t. (M : Starts) (room : ℕ) → aduAt s t M room e ≡ withholds (numberOf x))
+        adu = of-joined m h k j (λ s t. (flows : List ℕ) (M : Starts) (room : ℕ) → aduAt s flows t M room e ≡ withholds (numberOf x))
             (λ t _ _ b. g t (side-held e (t .base) h b));
       }
 
       hidden-behind : sideOf (h .esi .0) e ≡ behind → Hidden m e Behind
       unfolding finding aduAt
-      hidden-behind s = by-side Behind (λ q. omega (arith, q)) (λ t q. rw (q, s)) (λ t q M room. rw (q, s))
+      hidden-behind s = by-side Behind (λ q. omega (arith, q)) (λ t q. rw (q, s)) (λ t q flows M room. rw (q, s))
 
       hidden-past : (d : ℕ) → sideOf (h .esi .0) e ≡ ahead d → h .setting .width ≤ d → Hidden m e Unknown
       unfolding finding aduAt need
       hidden-past d s l =
           by-side Unknown (λ q. omega (arith, q)) (λ t q. rw (q, s, le-ltb d (h .setting .width) l))
-          (λ t q M room. rw (q, s, le-ltb d (h .setting .width) l))
+          (λ t q flows M room. rw (q, s, le-ltb d (h .setting .width) l))
 
 abbrev Outlying : (m : List ℕ) (e : ℕ) → Stand → Type 0
 Outlying m e (Inside shape d) = Unit {0}

@@ -1,7 +1,9 @@
--- How the receiver's memory holds a state: a header of 64 bytes, then the window's rows (crate `table`), then a byte for each row (crate `origins`).
+-- How the receiver's memory holds a state: a header of 96 bytes, which keeps the flows, then the window's rows (crate `table`), then a byte for each row
+-- (crate `origins`).
 -- The claims hold of every layout: a reader of them need not believe this one.
 use Rattle.words.specs.Words.{_≡_, ℕ, _+_, List, some, _%_, true, none, false, _^_}
 use Rattle.wire.specs.declared.Setting.{Setting}
+use Rattle.wire.specs.Flows.{flowsIn}
 use Rattle.decoder.specs.Bytes.{Coded}
 use Rattle.decoder.specs.Model.{Rref}
 use Rattle.starts.specs.Starts.{Starts, seen}
@@ -35,6 +37,11 @@ Rows m s (some t) = Stands m s t
 pub record Holds (m : List ℕ) (s : Setting) (t : State s) : Type 0 where
   pub header : headerIn m ≡ some (headerOf s t)
   pub rows : Rows m s t
+
+-- And keeps the flows that the receiver announces.
+pub record HoldsWith (m : List ℕ) (s : Setting) (flows : List ℕ) (t : State s) : Type 0 where
+  pub holds : Holds m s t
+  pub kept : flowsIn m ≡ flows
 
 -- It marks these positions as starts, and so that a pass through the window would add none; before any base, wherever the base will be.
 pub record MarksFrom (m : List ℕ) (s : Setting) (t : Joined s) (M : Starts) : Type 0 where
