@@ -160,6 +160,10 @@ module _ (h : Header) (location : Location) (kept count esi : ℕ) (work m m₁ 
     past = λ k l.
         let rows = window.rowOffset (h .setting .width) (h .setting .size) (h .setting .width) in
         ap (λ x. getD x k 0) stored ∙ rebased-rows (location .shape .oldest + 1) esi m₁ long k (omega arith) ∙ same-past rows m m₁ (f .unchanged .past) k l;
+    flows = λ k l g.
+        ap (λ x. getD x k 0) stored ∙ rebased-rows (location .shape .oldest + 1) esi m₁ long k (omega arith)
+        ∙ sym (getD-take headerSize m₁ k 0 (omega (arith, header-long))) ∙ ap (λ x. getD x k 0) (f .unchanged .header) ∙ getD-take headerSize m k 0
+        (omega (arith, header-long));
     most = f .most;
     outcome = λ s t es is k row g.
         let pos : 0 < s .size = subst (λ (x : Header). 0 < x .setting .size) is (omega (arith, has .valid .size-least)) in

@@ -17,7 +17,7 @@ use Rattle.holding.specs.Layout.{headerFrom, MarksFrom}
 use Rattle.holding.proofs.Headers.{memory-is}
 use Rattle.admission.specs.declared.packet.Location.{Location}
 use Rattle.admission.specs.Joining.{Based}
-use Rattle.admission.specs.Steps.{SameMarks, SamePast, LocatedBy, Marked, Accepted}
+use Rattle.admission.specs.Steps.{SameMarks, SamePast, SameFlows, LocatedBy, Marked, Accepted}
 use Rattle.admission.proofs.Joining.{based-fits}
 use Rattle.admission.proofs.Gathering.{contained-more, contained-from}
 use Rattle.admission.proofs.Marking.{SameState, state-holds, same-marks, count-again}
@@ -58,6 +58,7 @@ hear-asks h at own stay first n m m₁ has placed k is-stay is-first is-own =
 
 module _ (h : Header) (at : Location) (kept own count stay first n : ℕ) (work m m₁ m₂ : List ℕ) (head : Based m h) (placed : LocatedBy h at own)
     (f : Marked h at kept own count work m m₁) (past : SamePast (h .setting .width) (h .setting .size) m m₁)
+    (flows : SameFlows m m₁)
     (u : Updated (at .shape .width) (at .shape .size) (at .shape .oldest) stay first n m₁ m₂)
     (is-stay : stay ≡ at .stay) (is-first : first ≡ at .offset) (is-own : n ≡ own) where
   -- By the header's setting.
@@ -100,6 +101,7 @@ module _ (h : Header) (at : Location) (kept own count stay first n : ℕ) (work 
   pub accepted : Accepted h at kept own count work m m₂
   accepted = record {
     marked = marked;
+    flows = λ k l g. u′ .only .before k (omega (arith, header-long)) ∙ flows k l g;
     hears = λ b H row k.
         let base : (b + at .rise) % w ≡ at .shape .oldest =
         sym (mod-add-mod b w (at .rise)) ∙ ap (λ x. (x + at .rise) % w) row ∙ ap (λ x. (h .oldest + at .rise) % x) (sym (placed .width)) ∙ sym (placed .base) in

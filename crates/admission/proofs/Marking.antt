@@ -29,7 +29,7 @@ use Rattle.holding.specs.Header.{headerWith, headerIn}
 use Rattle.memory.specs.Contained.{Contained}
 use Rattle.holding.specs.Layout.{headerFrom, headerOf, Stands, Rows, Holds, MarksFrom}
 use Rattle.admission.specs.Joining.{Based}
-use Rattle.admission.specs.Steps.{SameMarks, SamePast, LocatedBy, Finished, Marked}
+use Rattle.admission.specs.Steps.{SameMarks, SamePast, SameFlows, LocatedBy, Finished, Marked}
 use Rattle.holding.proofs.Headers.{header-fits, setting-of}
 use Rattle.admission.proofs.Joining.{based-fits}
 use Rattle.admission.proofs.Gathering.{contained-more, contained-from}
@@ -211,8 +211,12 @@ module _ (h : Header) (at : Location) (kept own count had has : ℕ) (others : B
         );
   }
 
-  pub followed : Marked h at kept own count work m m₂ × SamePast (h .setting .width) (h .setting .size) m m₂
+  pub followed : Marked h at kept own count work m m₂ × SamePast (h .setting .width) (h .setting .size) m m₂ × SameFlows m m₂
   followed = (
     marked,
-    λ k l. u′ .only .others k (past-no-mark (h .setting .width) (h .setting .size) k l) (λ e. omega (arith, header-long, e)) ∙ f .past k l,
+    (λ k l. u′ .only .others k (past-no-mark (h .setting .width) (h .setting .size) k l) (λ e. omega (arith, header-long, e)) ∙ f .past k l),
+    λ k l g.
+        let none = header-no-mark (h .setting .width) (h .setting .size) k (omega (arith, header-long)) (λ e. omega (arith, e)) in
+        u′ .only .others k none (λ e. omega (arith, e))
+        ∙ f .flows k l g,
   )

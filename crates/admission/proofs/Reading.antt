@@ -6,6 +6,7 @@ use Rattle.words.specs.Words.{_≡_, arith, ℕ, _≤_, _+_, List, _<_, refl, _
 use Rattle.wire.specs.declared.Setting.{Setting}
 use Rattle.wire.specs.declared.Refusal.{Refusal}
 use Rattle.wire.specs.Numbers.{numberOf}
+use Rattle.wire.specs.Flows.{flowsIn}
 use Rattle.holding.specs.declared.Header.{Header}
 use Rattle.holding.specs.Header.{headerIn}
 use Rattle.holding.specs.Layout.{headerFrom, headerOf, Holds}
@@ -23,10 +24,11 @@ use Rattle.admission.proofs.Locating.{distance, found-at, at-side, out-
 use Rattle.wire.specs.declared.Refusal.the-variants as refusals
 
 -- What is read at every base with the ESI of a header is read of a receiver that has that header.
-pub reads-found : (c : Call) (room : ℕ) (g : Header) (x : ℕ → Reading) → ((b : ℕ) → b % 2 ^ 32 ≡ g .esi .0 → reading (g .setting) b room c ≡ x b)
-    → (s : Setting) (j : Joined s) → g ≡ headerFrom s j → reading s (j .base) room c ≡ x (j .base)
-reads-found c room g x f s j q =
-    subst (λ (y : Header). reading (y .setting) (j .base) room c ≡ x (j .base)) q (f (j .base) (sym (ap (λ (y : Header). y .esi .0) q)))
+pub reads-found : (c : Call) (flows : List ℕ) (room : ℕ) (g : Header) (x : ℕ → Reading)
+    → ((b : ℕ) → b % 2 ^ 32 ≡ g .esi .0 → reading (g .setting) flows b room c ≡ x b)
+    → (s : Setting) (j : Joined s) → g ≡ headerFrom s j → reading s flows (j .base) room c ≡ x (j .base)
+reads-found c flows room g x f s j q =
+    subst (λ (y : Header). reading (y .setting) flows (j .base) room c ≡ x (j .base)) q (f (j .base) (sym (ap (λ (y : Header). y .esi .0) q)))
 
 module _ (c : Call) (m : List ℕ) (room : ℕ) where
   pub failed-unopened : headerIn m ≡ none → Failed c m room refusals.Unopened
@@ -39,14 +41,14 @@ module _ (c : Call) (m : List ℕ) (room : ℕ) where
   module _ (h : Header) (has : headerIn m ≡ some h) where
     -- Whatever state the memory holds.
     failed-by : (x : Refusal) → numberOf x ≢ 3
-        → ((s : Setting) (t : State s) → Holds m s t → reading s (foundBy s t (esiOf c) .base) room c ≡ fails (numberOf x)) → Failed c m room x
+        → ((s : Setting) (t : State s) → Holds m s t → reading s (flowsIn m) (foundBy s t (esiOf c) .base) room c ≡ fails (numberOf x)) → Failed c m room x
     failed-by x other says = record { unopened = λ q. absurd (Option·none-ne-some h (sym q ∙ has)); opened = λ _ _. other; told = says }
 
     -- Wherever the base is.
-    pub failed : (x : Refusal) → numberOf x ≢ 3 → ((b : ℕ) → reading (h .setting) b room c ≡ fails (numberOf x)) → Failed c m room x
+    pub failed : (x : Refusal) → numberOf x ≢ 3 → ((b : ℕ) → reading (h .setting) (flowsIn m) b room c ≡ fails (numberOf x)) → Failed c m room x
     failed x other says =
         failed-by x other
-        (λ s t k. subst (λ y. (b : ℕ) → reading y b room c ≡ fails (numberOf x)) (setting-held m h s t has k) says (foundBy s t (esiOf c) .base))
+        (λ s t k. subst (λ y. (b : ℕ) → reading y (flowsIn m) b room c ≡ fails (numberOf x)) (setting-held m h s t has k) says (foundBy s t (esiOf c) .base))
 
     -- Working memory is too short.
     pub failed-short : room < workingSize (h .setting) → Failed c m room refusals.Short
@@ -58,24 +60,25 @@ module _ (c : Call) (m : List ℕ) (room : ℕ) where
     g = headerFor h (esiOf c)
 
     -- By the place of the base.
-    pub failed-stopped : (x : Refusal) → numberOf x ≢ 3 → ((b : ℕ) → b % 2 ^ 32 ≡ g .esi .0 → reading (h .setting) b room c ≡ fails (numberOf x))
+    pub failed-stopped : (x : Refusal) → numberOf x ≢ 3 → ((b : ℕ) → b % 2 ^ 32 ≡ g .esi .0 → reading (h .setting) (flowsIn m) b room c ≡ fails (numberOf x))
         → Failed c m room x
     failed-stopped x other says =
-        failed-by x other (λ s t k. reads-found c room g (λ b. fails (numberOf x)) says s (foundBy s t (esiOf c)) (found-header m h s t (esiOf c) has k))
+        failed-by x other
+        (λ s t k. reads-found c (flowsIn m) room g (λ b. fails (numberOf x)) says s (foundBy s t (esiOf c)) (found-header m h s t (esiOf c) has k))
 
     -- The checks before the packet's place have passed.
-    module _ (n : ℕ) (next : ℕ → ℕ → Reading) (says : (b : ℕ) → reading (h .setting) b room c ≡ fromSide n (sideOf b (esiOf c)) (next b)) where
+    module _ (n : ℕ) (next : ℕ → ℕ → Reading) (says : (b : ℕ) → reading (h .setting) (flowsIn m) b room c ≡ fromSide n (sideOf b (esiOf c)) (next b)) where
       pub failed-out : (x : Refusal) → Out x ≡ locationFound g (esiOf c) n → Failed c m room x
       failed-out x q = failed-stopped x (out-other g (esiOf c) n x q) (λ b esi. says b ∙ out-side g (esiOf c) n b esi (next b) x q)
 
       pub reading-at : (at : Location) → LocationIs at ≡ locationFound g (esiOf c) n → (b : ℕ) → b % 2 ^ 32 ≡ g .esi .0
-          → reading (h .setting) b room c ≡ next b (distance g (esiOf c) n)
+          → reading (h .setting) (flowsIn m) b room c ≡ next b (distance g (esiOf c) n)
       reading-at at q b esi = says b ∙ at-side g (esiOf c) n b esi (next b) at (found-at g (esiOf c) n at q)
 
     -- All checks have passed.
     pub passed : workingSize (h .setting) ≤ room → (p : Passed) → p .header ≡ g → LocationIs (p .location) ≡ locationFound g (esiOf c) (p .named)
         → 0 < p .named → p .named ≤ h .setting .width → (q : ℕ → Located)
-        → ((b : ℕ) → b % 2 ^ 32 ≡ g .esi .0 → reading (h .setting) b room c ≡ located (q (b + distance g (esiOf c) (p .named))))
+        → ((b : ℕ) → b % 2 ^ 32 ≡ g .esi .0 → reading (h .setting) (flowsIn m) b room c ≡ located (q (b + distance g (esiOf c) (p .named))))
         → Passes c m room h q (distance g (esiOf c) (p .named)) p
     passed lent p is found names fits q says =
         let f = found-at g (esiOf c) (p .named) (p .location) found in

@@ -10,6 +10,7 @@ use Rattle.wire.specs.declared.RepairFields.{RepairFields}
 use Rattle.wire.specs.declared.RepairHeader.the-variants.{Repair, NoRepair}
 use Rattle.wire.specs.Numbers.{within}
 use Rattle.wire.specs.Packets.{joined, chunks, repairCount, repairForm, repairKey, densityThreshold, protectedCount, firstEsi, repairSymbols}
+use Rattle.wire.specs.Flows.{flowsIn}
 use Rattle.wire.specs.Headers.{repairFields, repairHeaderOf}
 use Rattle.wire.proofs.Adui.{length-chunks}
 use Rattle.wire.proofs.Settings.{both, within-bounds}
@@ -98,7 +99,7 @@ module _ (p m : List ℕ) (room : ℕ) (h : Header) (has : headerIn m ≡ some h
     repair-range e = failed c m room h has refusals.Range (λ z. omega arith) (λ b. rw (enough, formed E p f read, rw is at e))
 
     module _ (fits : within 1 width (f .nss) ≡ true) where
-      says : (b : ℕ) → reading (h .setting) b room c ≡ fromSide (f .nss) (sideOf b (firstEsi p)) (next b)
+      says : (b : ℕ) → reading (h .setting) (flowsIn m) b room c ≡ fromSide (f .nss) (sideOf b (firstEsi p)) (next b)
       unfolding reading check readRepair
       says b = rw is (rw (enough, formed E p f read, rw is at fits))
 
@@ -120,7 +121,7 @@ module _ (p m : List ℕ) (room : ℕ) (h : Header) (has : headerIn m ≡ some h
         abbrev d : ℕ
         d = distance g (firstEsi p) (f .nss)
 
-        drawn-next : (b : ℕ) → b % 2 ^ 32 ≡ g .esi .0 → reading (h .setting) b room c ≡ next b d
+        drawn-next : (b : ℕ) → b % 2 ^ 32 ≡ g .esi .0 → reading (h .setting) (flowsIn m) b room c ≡ next b d
         drawn-next = reading-at c m room h has (f .nss) next says at found
 
         ok-of : (t : Bool) → allOk scheme (f .dt) (f .nss) (keys (f .key .0) (f .count)) ≡ t → allOk scheme (densityThreshold p) n ks ≡ t
@@ -138,7 +139,7 @@ module _ (p m : List ℕ) (room : ℕ) (h : Header) (has : headerIn m ≡ some h
               rw is at bytes in
               rw (is, z, count-is E p) (lists-cut scheme (densityThreshold p) (protectedCount p) (repairKey p) (repairCount E p) rest (rw is at drawn))
 
-          located-next : (b : ℕ) → b % 2 ^ 32 ≡ g .esi .0 → reading (h .setting) b room c ≡ located (packetAt (b + d))
+          located-next : (b : ℕ) → b % 2 ^ 32 ≡ g .esi .0 → reading (h .setting) (flowsIn m) b room c ≡ located (packetAt (b + d))
           unfolding check
           located-next b q = drawn-next b q ∙ rw (ok-of true drawn)
 

@@ -1,7 +1,7 @@
 -- Reading a source packet: its checks in the history's order, and one law for each way that it ends.
 -- Laws:
 --   its fields: Fields, source-fields, source-none
---   the reading: source-form, source-long, source-many, source-out, source-passed
+--   the reading: source-form, source-stray, source-long, source-many, source-out, source-passed
 use Rattle.words.specs.Words.{_≡_, arith, ℕ, _≤_, length, _+_, List, _<_, refl, _∙_, sym, ap, _-_, some, suc, zero, true, _*_, false, Bool, subst, le-leb}
 use Rattle.words.specs.Words.{leb-true, lt-leb, leb, length-take-le, cond, zero-mul}
 use Rattle.wire.specs.declared.Setting.{Setting}
@@ -10,6 +10,7 @@ use Rattle.wire.specs.declared.SourceFields.{SourceFields}
 use Rattle.wire.specs.declared.SourceHeader.{SourceHeader}
 use Rattle.wire.specs.declared.SourceHeader.the-variants.{Source, NoSource}
 use Rattle.wire.specs.Packets.{symbolCount, sourceSymbols, sourceForm, sourceAdu, sourceEsi}
+use Rattle.wire.specs.Flows.{announced, flowsIn}
 use Rattle.wire.specs.Headers.{sourceFields, sourceHeaderOf}
 use Rattle.holding.specs.declared.Header.{Header}
 use Rattle.holding.specs.Header.{headerIn}
@@ -66,11 +67,11 @@ source-none p x r e q = go (sourceForm p) refl (sym q ∙ e)
 
 -- ---- The reading, one law for each way that it ends
 
-module _ (p m : List ℕ) (room : ℕ) (h : Header) (has : headerIn m ≡ some h) (lent : workingSize (h .setting) ≤ room) where
+module _ (flow : ℕ) (p m : List ℕ) (room : ℕ) (h : Header) (has : headerIn m ≡ some h) (lent : workingSize (h .setting) ≤ room) where
   open Setting (h .setting) using (size as E, width)
 
-  abbrev c : ℕ → Call
-  c flow = source-call flow p
+  abbrev c : Call
+  c = source-call flow p
 
   abbrev n : ℕ
   n = symbolCount E (length (sourceAdu p))
@@ -78,16 +79,20 @@ module _ (p m : List ℕ) (room : ℕ) (h : Header) (has : headerIn m ≡ some h
   enough : leb (workingSize (h .setting)) room ≡ true
   enough = le-leb (workingSize (h .setting)) room lent
 
-  pub source-form : sourceForm p ≡ false → (flow : ℕ) → Failed (c flow) m room refusals.Form
+  pub source-form : sourceForm p ≡ false → Failed c m room refusals.Form
   unfolding reading check readSource
-  source-form l flow = failed (c flow) m room h has refusals.Form (λ z. omega arith) (λ b. rw (enough, l))
+  source-form l = failed c m room h has refusals.Form (λ z. omega arith) (λ b. rw (enough, l))
 
-  module _ (f : SourceFields) (reads : Fields p f) where
-    pub source-long : 65535 < f .len → (flow : ℕ) → Failed (c flow) m room refusals.Long
+  pub source-stray : sourceForm p ≡ true → announced (flowsIn m) flow ≡ false → Failed c m room refusals.Unannounced
+  unfolding reading check readSource
+  source-stray f l = failed c m room h has refusals.Unannounced (λ z. omega arith) (λ b. rw (enough, f, l))
+
+  module _ (f : SourceFields) (reads : Fields p f) (flow-known : announced (flowsIn m) flow ≡ true) where
+    pub source-long : 65535 < f .len → Failed c m room refusals.Long
     unfolding reading check readSource
-    source-long l flow =
-        failed (c flow) m room h has refusals.Long (λ z. omega arith)
-        (λ b. rw (enough, reads .form, lt-leb (length (sourceAdu p)) 65535 (omega (arith, reads .len))))
+    source-long l =
+        failed c m room h has refusals.Long (λ z. omega arith)
+        (λ b. rw (enough, reads .form, flow-known, lt-leb (length (sourceAdu p)) 65535 (omega (arith, reads .len))))
 
     module _ (short : f .len ≤ 65535) (count : ℕ) (counts : count ≡ symbolCount E (f .len)) where
       short-adu : leb (length (sourceAdu p)) 65535 ≡ true
@@ -96,42 +101,40 @@ module _ (p m : List ℕ) (room : ℕ) (h : Header) (has : headerIn m ≡ some h
       counted : n ≡ count
       counted = ap (symbolCount E) (sym (reads .len)) ∙ sym counts
 
-      pub source-many : width < count → (flow : ℕ) → Failed (c flow) m room refusals.Long
+      pub source-many : width < count → Failed c m room refusals.Long
       unfolding reading check readSource
-      source-many l flow =
-          failed (c flow) m room h has refusals.Long (λ z. omega arith)
-          (λ b. rw (enough, reads .form, short-adu, lt-leb n width (omega (arith, counted))))
+      source-many l =
+          failed c m room h has refusals.Long (λ z. omega arith)
+          (λ b. rw (enough, reads .form, flow-known, short-adu, lt-leb n width (omega (arith, counted))))
 
       module _ (fits : count ≤ width) where
         -- The packet with its first symbol at a position.
-        abbrev q : (flow : ℕ) → ℕ → Located
-        q flow x = source x (sourceSymbols flow (sourceAdu p) E)
+        abbrev q : ℕ → Located
+        q x = source x (sourceSymbols flow (sourceAdu p) E)
 
-        says : (flow b : ℕ) → reading (h .setting) b room (c flow) ≡ fromSide count (sideOf b (sourceEsi p)) (λ d. located (q flow (b + d)))
+        says : (b : ℕ) → reading (h .setting) (flowsIn m) b room c ≡ fromSide count (sideOf b (sourceEsi p)) (λ d. located (q (b + d)))
         unfolding reading check readSource
-        says flow b =
-            rw (enough, reads .form, short-adu, le-leb n width (omega (arith, counted)))
-            (ap (λ (k : ℕ). fromSide k (sideOf b (sourceEsi p)) (λ d. located (q flow (b + d)))) counted)
+        says b =
+            rw (enough, reads .form, flow-known, short-adu, le-leb n width (omega (arith, counted)))
+            (ap (λ (k : ℕ). fromSide k (sideOf b (sourceEsi p)) (λ d. located (q (b + d)))) counted)
 
         -- The header for the packet.
         abbrev g : Header
         g = headerFor h (sourceEsi p)
 
-        pub source-out : (x : Refusal) → Out x ≡ locationFound g (sourceEsi p) count → (flow : ℕ) → Failed (c flow) m room x
-        source-out x o flow = failed-out (c flow) m room h has count (λ b d. located (q flow (b + d))) (says flow) x o
+        pub source-out : (x : Refusal) → Out x ≡ locationFound g (sourceEsi p) count → Failed c m room x
+        source-out x o = failed-out c m room h has count (λ b d. located (q (b + d))) says x o
 
         some-symbol : 0 < count
         some-symbol = let z = symbols-some E (length (sourceAdu p)) (omega (arith, headed m h has .valid .size-least)) in omega (arith, counted, z)
 
         pub source-passed : (based : Header) → based ≡ g → (at : Location) → LocationIs at ≡ locationFound g (sourceEsi p) count
-            → SourcePassed p m room (record { header = based; location = at; named = count; count = count; draws = 0 })
+            → SourcePassed flow p m room (record { header = based; location = at; named = count; count = count; draws = 0 })
         unfolding sourceForm
         source-passed based is at found = record {
           header = h;
           distance = distance g (sourceEsi p) count;
-          passes = λ flow.
-              passed (c flow) m room h has lent _ is found some-symbol fits (q flow)
-              (reading-at (c flow) m room h has count (λ b d. located (q flow (b + d))) (says flow) at found);
+          passes = passed c m room h has lent _ is found some-symbol fits q (reading-at c m room h has count (λ b d. located (q (b + d))) says at found);
           named = refl;
           count = sym counted;
           form = leb-true 4 (length p) (reads .form);

@@ -4,6 +4,7 @@ use Rattle.words.specs.Words.{_≡_, ℕ, _≤_, length, _+_, List, _<_, some, 
 use Rattle.wire.specs.declared.Setting.{Setting}
 use Rattle.wire.specs.declared.Refusal.{Refusal}
 use Rattle.wire.specs.Numbers.{numberOf}
+use Rattle.wire.specs.Flows.{flowsIn}
 use Rattle.wire.specs.Packets.{chunks, symbolCount, sourceSymbols, sourceAdu, repairKey, densityThreshold, protectedCount, repairSymbols}
 use Rattle.coefficients.specs.Coefficients.{keys, listsOf, packetDraws}
 use Rattle.holding.specs.declared.Header.{Header}
@@ -22,7 +23,7 @@ use Rattle.admission.specs.declared.packet.Read.the-variants as reads
 pub record Failed (c : Call) (m : List ℕ) (room : ℕ) (x : Refusal) : Type 0 where
   pub unopened : headerIn m ≡ none → x ≡ refusals.Unopened
   pub opened : (h : Header) → headerIn m ≡ some h → numberOf x ≢ 3
-  pub told : (s : Setting) (t : State s) → Holds m s t → reading s (foundBy s t (esiOf c) .base) room c ≡ fails (numberOf x)
+  pub told : (s : Setting) (t : State s) → Holds m s t → reading s (flowsIn m) (foundBy s t (esiOf c) .base) room c ≡ fails (numberOf x)
 
 -- All checks pass at the header h: the packet is q p, where p is its first position, which is so many positions past the base.
 pub record Passes (c : Call) (m : List ℕ) (room : ℕ) (h : Header) (q : ℕ → Located) (distance : ℕ) (p : Passed) : Type 0 where
@@ -33,22 +34,22 @@ pub record Passes (c : Call) (m : List ℕ) (room : ℕ) (h : Header) (q : ℕ �
   pub near : distance + p .named ≤ farthest
   pub names : 0 < p .named
   pub fits : p .named ≤ h .setting .width
-  pub told : (b : ℕ) → b % 2 ^ 32 ≡ headerFor h (esiOf c) .esi .0 → reading (h .setting) b room c ≡ located (q (b + distance))
+  pub told : (b : ℕ) → b % 2 ^ 32 ≡ headerFor h (esiOf c) .esi .0 → reading (h .setting) (flowsIn m) b room c ≡ located (q (b + distance))
 
--- A source packet, of any flow, passes.
-pub record SourcePassed (packet m : List ℕ) (room : ℕ) (p : Passed) : Type 0 where
+-- A source packet passes.
+pub record SourcePassed (flow : ℕ) (packet m : List ℕ) (room : ℕ) (p : Passed) : Type 0 where
   pub header : Header
   pub distance : ℕ
-  pub passes : (flow : ℕ)
-      → Passes (source-call flow packet) m room header (λ x. source x (sourceSymbols flow (sourceAdu packet) (header .setting .size))) distance p
+  pub passes : Passes (source-call flow packet) m room header
+      (λ x. source x (sourceSymbols flow (sourceAdu packet) (header .setting .size))) distance p
   pub named : p .named ≡ p .count
   pub count : p .count ≡ symbolCount (header .setting .size) (length (sourceAdu packet))
   pub form : 4 ≤ length packet
   pub short : length (sourceAdu packet) ≤ 65535
 
-abbrev pub SourceRead : (packet m : List ℕ) (room : ℕ) → Read → Type 0
-SourceRead packet m room (reads.Located p) = SourcePassed packet m room p
-SourceRead packet m room (reads.Fails x) = (flow : ℕ) → Failed (source-call flow packet) m room x
+abbrev pub SourceRead : (flow : ℕ) (packet m : List ℕ) (room : ℕ) → Read → Type 0
+SourceRead flow packet m room (reads.Located p) = SourcePassed flow packet m room p
+SourceRead flow packet m room (reads.Fails x) = Failed (source-call flow packet) m room x
 
 -- The lists of coefficients of a repair packet at a receiver of the setting.
 abbrev pub coefficientLists : Setting → (packet : List ℕ) → List (List ℕ)

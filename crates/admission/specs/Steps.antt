@@ -128,6 +128,10 @@ pub record SameMarks (w E : ℕ) (m m′ : List ℕ) : Type 0 where
 abbrev pub SamePast : (w E : ℕ) (m m′ : List ℕ) → Type 0
 SamePast w E m m′ = (k : ℕ) → rowOffset w E w ≤ k → getD m′ k 0 ≡ getD m k 0
 
+-- The bytes of the flows are as they were.
+abbrev pub SameFlows : (m m′ : List ℕ) → Type 0
+SameFlows m m′ = (k : ℕ) → 32 ≤ k → k < 64 → getD m′ k 0 ≡ getD m k 0
+
 -- The place is one by the header, with room for `own` symbols from its offset on.
 pub record LocatedBy (h : Header) (at : Location) (own : ℕ) : Type 0 where
   pub width : at .shape .width ≡ h .setting .width
@@ -142,6 +146,7 @@ pub record Finished (h : Header) (at : Location) (kept count : ℕ) (work m m′
   pub contained : Contained (memorySize (h .setting)) m m′
   pub marks : SameMarks (h .setting .width) (h .setting .size) m m′
   pub past : SamePast (h .setting .width) (h .setting .size) m m′
+  pub flows : SameFlows m m′
   pub most : count ≤ kept * 256
   pub outcome : (s : Setting) (t : Joined s) (es : List (model.Row (Coded (s .size)) (s .width))) → h ≡ headerFrom s t → Stands m s t
       → at .shape .oldest ≡ (t .base + at .rise) % s .width
@@ -163,8 +168,9 @@ pub record Marked (h : Header) (at : Location) (kept own count : ℕ) (work m m�
       × ((M : Starts) → MarksFrom m s t M → MarksFrom m′ s (record { base = t .base + at .rise; window = T })
       (pass (s .size) (seen (s .size) (s .width) T) (s .width) (owning (at .offset) own (moved (s .width) (at .rise) M))))
 
--- And the packet has brought its own symbols.
+-- And the packet has brought its own symbols; the flows are as they were.
 pub record Accepted (h : Header) (at : Location) (kept own count : ℕ) (work m m′ : List ℕ) : Type 0 where
   pub marked : Marked h at kept own count work m m′
+  pub flows : SameFlows m m′
   pub hears : (b : ℕ) (H : Origins) → b % h .setting .width ≡ h .oldest → Hears (h .setting .width) (h .setting .size) b m H
       → Hears (h .setting .width) (h .setting .size) (b + at .rise) m′ (bringing (b + at .rise + at .offset) own H)

@@ -19,9 +19,9 @@ use table::Shape;
 use wire::Refusal;
 use wire::SourceHeader;
 
-// Reads a source packet, where `room` bytes of working memory are lent.
-pub fn read_source(mem: &[u8], room: usize, packet: &[u8]) -> Read
-    ensures { λ r. ⌜ SourceRead (now (packet .entry)) (now (mem .entry)) room r ⌝ }
+// Reads a source packet that came with a flow, where `room` bytes of working memory are lent.
+pub fn read_source(mem: &[u8], room: usize, flow: u8, packet: &[u8]) -> Read
+    ensures { λ r. ⌜ SourceRead flow (now (packet .entry)) (now (mem .entry)) room r ⌝ }
 {
     let Found::HeaderIs(header) = front::read_header(mem) else {
         return Read::Fails(Refusal::Unopened);
@@ -33,6 +33,9 @@ pub fn read_source(mem: &[u8], room: usize, packet: &[u8]) -> Read
     let SourceHeader::Source(fields) = wire::read_source(packet) else {
         return Read::Fails(Refusal::Form);
     };
+    if !wire::is_announced(mem, flow) {
+        return Read::Fails(Refusal::Unannounced);
+    }
     if wire::LONGEST_ADU < fields.len {
         return Read::Fails(Refusal::Long);
     }

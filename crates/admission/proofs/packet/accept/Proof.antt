@@ -3,7 +3,7 @@ use Rattle.words.specs.Words.{arith, needs, _+_, _∙_, subst, eqb-true, not-fa
 use Rattle.table.specs.declared.Shape.{Shape}
 use Rattle.marks.specs.MarkSteps.{Tallied}
 use Rattle.history.proofs.Sides.{limits}
-use Rattle.admission.specs.Steps.{SamePast, Marked}
+use Rattle.admission.specs.Steps.{SamePast, SameFlows, Marked}
 use Rattle.admission.proofs.Marking.{count-asks, count-again, update-asks, followed}
 use Rattle.admission.proofs.Hearing.{hear-asks, accepted}
 use Rattle.admission.proofs.packet.accept.Statement.{statement}
@@ -29,7 +29,7 @@ update-requires c κs =
     let p14 = p6 .before .before .before .before .before .before .before .before in
     update-asks (p14 .args .header) (p14 .args .location) (p14 .args .own) _ _ (p14 .pre .0) (p14 .pre .4) (p6 .finish .ensures .contained)
 
--- The marks have followed, and what stands past the rows is as it was.
+-- The marks have followed, and what stands past the rows, and the flows, are as they were.
 abbrev start : tie.After-update → tie.Start
 start p = p .before .before .before .before .before .before .before .before .before .before .before .before .before .before .before
 
@@ -39,7 +39,7 @@ finished p = p .before .before .before .before .before .before .before
 follows : (p : tie.After-update)
     → let a = start p .args in
     Marked (a .header) (a .location) (a .kept) (a .own) (finished p .finish .result) (a .work .now) (a .mem .now) (p .update .last .0)
-    × SamePast (a .header .setting .width) (a .header .setting .size) (a .mem .now) (p .update .last .0)
+    × SamePast (a .header .setting .width) (a .header .setting .size) (a .mem .now) (p .update .last .0) × SameFlows (a .mem .now) (p .update .last .0)
 follows p =
     let p2 = p .before .before in
     let p3 = p2 .before in
@@ -70,7 +70,7 @@ returns c =
     let a = s .args in
     let update = c .before .before .update2 in
     accepted (a .header) (a .location) (a .kept) (a .own) (finished p .finish .result) _ _ _ (a .work .now) (a .mem .now) (p .update .last .0)
-    (update .last .0) (s .pre .0) (s .pre .4) (follows p .0) (follows p .1) (update .ensures) (omega arith) (omega arith) (omega arith)
+    (update .last .0) (s .pre .0) (s .pre .4) (follows p .0) (follows p .1) (follows p .2) (update .ensures) (omega arith) (omega arith) (omega arith)
 
 pub accept-spec : {M : Type 1} → statement M
 accept-spec =

@@ -1,5 +1,7 @@
 -- `admission::source::read_source` meets its contract.
-use Rattle.words.specs.Words.{_≡_, arith, ℕ, _≤_, needs, _∙_, sym, ap, some, ap₂}
+use Rattle.words.specs.Words.{_≡_, arith, ℕ, _≤_, needs, _∙_, sym, ap, some, true, ap₂, not-false, not-true}
+use Rattle.wire.specs.Flows.{announced, flowsIn}
+use Rattle.table.proofs.Offsets.{header-long}
 use Rattle.wire.specs.declared.SourceFields.{SourceFields}
 use Rattle.wire.specs.Packets.{sourceEsi}
 use Rattle.holding.specs.declared.Header.{Header}
@@ -7,10 +9,11 @@ use Rattle.holding.specs.Header.{headerIn}
 use Rattle.history.specs.History.{workingSize}
 use Rattle.admission.specs.Joining.{headerFor}
 use Rattle.admission.specs.Steps.{locationFound}
-use Rattle.holding.proofs.Headers.{header-is, header-none, headed}
+use Rattle.holding.proofs.Headers.{header-is, header-none, headed, header-fits}
 use Rattle.admission.proofs.Joining.{based}
 use Rattle.admission.proofs.Reading.{failed-unopened, failed-short}
-use Rattle.admission.proofs.SourceReading.{Fields, source-fields, source-none, source-form, source-long, source-many, source-out, source-passed}
+use Rattle.admission.proofs.SourceReading.{Fields, source-fields, source-none, source-form, source-stray, source-long, source-many, source-out}
+use Rattle.admission.proofs.SourceReading.{source-passed}
 use Rattle.admission.proofs.source.read_source.Statement.{statement}
 use Rattle.admission.proofs.source.read_source.Tie as tie
 
@@ -42,85 +45,114 @@ read-header p = p .before .before .before .before .before .before .before
 abbrev first : tie.After-fields → ℕ
 first p = sourceEsi (p .before .before .before .before .before .before .before .before .before .before .before .before .args .packet .now)
 
+-- The checks that have passed: the flow is announced; the ADU is short enough; it has few symbols.
+abbrev of-flow : tie.Else2 → tie.After-fields
+of-flow p = p .before .before .before
+
+abbrev of-length : tie.Else3 → tie.Else2
+of-length p = p .before .before
+
+abbrev of-count : tie.Else4 → tie.Else3
+of-count p = p .before .before .before
+
+abbrev arguments : tie.After-fields → tie.Start
+arguments p = p .before .before .before .before .before .before .before .before .before .before .before .before
+
+flow-known : (p : tie.Else2) → let a = arguments (of-flow p) .args in announced (flowsIn (a .mem .now)) (a .flow) ≡ true
+flow-known p = let k = p .before .is-announced in sym (k .ensures) ∙ not-false (k .result) (p .if2 .left)
+
+-- What was read of a packet that has passed them.
+abbrev fields-of : tie.Else4 → tie.After-fields
+fields-of p = of-flow (of-length (of-count p))
+
+abbrev count : tie.Else4 → ℕ
+count p = p .before .before .symbol-count .result
+
 -- The header for the packet, and where it lies.
-bases : (p : tie.After-join) → let q = p .before .before .before .before .before .before .before in p .join .result ≡ headerFor (header (read-header q))
-    (first q)
-bases p =
-    let q = p .before .before .before .before .before .before .before in
-    p .join .ensures ∙ ap (headerFor (header (read-header q))) (reads q .esi)
+bases : (p : tie.After-join) → let q = fields-of (p .before) in p .join .result ≡ headerFor (header (read-header q)) (first q)
+bases p = let q = fields-of (p .before) in p .join .ensures ∙ ap (headerFor (header (read-header q))) (reads q .esi)
 
 found : (p : tie.After-locate)
-    → let q = p .before .before .before .before .before .before .before .before in
-    p .locate .result ≡ locationFound (headerFor (header (read-header q)) (first q)) (first q) (p .before .before .before .before .symbol-count .result)
+    → let q = fields-of (p .before .before) in
+    p .locate .result ≡ locationFound (headerFor (header (read-header q)) (first q)) (first q) (count (p .before .before))
 found p =
     p .locate .ensures
-    ∙ ap₂ (λ (x : Header) (e : ℕ). locationFound x e (p .before .before .before .before .symbol-count .result)) (bases (p .before))
-    (reads (p .before .before .before .before .before .before .before .before) .esi)
+    ∙ ap₂ (λ (x : Header) (e : ℕ). locationFound x e (count (p .before .before))) (bases (p .before)) (reads (fields-of (p .before .before)) .esi)
 
 returns : tie.Need-returns
-returns c flow = failed-unopened _ _ _ (header-none _ (c .before .before .read-header .ensures) (c .enum-told .given .1))
+returns c = failed-unopened _ _ _ (header-none _ (c .before .before .read-header .ensures) (c .enum-told .given .1))
 
 working-size-requires : tie.Need-working-size-requires
 working-size-requires c κs = let p = c .before .before in headed _ (header p) (has p) .valid
 
 returns-2 : tie.Need-returns-2
-returns-2 c flow =
+returns-2 c =
     let p = c .before .before .before .before in
     failed-short _ _ _ (header p) (has p) (rw (c .before .working-size .ensures) at (c .if1 .taken))
 
 returns-3 : tie.Need-returns-3
 returns-3 c =
     let p = c .before .before .before .before .before .before .before in
-    source-form _ _ _ (header p) (has p) (lent (c .before .before .before))
+    source-form _ _ _ _ (header p) (has p) (lent (c .before .before .before))
     (source-none _ _ (c .before .before .read-source .result) (c .before .before .read-source .ensures) (c .enum-told2 .given .1))
+
+is-announced-requires : tie.Need-is-announced-requires
+is-announced-requires c κs = let p = read-header (c .before) in omega (arith, header-long, header-fits _ (header p) (has p) .room)
 
 returns-4 : tie.Need-returns-4
 returns-4 c =
     let q = c .before .before .before in
     let p = read-header q in
-    source-long _ _ _ (header p) (has p) (lent (q .before .before .before)) (fields q) (reads q) (c .if2 .taken)
-
-symbol-count-requires : tie.Need-symbol-count-requires
-symbol-count-requires c κs =
-    let p = c .before .before .before .before .before .before .before .before .before .before in
-    let v = headed _ (header p) (has p) .valid in
-    omega (arith, v .size-least, v .size-most, c .if2 .left)
+    let k = c .before .is-announced in
+    source-stray _ _ _ _ (header p) (has p) (lent (q .before .before .before)) (reads q .form) (sym (k .ensures) ∙ not-true (k .result) (c .if2 .taken))
 
 returns-5 : tie.Need-returns-5
 returns-5 c =
-    let q = c .before .before .before .before .before .before in
+    let e = c .before .before in
+    let q = of-flow e in
     let p = read-header q in
-    source-many _ _ _ (header p) (has p) (lent (q .before .before .before)) (fields q) (reads q) (c .before .before .before .if2 .left) _
-    (c .before .before .symbol-count .ensures) (c .if3 .taken)
+    source-long _ _ _ _ (header p) (has p) (lent (q .before .before .before)) (fields q) (reads q) (flow-known e) (c .if3 .taken)
 
-join-requires : tie.Need-join-requires
-join-requires c κs =
-    let p = c .before .before .before .before .before .before .before .before .before .before .before .before .before in
-    headed _ (header p) (has p) .valid
-
-locate-requires : tie.Need-locate-requires
-locate-requires c κs =
-    let p = c .before .before .before .before .before .before .before .before .before .before .before .before .before .before in
-    let q = c .before .before .before .before .before .before .before in
-    rw (c .join .ensures) (headed _ (header p) (has p) .valid, based _ (header p) (fields q .first .0) (has p) .row-lt, c .before .if3 .left)
+symbol-count-requires : tie.Need-symbol-count-requires
+symbol-count-requires c κs =
+    let p = read-header (of-flow (of-length c)) in
+    let v = headed _ (header p) (has p) .valid in
+    omega (arith, v .size-least, v .size-most, c .if3 .left)
 
 returns-6 : tie.Need-returns-6
 returns-6 c =
-    let l = c .before .before .before in
-    let j = l .before in
-    let q = j .before .before .before .before .before .before .before in
+    let e = c .before .before .before in
+    let q = of-flow (of-length e) in
     let p = read-header q in
-    source-out _ _ _ (header p) (has p) (lent (q .before .before .before)) (fields q) (reads q) (j .before .before .before .before .if2 .left) _
-    (j .before .before .before .symbol-count .ensures) (j .before .if3 .left) _ (sym (c .before .refusal .given .1) ∙ found l)
+    source-many _ _ _ _ (header p) (has p) (lent (q .before .before .before)) (fields q) (reads q) (flow-known (of-length e)) (e .if3 .left) _
+    (c .before .before .symbol-count .ensures) (c .if4 .taken)
+
+join-requires : tie.Need-join-requires
+join-requires c κs = let p = read-header (fields-of c) in headed _ (header p) (has p) .valid
+
+locate-requires : tie.Need-locate-requires
+locate-requires c κs =
+    let q = fields-of (c .before) in
+    let p = read-header q in
+    rw (c .join .ensures) (headed _ (header p) (has p) .valid, based _ (header p) (fields q .first .0) (has p) .row-lt, c .before .if4 .left)
 
 returns-7 : tie.Need-returns-7
 returns-7 c =
     let l = c .before .before .before in
-    let j = l .before in
-    let q = j .before .before .before .before .before .before .before in
+    let e = l .before .before in
+    let q = fields-of e in
     let p = read-header q in
-    source-passed _ _ _ (header p) (has p) (lent (q .before .before .before)) (fields q) (reads q) (j .before .before .before .before .if2 .left) _
-    (j .before .before .before .symbol-count .ensures) (j .before .if3 .left) _ (bases j) _ (sym (c .before .location .given .1) ∙ found l)
+    source-out _ _ _ _ (header p) (has p) (lent (q .before .before .before)) (fields q) (reads q) (flow-known (of-length (of-count e)))
+    (of-count e .if3 .left) _ (e .before .before .symbol-count .ensures) (e .if4 .left) _ (sym (c .before .refusal .given .1) ∙ found l)
+
+returns-8 : tie.Need-returns-8
+returns-8 c =
+    let l = c .before .before .before in
+    let e = l .before .before in
+    let q = fields-of e in
+    let p = read-header q in
+    source-passed _ _ _ _ (header p) (has p) (lent (q .before .before .before)) (fields q) (reads q) (flow-known (of-length (of-count e)))
+    (of-count e .if3 .left) _ (e .before .before .symbol-count .ensures) (e .if4 .left) _ (bases (l .before)) _ (sym (c .before .location .given .1) ∙ found l)
 
 pub read-source-spec : {M : Type 1} → statement M
 read-source-spec =
@@ -136,12 +168,14 @@ read-source-spec =
     (λ c. search needs)
     (λ c. search needs)
     returns-3
+    is-announced-requires
     returns-4
-    symbol-count-requires
     returns-5
+    symbol-count-requires
+    returns-6
     join-requires
     locate-requires
     (λ c. search needs)
     (λ c. search needs)
-    returns-6
-    returns-7)
+    returns-7
+    returns-8)
