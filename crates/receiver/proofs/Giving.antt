@@ -3,6 +3,7 @@ use Rattle.words.specs.Words.{_≡_, ℕ, length, List, refl, _∙_, sym, ap, s
 use Rattle.wire.specs.declared.Setting.{Setting}
 use Rattle.wire.specs.declared.Refusal.{Refusal}
 use Rattle.wire.specs.Numbers.{numberOf}
+use Rattle.wire.specs.Flows.{flowsIn}
 use Rattle.starts.specs.declared.Handed.{Handed}
 use Rattle.starts.specs.declared.Handed.the-variants.{Adu, Withheld}
 use Rattle.starts.specs.Adu.{need, handing, HandedAs}
@@ -35,27 +36,28 @@ adu-outside m out e x g = record {
     (λ k. ap (λ y. refusal (numberOf y)) (g .unopened k)),
   );
   leaves = refl;
-  hands = λ s t M k l. subst (λ y. HandedAs y out out (Withheld x)) (sym (g .adu s t k M (length out))) (refl, refl);
+  hands = λ s flows t M k l. subst (λ y. HandedAs y out out (Withheld x)) (sym (g .adu s t (k .holds) flows M (length out))) (refl, refl);
 }
 
 module _ (m out : List ℕ) (e d : ℕ) (h : Header) (stands : InWindow m e d h) where
   open Setting (h .setting) using (width, size)
 
   -- In the window the call is that of the window's d-th position.
-  inner : (t : Joined (h .setting)) (M : Starts) → h .esi .0 ≡ t .base % 2 ^ 32
-      → aduAt (h .setting) (some t) M (length out) e ≡ handing size width (length out) M (seen size width (t .window)) d
+  inner : (flows : List ℕ) (t : Joined (h .setting)) (M : Starts) → h .esi .0 ≡ t .base % 2 ^ 32
+      → aduAt (h .setting) flows (some t) M (length out) e ≡ handing size width flows (length out) M (seen size width (t .window)) d
   unfolding aduAt need
-  inner t M b = rw (side-held e (t .base) h b, stands .side, lt-ltb d width (stands .inside))
+  inner flows t M b = rw (side-held e (t .base) h b, stands .side, lt-ltb d width (stands .inside))
 
   inside : (out′ : List ℕ) (r : Handed) → HandedOut width size (h .oldest) d m out out′ r → AduAnswered receiverLayout m e out out′ r
   inside out′ r g = record {
     unopened = ((λ z. absurd (not-three r (g .opened) z)), (λ z. absurd (Option·none-ne-some h (sym z ∙ stands .has))));
     leaves = g .leaves;
-    hands = λ s t M v l.
-        of-joined m h (stands .has) (stands .joined) (λ s t. Marks m s t M → HandedAs (aduAt s t M (length out) e) out out′ r)
+    hands = λ s flows t M v l.
+        subst (λ f. HandedAs (aduAt s f t M (length out) e) out out′ r) (v .kept)
+        (of-joined m h (stands .has) (stands .joined) (λ s t. Marks m s t M → HandedAs (aduAt s (flowsIn m) t M (length out) e) out out′ r)
         (λ t v a b l.
-        subst (λ y. HandedAs y out out′ r) (sym (inner t M b))
-        (g .told (t .base) (t .window) M (sym a) (v .rows) (subst (λ y. marks.Marks width size y m M) (sym a) (l .bytes)))) s t v l;
+        subst (λ y. HandedAs y out out′ r) (sym (inner (flowsIn m) t M b))
+        (g .told (t .base) (t .window) M (sym a) (v .rows) (subst (λ y. marks.Marks width size y m M) (sym a) (l .bytes)))) s t (v .holds) l);
   }
 
 -- With the shape as the code has it.

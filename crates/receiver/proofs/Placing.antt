@@ -26,8 +26,8 @@ module _ (m : List ℕ) (e : ℕ) where
       record {
         unopened = ((λ z. absurd (subst IsValue z tt)), (λ z. absurd (subst IsNowhere (sym (h .unopened z)) tt)));
         within = λ x at k z. subst (λ y. y + x .setting .size ≤ length m) (ap number z) (subst (λ y. a + y ≤ length m) (h .lies x k .0) (h .lies x k .1));
-        places = λ s t k.
-            let (p, v, x, c, y, z, o) = h .told s t k in
+        places = λ s flows t k.
+            let (p, v, x, c, y, z, o) = h .told s t (k .holds) in
             subst (λ o. Places receiverLayout s o m (Done a)) (sym x)
             (ap value y, subst (λ j. part j (s .size) m ≡ bytesOf (s .size) v) y (subst (λ j. part a j m ≡ bytesOf (s .size) v) z (sym c)));
       }
@@ -38,5 +38,5 @@ module _ (m : List ℕ) (e : ℕ) where
       record {
         unopened = symbol-missing m e f x q g .unopened;
         within = λ y at k z. absurd (subst IsValue (sym z) tt);
-        places = λ s t k. subst (λ o. Places receiverLayout s o m (Refused x)) (sym (h .told s t k)) refl;
+        places = λ s flows t k. subst (λ o. Places receiverLayout s o m (Refused x)) (sym (h .told s t (k .holds))) refl;
       }

@@ -2,12 +2,13 @@
 -- Laws:
 --   a check fails: received-failed
 --   all checks passed: location-width, location-size, Ready, ready, accept-asks, received-contradiction, received-done
-use Rattle.words.specs.Words.{_≡_, arith, ℕ, _≤_, length, _+_, List, _<_, refl, _∙_, sym, ap, _-_, some, _%_, none, subst, Option, Option·none-ne-some}
+use Rattle.words.specs.Words.{_≡_, arith, ℕ, _≤_, length, _+_, List, _<_, refl, _∙_, sym, ap, _-_, some, _%_, none, subst, Option, Option·none-ne-some, _^_}
 use Rattle.words.specs.Words.{Option·some-injective, mod-add-mod, mod-lt}
 use Rattle.origins.proofs.Hearing.{hears-alike}
 use Rattle.wire.specs.declared.Setting.{Setting}
 use Rattle.wire.specs.declared.Refusal.{Refusal}
 use Rattle.wire.specs.Numbers.{numberOf}
+use Rattle.wire.specs.Flows.{flowsIn}
 use Rattle.decoder.specs.Bytes.{Coded}
 use Rattle.table.specs.Window.{headerSize, stride, rowOffset, Fits}
 use Rattle.starts.specs.Starts.{Starts, owning, moved, pass, seen}
@@ -20,20 +21,22 @@ use Rattle.admission.specs.declared.packet.Location.{Location}
 use Rattle.admission.specs.declared.packet.Passed.{Passed}
 use Rattle.admission.specs.declared.packet.Gathered.{Gathered}
 use Rattle.admission.specs.declared.packet.Gathered.the-variants.{All, Contradiction}
-use Rattle.history.specs.History.{Located, source, repair, first, named, Call, esiOf, Reading, located, farthest, memorySize, workingSize, reading}
+use Rattle.history.specs.History.{Located, source, repair, first, named, Call, esiOf, Reading, fails, located, farthest, memorySize, workingSize, reading}
 use Rattle.wire.specs.Answers.{value, refusal}
 use Rattle.history.specs.Model.{Joined, State, foundBy, Outcome, packetOf, added, responds, answering, stateAfter, naming, startsAfter, marking, receiving, refused}
 use Rattle.history.specs.Model.{Origins, bringing, hearing, originsAfter}
 use Rattle.holding.specs.Header.{headerIn}
 use Rattle.receiver.specs.Promises.{Follows, Received}
 use Rattle.memory.specs.Contained.{Contained}
-use Rattle.holding.specs.Layout.{headerFrom, Stands, Holds, MarksFrom, Marks, Hears}
+use Rattle.holding.specs.Layout.{headerFrom, Stands, Holds, HoldsWith, MarksFrom, Marks, Hears}
 use Rattle.receiver.specs.Layout.{receiverLayout}
 use Rattle.admission.specs.Joining.{headerFor, Based}
 use Rattle.admission.specs.Reading.{Failed, Passes}
 use Rattle.admission.specs.Steps.{locationAt, Comes, WorksOn, firsts, Lies, Gathers, LocatedBy, Accepted}
 use Rattle.history.proofs.Cases.{IsRefusal, numeral}
+use Rattle.table.proofs.Offsets.{header-long}
 use Rattle.holding.proofs.Headers.{header-fits, setting-held}
+use Rattle.holding.proofs.Flows.{same-flows}
 use Rattle.admission.proofs.Joining.{based, based-fits, found-header, found-stands, found-hears}
 use Rattle.admission.proofs.Reading.{reads-found}
 use Rattle.admission.proofs.Gathering.{contained-none, contained-past}
@@ -69,14 +72,18 @@ module _ (c : Call) (m v : List ℕ) where
     untouched = λ _. refl;
     refused = λ n q. refl;
     contained = λ h′ q. (contained-none, contained-none);
-    follows = λ s t k.
-        subst (λ y. Follows receiverLayout s (responds s (foundBy s t (esiOf c)) y) m m (Refused x)) (sym (f .told s t k)) (refl, refl);
-    starts = λ s t M k g.
+    follows = λ s flows t k.
+        subst (λ y. Follows receiverLayout s flows (responds s (foundBy s t (esiOf c)) y) m m (Refused x)) (sym (told s flows t k)) (refl, refl);
+    starts = λ s flows t M k g.
         let j = foundBy s t (esiOf c) in
-        subst (λ y. MarksBy s t j M m y (responds s j y)) (sym (f .told s t k)) g;
-    origins = λ s t H k g. subst (λ y. HearsBy s t H m y (responds s (foundBy s t (esiOf c)) y)) (sym (f .told s t k)) g;
+        subst (λ y. MarksBy s t j M m y (responds s j y)) (sym (told s flows t k)) g;
+    origins = λ s flows t H k g. subst (λ y. HearsBy s t H m y (responds s (foundBy s t (esiOf c)) y)) (sym (told s flows t k)) g;
   }
     where
+      told : (s : Setting) (flows : List ℕ) (t : State s) → HoldsWith m s flows t
+          → reading s flows (foundBy s t (esiOf c) .base) (length v) c ≡ fails (numberOf x)
+      told s flows t k = subst (λ y. reading s y (foundBy s t (esiOf c) .base) (length v) c ≡ fails (numberOf x)) (k .kept) (f .told s t (k .holds))
+
       without : (o : Option Header) → headerIn m ≡ o → numberOf x ≡ 3 → headerIn m ≡ none
       without none e z = e
       without (some h) e z = absurd (f .opened h e z)
@@ -238,13 +245,14 @@ module _ (c : Call) (m v : List ℕ) (h : Header) (q : ℕ → Located) (d : ℕ
           omega (arith, x, first-of (s .size) (q (t .base + d)), named-of (s .size) (q (t .base + d)), from (t .base + d), names (t .base + d))
 
       -- What holds of the packet and of what the model makes of it holds of what was read and of the call.
-      by-model : (P : Reading → Outcome s → Type 0) (o : Option (model.State (Coded (s .size)) (s .width)))
+      by-model : (flows : List ℕ) → flowsIn m ≡ flows → (P : Reading → Outcome s → Type 0) (o : Option (model.State (Coded (s .size)) (s .width)))
           → decoder.insert-all (decoder.over (Coded (s .size)) (s .width) (t .base + at .rise) p) (decoder.advance-by (at .rise) (t .window)) ≡ o
           → P (located (q (t .base + d))) (added s t (decoder.and-then o (λ S. some (record { base = t .base + at .rise; window = S }))))
-          → P (reading s (t .base) (length v) c) (answering s t (length v) c)
+          → P (reading s flows (t .base) (length v) c) (answering s flows t (length v) c)
       unfolding answering
-      by-model P o i x =
-          subst (λ y. P y (responds s t y)) (sym (reads-found c (length v) g (λ b. located (q (b + d))) (passes .told) s t is-header))
+      by-model flows kept P o i x =
+          let told = subst (λ y. (b : ℕ) → b % 2 ^ 32 ≡ g .esi .0 → reading (h .setting) y b (length v) c ≡ located (q (b + d))) kept (passes .told) in
+          subst (λ y. P y (responds s t y)) (sym (reads-found c flows (length v) g (λ b. located (q (b + d))) told s t is-header))
           (subst (λ y. P (located (q (t .base + d))) (added s t y)) (sym (received-by s t p (at .rise) rises o i)) x)
 
       -- The marks that the model makes of the packet.
@@ -279,17 +287,19 @@ module _ (c : Call) (m v : List ℕ) (h : Header) (q : ℕ → Located) (d : ℕ
       contained = λ h′ x.
           subst (λ (y : Header). Contained (memorySize (y .setting)) m m × Contained (workingSize (y .setting)) v v′)
           (Option·some-injective h h′ (sym (passes .has) ∙ x)) (contained-none, work-kept);
-      follows = λ s t k.
-          by-found s t k (λ x y. Follows receiverLayout s y m m (Refused refusals.Contradiction)) (refl, refl);
-      starts = λ s t M k i. by-found s t k (λ x y. MarksBy s t (foundBy s t (esiOf c)) M m x y) i;
-      origins = λ s t H k i. by-found s t k (λ x y. HearsBy s t H m x y) i;
+      follows = λ s flows t k.
+          by-found s flows t k (λ x y. Follows receiverLayout s flows y m m (Refused refusals.Contradiction)) (refl, refl);
+      starts = λ s flows t M k i. by-found s flows t k (λ x y. MarksBy s t (foundBy s t (esiOf c)) M m x y) i;
+      origins = λ s flows t H k i. by-found s flows t k (λ x y. HearsBy s t H m x y) i;
     }
       where
-        by-found : (s : Setting) (t : State s) (k : Holds m s t) (P : Reading → Outcome s → Type 0)
+        by-found : (s : Setting) (flows : List ℕ) (t : State s) (k : HoldsWith m s flows t) (P : Reading → Outcome s → Type 0)
             → P (located (q (foundBy s t (esiOf c) .base + d))) (refused 11)
-            → P (reading s (foundBy s t (esiOf c) .base) (length v) c) (receiving s t (length v) c)
-        by-found s t k P x =
-            by-model s (foundBy s t (esiOf c)) (header-found s t k) (stands-found s t k) P none (subst (Comes _ _ _ _ v′ _) z (comes-found s t k)) x
+            → P (reading s flows (foundBy s t (esiOf c) .base) (length v) c) (receiving s flows t (length v) c)
+        by-found s flows t k P x =
+            let i = k .holds in
+            by-model s (foundBy s t (esiOf c)) (header-found s t i) (stands-found s t i) flows (k .kept) P none
+            (subst (Comes _ _ _ _ v′ _) z (comes-found s t i)) x
 
     -- It has `own` symbols of its own.
     pub received-done : (own : ℕ) → ((s : Setting) (b : ℕ) (N : Starts) → naming s (b + at .rise) (q (b + d)) N ≡ owning (at .offset) own N)
@@ -298,6 +308,8 @@ module _ (c : Call) (m v : List ℕ) (h : Header) (q : ℕ → Located) (d : ℕ
         → Received receiverLayout c m m′ v v′ (Done known)
     received-done own owns brings kept known m′ z accepted =
         let done = subst (λ (y : Header). Accepted y at kept own known v′ m m′) (passes .header) accepted in
+        let kept-flows : flowsIn m′ ≡ flowsIn m =
+        same-flows m m′ (omega (arith, header-long, header-fits m h (passes .has) .room)) (done .marked .contained .same) (done .flows) in
         record {
           unopened = ((λ x. absurd (subst IsRefusal (sym x) tt)), (λ x. absurd (Option·none-ne-some h (sym x ∙ passes .has))));
           untouched = λ x. absurd (Option·none-ne-some h (sym x ∙ passes .has));
@@ -305,26 +317,27 @@ module _ (c : Call) (m v : List ℕ) (h : Header) (q : ℕ → Located) (d : ℕ
           contained = λ h′ x.
               subst (λ (y : Header). Contained (memorySize (y .setting)) m m′ × Contained (workingSize (y .setting)) v v′)
               (Option·some-injective h h′ (sym (passes .has) ∙ x)) (done .marked .contained, work-kept);
-          follows = λ s t k.
+          follows = λ s flows t record { holds = k; kept = f }.
               let j = foundBy s t (esiOf c) in
               let e = header-found s t k in
               let l = stands-found s t k in
               let (T, i, held, counted, marks) = done .marked .outcome s j _ e l (row-is s j e l) (subst (Comes _ _ _ _ v′ _) z (comes-found s t k)) in
-              by-model s j e l (λ x y. Follows receiverLayout s y m m′ (Done known)) (some T) i (ap value counted, held);
-          starts = λ s t M k b.
+              by-model s j e l flows f (λ x y. Follows receiverLayout s flows y m m′ (Done known)) (some T) i
+              (ap value counted, record { holds = held; kept = kept-flows ∙ f });
+          starts = λ s flows t M record { holds = k; kept = f } b.
               let j = foundBy s t (esiOf c) in
               let e = header-found s t k in
               let l = stands-found s t k in
               let (T, i, held, counted, marks) = done .marked .outcome s j _ e l (row-is s j e l) (subst (Comes _ _ _ _ v′ _) z (comes-found s t k)) in
-              by-model s j e l (λ x y. MarksBy s t j M m′ x y) (some T) i
+              by-model s j e l flows f (λ x y. MarksBy s t j M m′ x y) (some T) i
               (subst (λ N. MarksFrom m′ s (record { base = j .base + at .rise; window = T }) N) (models s j e l M T own (owns s (j .base)))
               (marks M (found-marks m s t (esiOf c) M b)));
-          origins = λ s t H k b.
+          origins = λ s flows t H record { holds = k; kept = f } b.
               let j = foundBy s t (esiOf c) in
               let e = header-found s t k in
               let l = stands-found s t k in
               let (T, i, held, counted, marks) = done .marked .outcome s j _ e l (row-is s j e l) (subst (Comes _ _ _ _ v′ _) z (comes-found s t k)) in
               let heard = subst (λ (y : Header). Accepted y at kept own known v′ m m′) e done .hears (j .base) H refl (found-hears m s t (esiOf c) H b) in
-              by-model s j e l (λ x y. HearsBy s t H m′ x y) (some T) i
+              by-model s j e l flows f (λ x y. HearsBy s t H m′ x y) (some T) i
               (hears-alike (s .width) (s .size) (j .base + at .rise) m′ _ _ (brings (j .base) H) heard);
         }

@@ -79,7 +79,7 @@ module _ (m : List ℕ) (e : ℕ) where
   found-answers a n heard f = record {
     unopened = ((λ z. absurd (subst IsValue z tt)), (λ z. absurd (subst IsNowhere (sym (f .unopened z)) tt)));
     zero = λ x z. let i : 0 ≡ x = cc in omega arith;
-    finds = λ s t k. let (p, v, x, c, y, z, h) = f .told s t k in subst (λ o. Finds receiverLayout o (Done 0)) (sym x) refl;
+    finds = λ s flows t k. let (p, v, x, c, y, z, h) = f .told s t (k .holds) in subst (λ o. Finds receiverLayout o (Done 0)) (sym x) refl;
   }
 
   missing-answers : (x : Refusal) → Spotted m e (Nowhere x) → SymbolAnswered receiverLayout m e (Refused x)
@@ -89,7 +89,7 @@ module _ (m : List ℕ) (e : ℕ) where
       (λ z. ap (λ (y : Spot). refusal (reason y)) (f .unopened z)),
     );
     zero = λ y z. absurd (subst IsValue (sym z) tt);
-    finds = λ s t k. subst (λ o. Finds receiverLayout o (Refused x)) (sym (f .told s t k)) refl;
+    finds = λ s flows t k. subst (λ o. Finds receiverLayout o (Refused x)) (sym (f .told s t (k .holds))) refl;
   }
     where
       number : Said → ℕ
@@ -103,14 +103,14 @@ module _ (m : List ℕ) (e : ℕ) where
   found-origin : (a n : ℕ) (heard : Bool) → Spotted m e (At a n heard) → SymbolShown receiverLayout m e (Shown heard)
   found-origin a n heard f = record {
     answered = found-answers a n heard f;
-    origin = λ s t H k g p v b x y.
-        let (p′, v′, x′, c, i, z, h) = f .told s t k in
+    origin = λ s flows t H k g p v b x y.
+        let (p′, v′, x′, c, i, z, h) = f .told s t (k .holds) in
         let same : p′ ≡ p = ap position (sym x′ ∙ x) in
         ap said-heard (sym y) ∙ h ∙ ap (λ j. heardIn (s .width) (s .size) m (j % s .width)) same ∙ heard-found s m t e H p v g x;
   }
 
   hidden-origin : (x : Refusal) → Spotted m e (Nowhere x) → SymbolShown receiverLayout m e (Hidden x)
-  hidden-origin x f = record { answered = missing-answers x f; origin = λ s t H k g p v b i y. absurd (subst IsHidden y tt) }
+  hidden-origin x f = record { answered = missing-answers x f; origin = λ s flows t H k g p v b i y. absurd (subst IsHidden y tt) }
 
   pub shown-found : (f : Spot) (a n : ℕ) (heard : Bool) → f ≡ At a n heard → Spotted m e f → SymbolShown receiverLayout m e (Shown heard)
   shown-found f a n heard q g = found-origin a n heard (subst (Spotted m e) q g)
@@ -126,8 +126,8 @@ module _ (mem r : RefT (List ℕ)) (e : ℕ) where
         unopened = λ z. absurd (subst IsNowhere (sym (h .unopened z)) tt);
         within = λ x k. inr (a, subst (LiesAt r mem a) (h .lies x k .0) l);
         whole = λ x k. inr (ap length (l .bytes) ∙ length-part a n (now mem) (h .lies x k .1) ∙ h .lies x k .0);
-        shows = λ s t k.
-            let (p, v, x, c, y, z, o) = h .told s t k in
+        shows = λ s flows t k.
+            let (p, v, x, c, y, z, o) = h .told s t (k .holds) in
             subst (λ o. Shows receiverLayout s o mem r) (sym x) (l .bytes ∙ sym c, subst (λ j. LiesAt r mem j (s .size)) y (subst (LiesAt r mem a) z l));
       }
 
@@ -138,5 +138,5 @@ module _ (mem r : RefT (List ℕ)) (e : ℕ) where
         unopened = λ _. l;
         within = λ y k. inl l;
         whole = λ y k. inl l;
-        shows = λ s t k. subst (λ o. Shows receiverLayout s o mem r) (sym (h .told s t k)) l;
+        shows = λ s flows t k. subst (λ o. Shows receiverLayout s o mem r) (sym (h .told s t (k .holds))) l;
       }

@@ -26,7 +26,7 @@ use Rattle.wire.specs.declared.Refusal.the-variants as refusals
 use Rattle.wire.proofs.Adui as adui
 use Rattle.decoder.specs.Receiver as decoder
 
-module _ (flow : ℕ) (p m v : List ℕ) (passed : Passed) (s : SourcePassed p m (length v) passed) (adu : List ℕ) (is : adu ≡ part 0 (length p - 4) p) where
+module _ (flow : ℕ) (p m v : List ℕ) (passed : Passed) (s : SourcePassed flow p m (length v) passed) (adu : List ℕ) (is : adu ≡ part 0 (length p - 4) p) where
   open Setting (s .header .setting) using (size as E, width)
 
   abbrev c : Call
@@ -50,10 +50,10 @@ module _ (flow : ℕ) (p m v : List ℕ) (passed : Passed) (s : SourcePassed p m
   pub gather-asks : Fits (at .shape .width) (at .shape .size) m × Works (at .shape .width) (at .shape .size) 0 v × (at .shape .oldest < at .shape .width)
       × (at .first < at .shape .width) × (length adu ≤ 65535) × (count ≡ symbolCount (at .shape .size) (length adu)) × (count ≤ at .shape .width)
   gather-asks =
-      let k = ready c m v (s .header) q (s .distance) passed (s .passes flow) in
-      let size = location-size c m v (s .header) q (s .distance) passed (s .passes flow) in
-      let wide = location-width c m v (s .header) q (s .distance) passed (s .passes flow) in
-      (k .fits, k .works, k .base, k .first, rw adu-is (s .short), rw (adu-is, size) (s .count), omega (arith, s .passes flow .fits, s .named, wide))
+      let k = ready c m v (s .header) q (s .distance) passed (s .passes) in
+      let size = location-size c m v (s .header) q (s .distance) passed (s .passes) in
+      let wide = location-width c m v (s .header) q (s .distance) passed (s .passes) in
+      (k .fits, k .works, k .base, k .first, rw adu-is (s .short), rw (adu-is, size) (s .count), omega (arith, s .passes .fits, s .named, wide))
 
   module _ (v′ : List ℕ) (r : Gathered)
       (gathered : Gathers at (symbolCount (at .shape .size) (length adu)) (equationOf (at .shape .width) (at .shape .size) flow adu) count r m v v′) where
@@ -74,14 +74,14 @@ module _ (flow : ℕ) (p m v : List ℕ) (passed : Passed) (s : SourcePassed p m
 
     pub call-contradicts : r ≡ Contradiction → Received receiverLayout c m m v v′ (Refused refusals.Contradiction)
     call-contradicts =
-        received-contradiction c m v (s .header) q (s .distance) passed (s .passes flow) count (λ x. refl) (λ x. symbols ∙ sym (s .named))
+        received-contradiction c m v (s .header) q (s .distance) passed (s .passes) count (λ x. refl) (λ x. symbols ∙ sym (s .named))
         (λ w E. equationOf w E flow (sourceAdu p)) spelt v′ r all-gathered
 
     -- Its symbols are its own.
     owns : (y : Setting) (b : ℕ) (N : Starts) → naming y (b + at .rise) (q (b + s .distance)) N ≡ owning (at .offset) count N
     owns y b N =
         let d : ℕ = s .distance in
-        let k = s .passes flow in
+        let k = s .passes in
         let o : at .offset ≡ d - (d + passed .named - width) = ap (λ y. y .offset) (k .location) in
         let z : at .rise ≡ d + passed .named - width = ap (λ y. y .rise) (k .location) in
         let x : b + d - (b + at .rise) ≡ at .offset = omega (arith, z, o) in
@@ -94,7 +94,7 @@ module _ (flow : ℕ) (p m v : List ℕ) (passed : Passed) (s : SourcePassed p m
     brings : (b : ℕ) (H : Origins) (x : ℕ) → bringing (b + at .rise + at .offset) count H x ≡ hearing (q (b + s .distance)) H x
     brings b H x =
         let d : ℕ = s .distance in
-        let k = s .passes flow in
+        let k = s .passes in
         let o : at .offset ≡ d - (d + passed .named - width) = ap (λ y. y .offset) (k .location) in
         let z : at .rise ≡ d + passed .named - width = ap (λ y. y .rise) (k .location) in
         let first : b + at .rise + at .offset ≡ b + d = omega (arith, z, o, k .fits) in
@@ -103,5 +103,5 @@ module _ (flow : ℕ) (p m v : List ℕ) (passed : Passed) (s : SourcePassed p m
     pub call-done : (kept known : ℕ) (m′ : List ℕ) → r ≡ All kept → Accepted (passed .header) at kept count known v′ m m′
         → Received receiverLayout c m m′ v v′ (Done known)
     call-done =
-        received-done c m v (s .header) q (s .distance) passed (s .passes flow) count (λ x. refl) (λ x. symbols ∙ sym (s .named))
+        received-done c m v (s .header) q (s .distance) passed (s .passes) count (λ x. refl) (λ x. symbols ∙ sym (s .named))
         (λ w E. equationOf w E flow (sourceAdu p)) spelt v′ r all-gathered count owns brings

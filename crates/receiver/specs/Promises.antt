@@ -25,8 +25,8 @@ pub use Rattle.receiver.specs.Draws.{drawsFor}
 
 -- How a memory holds a state.
 pub record Layout : Type 1 where
-  -- The memory holds the state of a receiver that was opened with the setting.
-  pub Holds : List ℕ → (s : Setting) → State s → Type 0
+  -- The memory holds the state of a receiver that was opened with the setting and announces these flows.
+  pub Holds : List ℕ → (s : Setting) (flows : List ℕ) → State s → Type 0
   -- The memory that holds the state marks these positions as starts, by their distance from the base, up to the width.
   pub Marks : List ℕ → (s : Setting) → State s → Starts → Type 0
   -- The memory that holds the state says that these positions are heard, and no others from the base on.
@@ -52,21 +52,21 @@ Draws c m (NotAccepted r) = Unit {0}
 module _ (L : Layout) where
   open Layout L using (Holds, Marks, Hears, symbolStart)
 
-  -- Opening with a scheme, E and width.
-  pub record Opened (scheme E w : ℕ) (m m′ : List ℕ) (a : Answer) : Type 0 where
+  -- Opening with a scheme, E and width, and the 32 bytes of the flows.
+  pub record Opened (scheme E w : ℕ) (flows m m′ : List ℕ) (a : Answer) : Type 0 where
     pub answer : said a ≡ opening (settingOf scheme E w) (length m)
     pub refused : (n : ℕ) → said a ≡ refusal n → m′ ≡ m
     pub contained : (s : Setting) → settingOf scheme E w ≡ some s → Contained (memorySize s) m m′
-    pub holds : (s : Setting) → settingOf scheme E w ≡ some s → said a ≡ value 0 → Holds m′ s (opened s)
+    pub holds : (s : Setting) → settingOf scheme E w ≡ some s → said a ≡ value 0 → Holds m′ s flows (opened s)
     -- No position is marked.
     pub starts : (s : Setting) → settingOf scheme E w ≡ some s → said a ≡ value 0 → Marks m′ s (opened s) nowhere
     -- None is heard.
     pub origins : (s : Setting) → settingOf scheme E w ≡ some s → said a ≡ value 0 → Hears m′ s (opened s) unheard
 
   -- A packet call did what it comes to.
-  abbrev pub Follows : (s : Setting) → Outcome s → (m m′ : List ℕ) → Answer → Type 0
-  Follows s (refused n) m m′ a = (said a ≡ refusal n) × (m′ ≡ m)
-  Follows s (done n t) m m′ a = (said a ≡ value n) × Holds m′ s (some t)
+  abbrev pub Follows : (s : Setting) (flows : List ℕ) → Outcome s → (m m′ : List ℕ) → Answer → Type 0
+  Follows s flows (refused n) m m′ a = (said a ≡ refusal n) × (m′ ≡ m)
+  Follows s flows (done n t) m m′ a = (said a ≡ value n) × Holds m′ s flows (some t)
 
   -- A packet call, on any memory: refusal 3 exactly where it has no receiver's header, and then working memory too is as it was; a refusal changes
   -- nothing but working memory; lengths, and bytes past the sizes, are kept. Where the memory holds a state, the call does what it comes to.
@@ -75,17 +75,17 @@ module _ (L : Layout) where
     pub untouched : headerIn m ≡ none → v′ ≡ v
     pub refused : (n : ℕ) → said a ≡ refusal n → m′ ≡ m
     pub contained : (h : Header) → headerIn m ≡ some h → Contained (memorySize (h .setting)) m m′ × Contained (workingSize (h .setting)) v v′
-    pub follows : (s : Setting) (t : State s) → Holds m s t → Follows s (receiving s t (length v) c) m m′ a
+    pub follows : (s : Setting) (flows : List ℕ) (t : State s) → Holds m s flows t → Follows s flows (receiving s flows t (length v) c) m m′ a
     -- And the marks are those that it comes to.
-    pub starts : (s : Setting) (t : State s) (M : Starts) → Holds m s t → Marks m s t M
+    pub starts : (s : Setting) (flows : List ℕ) (t : State s) (M : Starts) → Holds m s flows t → Marks m s t M
         → let j = foundBy s t (esiOf c) in
-        let o = receiving s t (length v) c in
-        Marks m′ s (stateAfter t o) (marking s j M (reading s (j .base) (length v) c) o)
+        let o = receiving s flows t (length v) c in
+        Marks m′ s (stateAfter t o) (marking s j M (reading s flows (j .base) (length v) c) o)
     -- And those positions are heard that it comes to.
-    pub origins : (s : Setting) (t : State s) (H : Origins) → Holds m s t → Hears m s t H
+    pub origins : (s : Setting) (flows : List ℕ) (t : State s) (H : Origins) → Holds m s flows t → Hears m s t H
         → let j = foundBy s t (esiOf c) in
-        let o = receiving s t (length v) c in
-        Hears m′ s (stateAfter t o) (originsAfter (reading s (j .base) (length v) c) o H)
+        let o = receiving s flows t (length v) c in
+        Hears m′ s (stateAfter t o) (originsAfter (reading s flows (j .base) (length v) c) o H)
 
   -- A packet call, with the draws beside the count.
   pub record PacketAnswered (c : Call) (m m′ v v′ : List ℕ) (a : PacketAnswer) : Type 0 where
@@ -101,12 +101,12 @@ module _ (L : Layout) where
   pub record SymbolAnswered (m : List ℕ) (e : ℕ) (a : Answer) : Type 0 where
     pub unopened : (said a ≡ refusal 3) ↔ (headerIn m ≡ none)
     pub zero : (n : ℕ) → said a ≡ value n → n ≡ 0
-    pub finds : (s : Setting) (t : State s) → Holds m s t → Finds (finding s t e) a
+    pub finds : (s : Setting) (flows : List ℕ) (t : State s) → Holds m s flows t → Finds (finding s t e) a
 
   -- The symbol call, with the origin beside the 0: whether the known position is heard.
   pub record SymbolShown (m : List ℕ) (e : ℕ) (a : SymbolAnswer) : Type 0 where
     pub answered : SymbolAnswered m e (shownOf a)
-    pub origin : (s : Setting) (t : State s) (H : Origins) → Holds m s t → Hears m s t H → (p : ℕ) (v : Symbol (s .size)) (heard : Bool)
+    pub origin : (s : Setting) (flows : List ℕ) (t : State s) (H : Origins) → Holds m s flows t → Hears m s t H → (p : ℕ) (v : Symbol (s .size)) (heard : Bool)
         → finding s t e ≡ shows p v → a ≡ Shown heard → heard ≡ H p
 
   -- A known symbol is shown as the part of the memory that holds it; else the part is empty.
@@ -119,7 +119,7 @@ module _ (L : Layout) where
     pub unopened : headerIn (now m) ≡ none → now part ≡ []
     pub within : (h : Header) → headerIn (now m) ≡ some h → (now part ≡ []) ⊎ ((at : ℕ) × LiesAt part m at (h .setting .size))
     pub whole : (h : Header) → headerIn (now m) ≡ some h → (now part ≡ []) ⊎ (length (now part) ≡ h .setting .size)
-    pub shows : (s : Setting) (t : State s) → Holds (now m) s t → Shows s (finding s t e) m part
+    pub shows : (s : Setting) (flows : List ℕ) (t : State s) → Holds (now m) s flows t → Shows s (finding s t e) m part
 
   -- The call for the place found this: a known symbol's bytes start at its place; else it is the symbol call's refusal.
   abbrev pub Places : (s : Setting) → Finding (s .size) → List ℕ → Answer → Type 0
@@ -130,10 +130,11 @@ module _ (L : Layout) where
   pub record PlaceAnswered (m : List ℕ) (e : ℕ) (a : Answer) : Type 0 where
     pub unopened : (said a ≡ refusal 3) ↔ (headerIn m ≡ none)
     pub within : (h : Header) (at : ℕ) → headerIn m ≡ some h → said a ≡ value at → at + h .setting .size ≤ length m
-    pub places : (s : Setting) (t : State s) → Holds m s t → Places s (finding s t e) m a
+    pub places : (s : Setting) (flows : List ℕ) (t : State s) → Holds m s flows t → Places s (finding s t e) m a
 
   -- The ADU call for the ESI e, which changes nothing but its output.
   pub record AduAnswered (m : List ℕ) (e : ℕ) (out out′ : List ℕ) (a : Handed) : Type 0 where
     pub unopened : (handedSaid a ≡ refusal 3) ↔ (headerIn m ≡ none)
     pub leaves : Leaves out out′ a
-    pub hands : (s : Setting) (t : State s) (M : Starts) → Holds m s t → Marks m s t M → HandedAs (aduAt s t M (length out) e) out out′ a
+    pub hands : (s : Setting) (flows : List ℕ) (t : State s) (M : Starts) → Holds m s flows t → Marks m s t M
+        → HandedAs (aduAt s flows t M (length out) e) out out′ a

@@ -53,9 +53,9 @@ pub fn working_size(size: usize, width: usize) -> Answer
     Answer::Done(front::working_size(setting))
 }
 
-// Opens a receiver in the memory.
-pub fn open(mem: &mut [u8], scheme: usize, size: usize, width: usize) -> Answer
-    ensures { λ r. ⌜ Opened receiverLayout scheme size width (now (mem .entry)) (now (mem .exit)) r ⌝ }
+// Opens a receiver in the memory, which announces these flows.
+pub fn open(mem: &mut [u8], scheme: usize, size: usize, width: usize, flows: &[u8; 32]) -> Answer
+    ensures { λ r. ⌜ Opened receiverLayout scheme size width (now (flows .entry)) (now (mem .entry)) (now (mem .exit)) r ⌝ }
 {
     let Checked::Good(setting) = wire::setting_of(scheme, size, width) else {
         return Answer::Refused(Refusal::Values);
@@ -64,6 +64,7 @@ pub fn open(mem: &mut [u8], scheme: usize, size: usize, width: usize) -> Answer
         return Answer::Refused(Refusal::Short);
     }
     front::write_fresh(mem, setting);
+    wire::write_flows(mem, flows);
     Answer::Done(0)
 }
 
@@ -113,7 +114,7 @@ pub fn receive_source(mem: &mut [u8], work: &mut [u8], flow: u8, packet: &[u8]) 
     ensures { λ r. ⌜ PacketAnswered receiverLayout (source-call flow (now (packet .entry)))
         (now (mem .entry)) (now (mem .exit)) (now (work .entry)) (now (work .exit)) r ⌝ }
 {
-    let passed = match source::read_source(mem, work.len(), packet) {
+    let passed = match source::read_source(mem, work.len(), flow, packet) {
         Read::Located(passed) => passed,
         Read::Fails(refusal) => return PacketAnswer::NotAccepted(refusal),
     };

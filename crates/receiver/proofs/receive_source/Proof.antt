@@ -14,12 +14,12 @@ passed p = p .passed .given .0 .0
 
 read : (p : tie.After-passed)
     → let a = p .before .before .before .before .before .before .before .args in
-    SourcePassed (a .packet .now) (a .mem .now) (length (a .work .now)) (passed p)
-read p = subst (SourceRead _ _ _) (p .passed .given .1) (p .before .before .read-source .ensures)
+    SourcePassed (a .flow) (a .packet .now) (a .mem .now) (length (a .work .now)) (passed p)
+read p = subst (SourceRead _ _ _ _) (p .passed .given .1) (p .before .before .read-source .ensures)
 
 returns : tie.Need-returns
 returns c =
-    answered-refused (received-failed _ _ _ _ (subst (SourceRead _ _ _) (c .before .refusal .given .1) (c .before .before .before .read-source .ensures) _))
+    answered-refused (received-failed _ _ _ _ (subst (SourceRead _ _ _ _) (c .before .refusal .given .1) (c .before .before .before .read-source .ensures)))
 
 sub-part : tie.Need-sub-part
 sub-part c = read (c .before .before .before) .form
@@ -42,7 +42,7 @@ accept-requires c κs =
     let p = c .before .before .before .before .before .before .before .before .before .before .before .before .before .before in
     let gathered = c .before .before .before .before .before .before .before .gather-source in
     let a = p .before .before .before .before .before .before .before .args in
-    accept-asks _ _ (a .work .now) _ _ _ (passed p) (read p .passes (a .flow)) _ (gathered .result) _ _
+    accept-asks _ _ (a .work .now) _ _ _ (passed p) (read p .passes) _ (gathered .result) _ _
     (c .before .before .before .kept .given .1) (gathered .ensures .works) (omega (arith, read p .named))
 
 returns-3 : tie.Need-returns-3
@@ -53,7 +53,7 @@ returns-3 c =
     let gathered = c .before .before .before .before .before .before .before .before .before .before .gather-source in
     let kept = c .before .before .before .before .before .before .kept .given .1 in
     let accepted = c .before .before .accept .ensures in
-    answered-done (s .header) _ _ _ _ (gathered .result) _ _ _ _ (s .passes (p .before .before .before .before .before .before .before .args .flow) .has) kept
+    answered-done (s .header) _ _ _ _ (gathered .result) _ _ _ _ (s .passes .has) kept
     (gathered .ensures .works) accepted refl (omega arith)
     (call-done _ _ _ _ (passed p) s _ (part .ensures .bytes) _ (gathered .result) (gathered .ensures) _ _ _ kept accepted)
 
