@@ -18,20 +18,20 @@ answered-by s l (located q) (value n) j = inl tt
 answered-by s l (located q) (refusal n) j = inr (j .contradicts q refl .1 (λ c. j .accepted .1 (q, refl, c)))
 
 pub all-checked : (L : Layout) → All-checked L
-all-checked L scheme E w m₀ m a p e ts t r =
-    let (s, h, d) = demand-3 L scheme E w m₀ m a p e _ r in (
+all-checked L scheme E w flows m₀ m a p e ts t r =
+    let (s, h, d) = demand-3 L scheme E w flows m₀ m a p e _ r in (
       s,
       h,
       record {
-        reading = read s (history s ts) t;
-        checked = history-laws .checked s (setting-names scheme E w s h .valid) _ _ (t .call);
-        answered = answered-by s (history s ts) _ (said (t .answer)) (d .calls ts t [] refl);
+        reading = read s flows (history s flows ts) t;
+        checked = history-laws .checked s (setting-names scheme E w s h .valid) flows _ _ (t .call);
+        answered = answered-by s (history s flows ts) _ (said (t .answer)) (d .calls ts t [] refl);
       },
     )
 
 pub base-rises : (L : Layout) → Base-rises L
-base-rises L scheme E w m₀ m a p e ts t r =
-    let (s, h, d) = demand-3 L scheme E w m₀ m a p e _ r in
+base-rises L scheme E w flows m₀ m a p e ts t r =
+    let (s, h, d) = demand-3 L scheme E w flows m₀ m a p e _ r in
     let v = setting-names scheme E w s h .valid in
-    let k = history-laws .raised s v (history s ts) _ (t .call) (last-bytes L ts t m r) (said (t .answer)) (d .calls ts t [] refl) in
-    (s, h, subst (λ l. BaseAfter s (baseOf s (history s ts)) (t .call) (said (t .answer)) (baseOf s l)) (sym (goes-one s ts fresh t)) k)
+    let k = history-laws .raised s v flows (history s flows ts) _ (t .call) (last-bytes L ts t m r) (said (t .answer)) (d .calls ts t [] refl) in
+    (s, h, subst (λ l. BaseAfter s (baseOf s (history s flows ts)) (t .call) (said (t .answer)) (baseOf s l)) (sym (goes-one s flows ts fresh t)) k)

@@ -6,6 +6,7 @@ use Rattle.claims.proofs.Joining.{joins, unmarked}
 use Rattle.claims.proofs.Checking.{all-checked, base-rises}
 use Rattle.claims.proofs.Placing.{every-place, part-placed}
 use Rattle.claims.proofs.Origins.{origins, brought-by, stays-heard}
+use Rattle.claims.proofs.Strays.{strays}
 use Rattle.claims.proofs.Sent.{sender-fills, sent-accepted, sent-behind, sent-shown}
 use Rattle.claims.proofs.Sending.{sender-sends}
 use Rattle.claims.proofs.SentAdus.{start-gives, junk-gives, sent-written, sent-starts, sent-handed}
@@ -26,6 +27,7 @@ receiver-consequences = record {
   origins = origins receiverLayout;
   brought-by = brought-by;
   stays-heard = stays-heard receiverLayout;
+  strays = strays receiverLayout;
   goes-on = chain-goes-on;
   heard = heard;
   heard-handed = heard-handed receiverLayout;

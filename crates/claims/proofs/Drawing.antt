@@ -16,13 +16,13 @@ use Rattle.claims.proofs.Demand.{opened-stands, stands, had-setting}
 use Rattle.sender.specs.State as sender
 
 pub accepted-draws : Accepted-draws
-accepted-draws scheme E w m₀ m a p e ts r =
+accepted-draws scheme E w flows m₀ m a p e ts r =
     let (s, h) = had-setting (settingOf scheme E w) (length m₀) (sym (p .answer) ∙ e) in
     let v = setting-names scheme E w s h .valid in
-    let g = stands receiverLayout s v ts m fresh (opened-stands receiverLayout s v scheme E w m₀ m a p e h) r in
-    (s, h, λ c m′ v v′ n d q. q .draws .draws (headerOf s (g .state)) (g .held .header) ∙ ap (λ x. drawsFor x c) (setting-of s (g .state)))
+    let g = stands receiverLayout s flows v ts m fresh (opened-stands receiverLayout s flows v scheme E w m₀ m a p e h) r in
+    (s, h, λ c m′ v v′ n d q. q .draws .draws (headerOf s (g .state)) (g .held .holds .header) ∙ ap (λ x. drawsFor x c) (setting-of s (g .state)))
 
 pub made-draws : Made-draws
 made-draws t s l peers key dt count n d out out′ q =
-    q .draws .packet (sender.headerOf (record { setting = t; symbols = symbolsOf (t .size) l })) (run-held t l (peers .run) .header)
+    q .draws .packet (sender.headerOf (record { setting = t; flows = peers .run .flows; symbols = symbolsOf (t .size) l })) (run-held t l (peers .run) .header)
     ∙ ap₂ (λ (x : Scheme) (E : ℕ). packetDraws x E (take n out′)) (peers .scheme) (peers .size)

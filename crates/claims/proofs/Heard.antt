@@ -1,9 +1,10 @@
 -- Positions become starts: after an ADU that is held at one, and where a source packet was accepted.
-use Rattle.words.specs.Words.{_≡_, arith, ℕ, _≤_, _+_, List, length, _<_, refl, _∙_, sym, ap, _-_, [], some, _∷_, getD, _++_, subst, Option, drop, leb}
+use Rattle.words.specs.Words.{_≡_, arith, ℕ, _≤_, _+_, List, length, _<_, refl, _∙_, sym, ap, _-_, [], some, _∷_, true, getD, _++_, subst, Option, drop, leb}
 use Rattle.words.specs.Words.{Option·some-injective, inr, inl, append-assoc, leb-true}
 use Rattle.wire.specs.declared.Setting.{Setting}
 use Rattle.wire.specs.Settings.{Valid}
 use Rattle.wire.specs.Packets.{symbolCount, sourceSymbols, sourceAdu}
+use Rattle.wire.specs.Flows.{announced}
 use Rattle.wire.proofs.Adui.{symbols-count}
 use Rattle.wire.proofs.Settings.{both}
 use Rattle.starts.specs.declared.Handed.{Handed}
@@ -95,22 +96,22 @@ module _ (s : Setting) where
       omega (arith, reaches newer older p symbols b₀ i₀, up, is)
 
 pub chain-goes-on : Goes-on
-chain-goes-on s v ts c b e p flow adu r h = on s v p flow adu (history s ts) b e c r h
+chain-goes-on s v flows ts c b e p flow adu r h = on s v p flow adu (history s flows ts) b e c r h
 
 pub heard : Heard
-heard s ts newer older q e p n b i h =
+heard s flows ts newer older q e p n b i h =
     subst (λ qs. Start s qs p) (sym e) (stays s newer older q p n b (sym (ap (baseOf s) e) ∙ i) h)
 
 -- An ADU whose symbols are those of an accepted source packet.
-held-handed : (L : Layout) (s : Setting) → Valid s → (ts : List Step) (m : List ℕ) (base : ℕ) → baseOf s (history s ts) ≡ some base
-    → Handed-out L s m (history s ts) base
-    → (newer older : List Located) (p flow : ℕ) (adu : List ℕ) → length adu ≤ 65535
-    → history s ts ≡ newer ++ (source p (sourceSymbols flow adu (s .size)) ∷ older) → base ≤ p
+held-handed : (L : Layout) (s : Setting) (flows : List ℕ) → Valid s → (ts : List Step) (m : List ℕ) (base : ℕ) → baseOf s (history s flows ts) ≡ some base
+    → Handed-out L s flows m (history s flows ts) base
+    → (newer older : List Located) (p flow : ℕ) (adu : List ℕ) → length adu ≤ 65535 → announced flows flow ≡ true
+    → history s flows ts ≡ newer ++ (source p (sourceSymbols flow adu (s .size)) ∷ older) → base ≤ p
     → (out out′ : List ℕ) (a : Handed) → AduAnswered L m (esi p) out out′ a → length adu ≤ length out
     → (a ≡ Adu flow (length adu)) × (out′ ≡ adu ++ drop (length adu) out)
-held-handed L s v ts m base b g newer older p flow adu short e h out out′ a k room =
+held-handed L s flows v ts m base b g newer older p flow adu short known e h out out′ a k room =
     let E = s .size in
-    let qs = history s ts in
+    let qs = history s flows ts in
     let symbols = sourceSymbols flow adu E in
     let q = source p symbols in
     let count : length symbols ≡ symbolCount E (length adu) = symbols-count flow adu E in
@@ -120,28 +121,29 @@ held-handed L s v ts m base b g newer older p flow adu short e h out out′ a k 
     let d = p - base in
     let here : base + d ≡ p = omega (arith, h) in
     let inside : d < s .width = omega (arith, some, count, r, h) in
-    let start = heard s ts newer older q e p (inl refl) base b h in
+    let start = heard s flows ts newer older q e p (inl refl) base b h in
     let held : HoldsAdu s qs base p flow adu = record {
       long = short;
       inside = omega (arith, count, r);
       held = λ f c. ap (symbolsAt E f p) (sym count) ∙ satisfied s newer older q f (subst (λ x. All E x f) e c);
     } in
     g .calls d (omega (arith, inside, v .width-most)) .handed inside out out′ a (subst (λ x. AduAnswered L m (esi x) out out′ a) (sym here) k) flow adu .1
-    (subst (λ x. Start s qs x × HoldsAdu s qs base x flow adu × (length adu ≤ length out)) (sym here) (start, held, room))
+    (subst (λ x. Start s qs x × HoldsAdu s qs base x flow adu × (announced flows flow ≡ true) × (length adu ≤ length out)) (sym here)
+    (start, held, known, room))
 
 -- ---- The packet of a call
 
-module _ (s : Setting) where
+module _ (s : Setting) (flows : List ℕ) where
   logged-keeps : (l : Log) (r : Reading) (a : Said) → (newer : List Located) × (logged s l r a ≡ newer ++ l)
   logged-keeps l (fails n) a = ([], refl)
   logged-keeps l (located q) (refusal n) = ([], refl)
   logged-keeps l (located q) (value n) = (q ∷ [], refl)
 
-  keeps : (ts : List Step) (l : Log) → (newer : List Located) × (goes-on s l ts ≡ newer ++ l)
+  keeps : (ts : List Step) (l : Log) → (newer : List Located) × (goes-on s flows l ts ≡ newer ++ l)
   keeps [] l = ([], refl)
   keeps (t ∷ ts) l =
-      let (b, g) = logged-keeps l (read s l t) (said (t .answer)) in
-      let (a, e) = keeps ts (logged s l (read s l t) (said (t .answer))) in
+      let (b, g) = logged-keeps l (read s flows l t) (said (t .answer)) in
+      let (a, e) = keeps ts (logged s l (read s flows l t) (said (t .answer))) in
       (a ++ b, e ∙ ap (λ (x : List Located). a ++ x) g ∙ sym (append-assoc a b l))
 
   logged-takes : (l : Log) (r : Reading) (a : Said) (q : Located) → r ≡ located q → IsValue a → logged s l r a ≡ q ∷ l
@@ -149,30 +151,33 @@ module _ (s : Setting) where
   logged-takes l r (refusal n) q e h = absurd h
 
   -- An accepted packet stands in the history.
-  takes : (before : List Step) (t : Step) (after : List Step) (l : Log) (q : Located) → read s (goes-on s l before) t ≡ located q
+  takes : (before : List Step) (t : Step) (after : List Step) (l : Log) (q : Located) → read s flows (goes-on s flows l before) t ≡ located q
       → IsValue (said (t .answer))
-      → (newer : List Located) × (goes-on s l (before ++ (t ∷ after)) ≡ newer ++ (q ∷ goes-on s l before))
+      → (newer : List Located) × (goes-on s flows l (before ++ (t ∷ after)) ≡ newer ++ (q ∷ goes-on s flows l before))
   takes [] t after l q e h =
-      let (a, g) = keeps after (logged s l (read s l t) (said (t .answer))) in
-      (a, g ∙ ap (λ (x : List Located). a ++ x) (logged-takes l (read s l t) (said (t .answer)) q e h))
+      let (a, g) = keeps after (logged s l (read s flows l t) (said (t .answer))) in
+      (a, g ∙ ap (λ (x : List Located). a ++ x) (logged-takes l (read s flows l t) (said (t .answer)) q e h))
   takes (u ∷ before) t after l q e h = takes before t after _ q e h
 
-  -- An ADU that was read is short.
-  read-short : (base flow : ℕ) (p : List ℕ) (q : Located) → readSource s base flow p ≡ located q → length (sourceAdu p) ≤ 65535
+  -- An ADU that was read is of an announced flow, and short.
+  read-short : (base flow : ℕ) (p : List ℕ) (q : Located) → readSource s flows base flow p ≡ located q
+      → (announced flows flow ≡ true) × (length (sourceAdu p) ≤ 65535)
   unfolding readSource
   read-short base flow p q h =
       let (a, g) = check-passed _ 5 _ q h in
-      let (b, j) = check-passed _ 4 _ q g in
-      leb-true _ _ (both (leb (length (sourceAdu p)) 65535) _ b .0)
+      let (c, i) = check-passed _ 16 _ q g in
+      let (b, j) = check-passed _ 4 _ q i in
+      (c, leb-true _ _ (both (leb (length (sourceAdu p)) 65535) _ b .0))
 
 pub heard-handed : (L : Layout) → Heard-handed L
-heard-handed L s v before t after m b i g flow packet q c e y h out out′ a k room =
-    let base = baseFor (baseOf s (history s before)) (esiOf (t .call)) in
-    let r : readSource s base flow packet ≡ located q =
-    ap (readPacket s base) (sym c) ∙ reading-passed s base (length (t .working)) (t .call) q e in
+heard-handed L s v flows before t after m b i g flow packet q c e y h out out′ a k room =
+    let base = baseFor (baseOf s (history s flows before)) (esiOf (t .call)) in
+    let r : readSource s flows base flow packet ≡ located q =
+    ap (readPacket s flows base) (sym c) ∙ reading-passed s flows base (length (t .working)) (t .call) q e in
     let z : q ≡ source (first q) (sourceSymbols flow (sourceAdu packet) (s .size)) =
-    subst (λ w. w ≡ source (first w) (sourceSymbols flow (sourceAdu packet) (s .size))) (source-read s base flow packet q r .says) refl in
-    let (newer, x) = takes s before t after fresh q e y in
-    held-handed L s v (before ++ (t ∷ after)) m b i g newer (history s before) (first q) flow (sourceAdu packet) (read-short s base flow packet q r)
-    (x ∙ ap (λ (w : Located). newer ++ (w ∷ history s before)) z)
+    subst (λ w. w ≡ source (first w) (sourceSymbols flow (sourceAdu packet) (s .size))) (source-read s flows base flow packet q r .says) refl in
+    let (known, short) = read-short s flows base flow packet q r in
+    let (newer, x) = takes s flows before t after fresh q e y in
+    held-handed L s flows v (before ++ (t ∷ after)) m b i g newer (history s flows before) (first q) flow (sourceAdu packet) short known
+    (x ∙ ap (λ (w : Located). newer ++ (w ∷ history s flows before)) z)
     h out out′ a k room

@@ -9,7 +9,7 @@ use Rattle.history.specs.History.{fresh}
 use Rattle.history.specs.Model.{State}
 use Rattle.holding.specs.declared.Header.{Header}
 use Rattle.holding.specs.Header.{headerIn}
-use Rattle.holding.specs.Layout.{headerOf, Holds}
+use Rattle.holding.specs.Layout.{headerOf, HoldsWith}
 use Rattle.holding.proofs.Headers.{setting-of}
 use Rattle.receiver.specs.Layout.{receiverLayout}
 use Rattle.sender.specs.Run.{symbolsOf}
@@ -20,7 +20,7 @@ use Rattle.sender.specs.State as sender
 
 -- The sender that such a memory holds.
 abbrev pub senderIn : {t : Setting} {m : List ℕ} → OfSender t m → sender.Sender
-senderIn {t} s = record { setting = t; symbols = symbolsOf (t .size) (s .calls) }
+senderIn {t} s = record { setting = t; flows = s .run .flows; symbols = symbolsOf (t .size) (s .calls) }
 
 pub sender-held : (t : Setting) (m : List ℕ) (s : OfSender t m) → sender.Holds m (senderIn s)
 sender-held t m s = subst (λ x. sender.Holds x (senderIn s)) (sym (s .left)) (run-held t (s .calls) (s .run))
@@ -28,8 +28,9 @@ sender-held t m s = subst (λ x. sender.Holds x (senderIn s)) (sym (s .left)) (r
 -- The state that such a memory of a receiver holds, and its header.
 pub record Had (E width : ℕ) (m : List ℕ) : Type 0 where
   pub setting : Setting
+  pub flows : List ℕ
   pub state : State setting
-  pub held : Holds m setting state
+  pub held : HoldsWith m setting flows state
   pub size : setting .size ≡ E
   pub wide : setting .width ≡ width
 
@@ -38,9 +39,16 @@ receiver-held E width m r =
     let (s, h) = had-setting (settingOf (r .scheme) E width) (length (r .before)) (sym (r .opened .answer) ∙ r .answered) in
     let n = setting-names (r .scheme) E width s h in
     let v = n .valid in
-    let g = stands receiverLayout s v (r .calls) (r .after) fresh
-    (opened-stands receiverLayout s v (r .scheme) E width (r .before) (r .after) (r .answer) (r .opened) (r .answered) h) (r .run) in
-    record { setting = s; state = g .state; held = subst (λ x. Holds x s (g .state)) (sym (r .left)) (g .held); size = n .size; wide = n .width }
+    let g = stands receiverLayout s (r .flows) v (r .calls) (r .after) fresh
+    (opened-stands receiverLayout s (r .flows) v (r .scheme) E width (r .before) (r .after) (r .answer) (r .opened) (r .answered) h) (r .run) in
+    record {
+      setting = s;
+      flows = r .flows;
+      state = g .state;
+      held = subst (λ x. HoldsWith x s (r .flows) (g .state)) (sym (r .left)) (g .held);
+      size = n .size;
+      wide = n .width;
+    }
 
 pub record Has (E width : ℕ) (m : List ℕ) : Type 0 where
   pub header : Header
@@ -54,7 +62,7 @@ receiver-has E width m r =
     let i = setting-of (h .setting) (h .state) in
     record {
       header = headerOf (h .setting) (h .state);
-      here = h .held .header;
+      here = h .held .holds .header;
       size = ap (λ (x : Setting). x .size) i ∙ h .size;
       wide = ap (λ (x : Setting). x .width) i ∙ h .wide;
     }

@@ -14,6 +14,7 @@ pub mod Heard
 pub mod Joining
 pub mod Opening
 pub mod Checking
+pub mod Strays
 pub mod NotEmpty
 pub mod Drawing
 pub mod Left

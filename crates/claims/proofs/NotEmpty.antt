@@ -19,13 +19,14 @@ use Rattle.history.specs.Model.{Joined, State, opened, foundBy, Outcome, refuse
 use Rattle.history.specs.Model.{Origins, originsAfter}
 use Rattle.history.proofs.Origins.{origins-inside}
 use Rattle.table.proofs.Offsets.{header-long}
-use Rattle.marks.proofs.Only.{past-no-mark}
+use Rattle.marks.proofs.Only.{header-no-mark, past-no-mark}
 use Rattle.origins.specs.Origins.{originAt, heardIn}
 use Rattle.holding.specs.Header.{headerIn}
 use Rattle.receiver.specs.Promises.{Follows, Received}
 use Rattle.memory.specs.Contained.{Contained}
-use Rattle.holding.specs.Layout.{headerOf, Holds, Marks, Hears}
+use Rattle.holding.specs.Layout.{headerOf, Holds, HoldsWith, Marks, Hears}
 use Rattle.receiver.specs.Layout.{receiverLayout}
+use Rattle.holding.proofs.Flows.{flows-length, same-flows}
 use Rattle.holding.proofs.Building.{built}
 use Rattle.holding.proofs.Congruent.{on, Same, SameFrom, holds-same, held-same, found-same, Alike, both-refused, both-done, answering-alike, marking-alike}
 use Rattle.holding.proofs.Congruent.{AgreeFrom, baseAfter, origins-alike}
@@ -39,7 +40,7 @@ use Rattle.claims.proofs.Demand.{had-setting}
 use Rattle.marks.specs.Marks as stored
 use Rattle.origins.specs.Origins as origins
 
-module _ (s : Setting) (v : Valid s) where
+module _ (s : Setting) (flows : List ℕ) (v : Valid s) where
   abbrev some-bytes : 0 < s .size
   some-bytes = let h = v .size-least in omega arith
 
@@ -48,32 +49,38 @@ module _ (s : Setting) (v : Valid s) where
   settings-same m t u x h k =
       sym (setting-of s t) ∙ ap (λ (y : Header). y .setting) (Option·some-injective _ _ (sym (h .header) ∙ k .header)) ∙ setting-of u x
 
-  -- So what holds of every such state of this setting holds of every one.
-  each-held : (m : List ℕ) (t : State s) → Holds m s t → (P : (u : Setting) → State u → Type 0) → ((x : State s) → Holds m s x → P s x)
-      → (u : Setting) (x : State u) → Holds m u x → P u x
-  each-held m t h P f u x k = subst (λ y. (x : State y) → Holds m y x → P y x) (settings-same m t u x h k) f x k
+  -- So what holds of every such state of this setting, with these flows, holds of every one.
+  each-held : (m : List ℕ) (t : State s) → HoldsWith m s flows t → (P : (u : Setting) (f : List ℕ) → State u → Type 0)
+      → ((x : State s) → Holds m s x → P s flows x) → (u : Setting) (f : List ℕ) (x : State u) → HoldsWith m u f x → P u f x
+  each-held m t h P g u f x k =
+      subst (λ y. (x : State y) → Holds m y x → P y f x) (settings-same m t u x (h .holds) (k .holds))
+      (subst (λ e. (x : State s) → Holds m s x → P s e x) (sym (h .kept) ∙ k .kept) g) x (k .holds)
 
-  receiving-alike : (t u : State s) (room : ℕ) (c : Call) → Same s t u → Alike s (receiving s t room c) (receiving s u room c)
-  receiving-alike t u room c k = answering-alike s (foundBy s t (esiOf c)) (foundBy s u (esiOf c)) room c (found-same s t u (esiOf c) k)
+  receiving-alike : (t u : State s) (room : ℕ) (c : Call) → Same s t u → Alike s (receiving s flows t room c) (receiving s flows u room c)
+  receiving-alike t u room c k = answering-alike s flows (foundBy s t (esiOf c)) (foundBy s u (esiOf c)) room c (found-same s t u (esiOf c) k)
 
   -- The call does, of every state that the memory holds, what it does of one.
-  follows-all : (m m′ : List ℕ) (a : Answer) (t : State s) (room : ℕ) (c : Call) → Holds m s t → Follows receiverLayout s (receiving s t room c) m m′ a
-      → (u : Setting) (x : State u) → Holds m u x → Follows receiverLayout u (receiving u x room c) m m′ a
+  follows-all : (m m′ : List ℕ) (a : Answer) (t : State s) (room : ℕ) (c : Call) → HoldsWith m s flows t
+      → Follows receiverLayout s flows (receiving s flows t room c) m m′ a
+      → (u : Setting) (f : List ℕ) (x : State u) → HoldsWith m u f x → Follows receiverLayout u f (receiving u f x room c) m m′ a
   follows-all m m′ a t room c h d =
-      each-held m t h (λ u x. Follows receiverLayout u (receiving u x room c) m m′ a)
-      (λ x k. one _ _ (receiving-alike t x room c (held-same s m t x h k)) d)
+      each-held m t h (λ u f x. Follows receiverLayout u f (receiving u f x room c) m m′ a)
+      (λ x k. one _ _ (receiving-alike t x room c (held-same s m t x (h .holds) k)) d)
     where
-      one : (o p : Outcome s) → Alike s o p → Follows receiverLayout s o m m′ a → Follows receiverLayout s p m m′ a
+      one : (o p : Outcome s) → Alike s o p → Follows receiverLayout s flows o m m′ a → Follows receiverLayout s flows p m m′ a
       one o p (both-refused n) g = g
-      one o p (both-done n y z e) (q, g) = (q, holds-same s m′ y z e g)
+      one o p (both-done n y z e) (q, g) = (q, record { holds = holds-same s m′ y z e (g .holds); kept = g .kept })
 
   -- And so it leaves marks, of every state and marks that the memory has: those that the memory shows for the state as the packet finds it.
   abbrev now-marked : List ℕ → Joined s → Starts
   now-marked m j = marked (s .width) (s .size) (j .base % s .width) m
 
   -- The marks after the call, and what was read of it and came of it.
-  abbrev marks-by : (u : Setting) (x : State u) → Starts → (room : ℕ) → Call → Starts
-  marks-by u x M room c = let j = foundBy u x (esiOf c) in marking u j M (reading u (j .base) room c) (receiving u x room c)
+  abbrev MarksBy : (m m′ : List ℕ) (room : ℕ) → Call → Starts → (u : Setting) (f : List ℕ) → State u → Type 0
+  MarksBy m m′ room c M u f x =
+      let j = foundBy u x (esiOf c) in
+      let o = receiving u f x room c in
+      Marks m u x M → Marks m′ u (stateAfter x o) (marking u j M (reading u f (j .base) room c) o)
 
   found-bytes : (m : List ℕ) (x : State s) (e : ℕ) (M : Starts) → Marks m s x M → stored.Marks (s .width) (s .size) (foundBy s x e .base % s .width) m M
   found-bytes m none e M k = k (e % s .width)
@@ -87,17 +94,17 @@ module _ (s : Setting) (v : Valid s) where
   was-refused : (n : ℕ) {p : Outcome s} → Alike s (refused n) p → p ≡ refused n
   was-refused n (both-refused k) = refl
 
-  starts-refused : (m : List ℕ) (t : State s) (room : ℕ) (c : Call) (n : ℕ) → Holds m s t → receiving s t room c ≡ refused n
-      → (u : Setting) (x : State u) (M : Starts) → Holds m u x → Marks m u x M → Marks m u (stateAfter x (receiving u x room c)) (marks-by u x M room c)
-  starts-refused m t room c n h e u x M = each-held m t h (λ u x. Marks m u x M → Marks m u (stateAfter x (receiving u x room c)) (marks-by u x M room c)) here u x
+  starts-refused : (m : List ℕ) (t : State s) (room : ℕ) (c : Call) (n : ℕ) → HoldsWith m s flows t → receiving s flows t room c ≡ refused n
+      → (u : Setting) (f : List ℕ) (x : State u) (M : Starts) → HoldsWith m u f x → MarksBy m m room c M u f x
+  starts-refused m t room c n h e u f x M = each-held m t h (MarksBy m m room c M) here u f x
     where
-      here : (x : State s) → Holds m s x → Marks m s x M → Marks m s (stateAfter x (receiving s x room c)) (marks-by s x M room c)
+      here : (x : State s) → Holds m s x → MarksBy m m room c M s flows x
       here x k g =
           let j = foundBy s x (esiOf c) in
-          let z : receiving s x room c ≡ refused n =
-          was-refused n (subst (λ o. Alike s o (receiving s x room c)) e (receiving-alike t x room c (held-same s m t x h k))) in
-          subst (λ o. Marks m s (stateAfter x o) (marking s j M (reading s (j .base) room c) o)) (sym z)
-          (subst (Marks m s x) (sym (refused-marks j M n (reading s (j .base) room c))) g)
+          let z : receiving s flows x room c ≡ refused n =
+          was-refused n (subst (λ o. Alike s o (receiving s flows x room c)) e (receiving-alike t x room c (held-same s m t x (h .holds) k))) in
+          subst (λ o. Marks m s (stateAfter x o) (marking s j M (reading s flows (j .base) room c) o)) (sym z)
+          (subst (Marks m s x) (sym (refused-marks j M n (reading s flows (j .base) room c))) g)
 
   after-pass : (x x′ : Joined s) (q : Located) (M : Starts) (f : ℕ) → f ≢ 0
       → Settled (s .size) (s .width) (seen (s .size) (s .width) (x′ .window)) f (startsAfter s x x′ q M)
@@ -114,36 +121,37 @@ module _ (s : Setting) (v : Valid s) where
   settled-after j M f n y g (fails k) e = absurd (subst IsRefused e tt)
   settled-after j M f n y g (located q) e = after-pass j y q M f g
 
-  settles-done : (j : Joined s) (M : Starts) (f n : ℕ) (y : Joined s) → f ≢ 0 → (room : ℕ) (c : Call) → answering s j room c ≡ done n y
-      → Settled (s .size) (s .width) (seen (s .size) (s .width) (y .window)) f (marking s j M (reading s (j .base) room c) (done n y))
+  settles-done : (j : Joined s) (M : Starts) (f n : ℕ) (y : Joined s) → f ≢ 0 → (room : ℕ) (c : Call) → answering s flows j room c ≡ done n y
+      → Settled (s .size) (s .width) (seen (s .size) (s .width) (y .window)) f (marking s j M (reading s flows (j .base) room c) (done n y))
   unfolding answering
-  settles-done j M f n y g room c z = settled-after j M f n y g (reading s (j .base) room c) z
+  settles-done j M f n y g room c z = settled-after j M f n y g (reading s flows (j .base) room c) z
 
   was-done : (n : ℕ) (x : Joined s) {p : Outcome s} → Alike s (done n x) p → (y : Joined s) × (p ≡ done n y) × SameFrom s x y
   was-done n x (both-done k t u e) = (u, refl, e)
 
-  starts-done : (m m′ : List ℕ) (t : State s) (room : ℕ) (c : Call) (n : ℕ) (y : Joined s) → Holds m s t → receiving s t room c ≡ done n y → notedIn m′ ≢ 0
+  starts-done : (m m′ : List ℕ) (t : State s) (room : ℕ) (c : Call) (n : ℕ) (y : Joined s) → HoldsWith m s flows t → receiving s flows t room c ≡ done n y
+      → notedIn m′ ≢ 0
       → let j = foundBy s t (esiOf c) in
-      stored.Marks (s .width) (s .size) (y .base % s .width) m′ (marking s j (now-marked m j) (reading s (j .base) room c) (done n y))
-      → (u : Setting) (x : State u) (M : Starts) → Holds m u x → Marks m u x M → Marks m′ u (stateAfter x (receiving u x room c)) (marks-by u x M room c)
-  starts-done m m′ t room c n y h e noted d u x M = each-held m t h (λ u x. Marks m u x M → Marks m′ u (stateAfter x (receiving u x room c)) (marks-by u x M room c)) here u x
+      stored.Marks (s .width) (s .size) (y .base % s .width) m′ (marking s j (now-marked m j) (reading s flows (j .base) room c) (done n y))
+      → (u : Setting) (f : List ℕ) (x : State u) (M : Starts) → HoldsWith m u f x → MarksBy m m′ room c M u f x
+  starts-done m m′ t room c n y h e noted d u f x M = each-held m t h (MarksBy m m′ room c M) here u f x
     where
-      here : (x : State s) → Holds m s x → Marks m s x M → Marks m′ s (stateAfter x (receiving s x room c)) (marks-by s x M room c)
+      here : (x : State s) → Holds m s x → MarksBy m m′ room c M s flows x
       here x k g =
           let j = foundBy s t (esiOf c) in
           let i = foundBy s x (esiOf c) in
-          let same = held-same s m t x h k in
+          let same = held-same s m t x (h .holds) k in
           let found = found-same s t x (esiOf c) same in
           let agree : Agree (s .width) (now-marked m j) M =
           λ b q. ap (λ r. marked (s .width) (s .size) r m b) (found .row) ∙ found-bytes m x (esiOf c) M g b q in
-          let (z, is, alike) = was-done n y (subst (λ o. Alike s o (receiving s x room c)) e (receiving-alike t x room c same)) in
-          let after = marking-alike s j i room c (now-marked m j) M found agree in
-          subst (λ o. Marks m′ s (stateAfter x o) (marking s i M (reading s (i .base) room c) o)) (sym is)
+          let (z, is, alike) = was-done n y (subst (λ o. Alike s o (receiving s flows x room c)) e (receiving-alike t x room c same)) in
+          let after = marking-alike s flows j i room c (now-marked m j) M found agree in
+          subst (λ o. Marks m′ s (stateAfter x o) (marking s i M (reading s flows (i .base) room c) o)) (sym is)
           (record {
             bytes = λ b l.
                 ap (λ r. marked (s .width) (s .size) r m′ b) (sym (alike .row)) ∙ d b l
-                ∙ ap (λ o. marking s j (now-marked m j) (reading s (j .base) room c) o b) (sym e) ∙ after b l
-                ∙ ap (λ o. marking s i M (reading s (i .base) room c) o b) is;
+                ∙ ap (λ o. marking s j (now-marked m j) (reading s flows (j .base) room c) o b) (sym e) ∙ after b l
+                ∙ ap (λ o. marking s i M (reading s flows (i .base) room c) o b) is;
             settled = settles-done i M (notedIn m′) n z noted room c is;
           })
 
@@ -151,8 +159,10 @@ module _ (s : Setting) (v : Valid s) where
   abbrev now-heard : List ℕ → Joined s → Origins
   now-heard m j x = ltb x (j .base + s .width) && heardIn (s .width) (s .size) m (x % s .width)
 
-  abbrev heard-by : (u : Setting) (x : State u) → Origins → (room : ℕ) → Call → Origins
-  heard-by u x H room c = originsAfter (reading u (foundBy u x (esiOf c) .base) room c) (receiving u x room c) H
+  abbrev HearsBy : (m m′ : List ℕ) (room : ℕ) → Call → Origins → (u : Setting) (f : List ℕ) → State u → Type 0
+  HearsBy m m′ room c H u f x =
+      let o = receiving u f x room c in
+      Hears m u x H → Hears m′ u (stateAfter x o) (originsAfter (reading u f (foundBy u x (esiOf c) .base) room c) o H)
 
   -- Any origins that the memory has for a state agree with that.
   found-agree : (m : List ℕ) (j : Joined s) (x : State s) (e : ℕ) (H : Origins) → SameFrom s j (foundBy s x e) → Hears m s x H
@@ -174,44 +184,44 @@ module _ (s : Setting) (v : Valid s) where
   refused-heard H n (fails k) = refl
   refused-heard H n (located q) = refl
 
-  heard-refused : (m : List ℕ) (t : State s) (room : ℕ) (c : Call) (n : ℕ) → Holds m s t → receiving s t room c ≡ refused n
-      → (u : Setting) (x : State u) (H : Origins) → Holds m u x → Hears m u x H → Hears m u (stateAfter x (receiving u x room c)) (heard-by u x H room c)
-  heard-refused m t room c n h e u x H = each-held m t h (λ u x. Hears m u x H → Hears m u (stateAfter x (receiving u x room c)) (heard-by u x H room c)) here u x
+  heard-refused : (m : List ℕ) (t : State s) (room : ℕ) (c : Call) (n : ℕ) → HoldsWith m s flows t → receiving s flows t room c ≡ refused n
+      → (u : Setting) (f : List ℕ) (x : State u) (H : Origins) → HoldsWith m u f x → HearsBy m m room c H u f x
+  heard-refused m t room c n h e u f x H = each-held m t h (HearsBy m m room c H) here u f x
     where
-      here : (x : State s) → Holds m s x → Hears m s x H → Hears m s (stateAfter x (receiving s x room c)) (heard-by s x H room c)
+      here : (x : State s) → Holds m s x → HearsBy m m room c H s flows x
       here x k g =
-          let r = reading s (foundBy s x (esiOf c) .base) room c in
-          let z : receiving s x room c ≡ refused n =
-          was-refused n (subst (λ o. Alike s o (receiving s x room c)) e (receiving-alike t x room c (held-same s m t x h k))) in
+          let r = reading s flows (foundBy s x (esiOf c) .base) room c in
+          let z : receiving s flows x room c ≡ refused n =
+          was-refused n (subst (λ o. Alike s o (receiving s flows x room c)) e (receiving-alike t x room c (held-same s m t x (h .holds) k))) in
           subst (λ o. Hears m s (stateAfter x o) (originsAfter r o H)) (sym z) (subst (Hears m s x) (sym (refused-heard H n r)) g)
 
-  none-later : (j : Joined s) (room : ℕ) (c : Call) (n : ℕ) (y : Joined s) (H : Origins) → answering s j room c ≡ done n y
+  none-later : (j : Joined s) (room : ℕ) (c : Call) (n : ℕ) (y : Joined s) (H : Origins) → answering s flows j room c ≡ done n y
       → ((i : ℕ) → s .width ≤ i → H (j .base + i) ≡ false) → (i : ℕ) → s .width ≤ i
-      → originsAfter {s = s} (reading s (j .base) room c) (done n y) H (y .base + i) ≡ false
+      → originsAfter {s = s} (reading s flows (j .base) room c) (done n y) H (y .base + i) ≡ false
   unfolding answering
-  none-later j room c n y H e f = origins-inside s some-bytes j (reading s (j .base) room c) n y H e f
+  none-later j room c n y H e f = origins-inside s some-bytes j (reading s flows (j .base) room c) n y H e f
 
-  heard-done : (m m′ : List ℕ) (t : State s) (room : ℕ) (c : Call) (n : ℕ) (y : Joined s) → Holds m s t → receiving s t room c ≡ done n y
+  heard-done : (m m′ : List ℕ) (t : State s) (room : ℕ) (c : Call) (n : ℕ) (y : Joined s) → HoldsWith m s flows t → receiving s flows t room c ≡ done n y
       → let j = foundBy s t (esiOf c) in
       ((i : ℕ) → i < s .width → heardIn (s .width) (s .size) m′ ((y .base + i) % s .width)
-      ≡ originsAfter {s = s} (reading s (j .base) room c) (done n y) (now-heard m j) (y .base + i))
-      → (u : Setting) (x : State u) (H : Origins) → Holds m u x → Hears m u x H → Hears m′ u (stateAfter x (receiving u x room c)) (heard-by u x H room c)
-  heard-done m m′ t room c n y h e d u x H = each-held m t h (λ u x. Hears m u x H → Hears m′ u (stateAfter x (receiving u x room c)) (heard-by u x H room c)) here u x
+      ≡ originsAfter {s = s} (reading s flows (j .base) room c) (done n y) (now-heard m j) (y .base + i))
+      → (u : Setting) (f : List ℕ) (x : State u) (H : Origins) → HoldsWith m u f x → HearsBy m m′ room c H u f x
+  heard-done m m′ t room c n y h e d u f x H = each-held m t h (HearsBy m m′ room c H) here u f x
     where
-      here : (x : State s) → Holds m s x → Hears m s x H → Hears m′ s (stateAfter x (receiving s x room c)) (heard-by s x H room c)
+      here : (x : State s) → Holds m s x → HearsBy m m′ room c H s flows x
       here x k g =
           let j = foundBy s t (esiOf c) in
           let i = foundBy s x (esiOf c) in
-          let r = reading s (j .base) room c in
-          let q = reading s (i .base) room c in
-          let same = held-same s m t x h k in
+          let r = reading s flows (j .base) room c in
+          let q = reading s flows (i .base) room c in
+          let same = held-same s m t x (h .holds) k in
           let found = found-same s t x (esiOf c) same in
-          let (z, is, alike) = was-done n y (subst (λ o. Alike s o (receiving s x room c)) e (receiving-alike t x room c same)) in
+          let (z, is, alike) = was-done n y (subst (λ o. Alike s o (receiving s flows x room c)) e (receiving-alike t x room c same)) in
           let after : AgreeFrom (y .base) (z .base) (originsAfter {s = s} r (done n y) (now-heard m j)) (originsAfter {s = s} q (done n z) H) =
           subst (λ o. AgreeFrom (y .base) (baseAfter s i o) (originsAfter {s = s} r (done n y) (now-heard m j)) (originsAfter q o H)) is
-          (subst (λ o. AgreeFrom (baseAfter s j o) (baseAfter s i (answering s i room c)) (originsAfter r o (now-heard m j))
-          (originsAfter q (answering s i room c) H)) e
-          (origins-alike s j i room c (now-heard m j) H found (found-agree m j x (esiOf c) H found g))) in
+          (subst (λ o. AgreeFrom (baseAfter s j o) (baseAfter s i (answering s flows i room c)) (originsAfter r o (now-heard m j))
+          (originsAfter q (answering s flows i room c) H)) e
+          (origins-alike s flows j i room c (now-heard m j) H found (found-agree m j x (esiOf c) H found g))) in
           subst (λ o. Hears m′ s (stateAfter x o) (originsAfter q o H)) (sym is)
           (record {
             window = λ b l. ap (heardIn (s .width) (s .size) m′) (sym (on (s .width) (y .base) (z .base) b (alike .row))) ∙ d b l ∙ after b;
@@ -227,23 +237,32 @@ module _ (s : Setting) (v : Valid s) where
   untouched : (w E : ℕ) {m m′ : List ℕ} → stored.OnlyStarts w E m m′ → (r : ℕ) → getD m′ (originAt w E r) 0 ≡ getD m (originAt w E r) 0
   untouched w E o r = o .others (originAt w E r) (past-no-mark w E (originAt w E r) (omega arith)) (λ e. omega (arith, header-long, e))
 
+  -- Marks leave the flows too.
+  starts-keep : (t : State s) (m m′ : List ℕ) → HoldsWith m s flows t → 64 ≤ length m → stored.OnlyStarts (s .width) (s .size) m m′ → HoldsWith m′ s flows t
+  starts-keep t m m′ h room o = record {
+    holds = starts-holds s t m m′ (h .holds) o;
+    kept = same-flows m m′ room (o .size)
+        (λ k l g. o .others k (header-no-mark (s .width) (s .size) k (omega (arith, header-long)) (λ e. omega (arith, l, e))) (λ e. omega (arith, l, e)))
+        ∙ h .kept;
+  }
+
   -- The next call.
   record Next (m : List ℕ) (t : State s) (c : Call) (w : List ℕ) : Type 0 where
     answer : Answer
     memory : List ℕ
     received : Received receiverLayout c m memory w w answer
     state : State s
-    held : Holds memory s state
+    held : HoldsWith memory s flows state
 
-  next : (m : List ℕ) (t : State s) → Holds m s t → (c : Call) (w : List ℕ) → Next m t c w
+  next : (m : List ℕ) (t : State s) → HoldsWith m s flows t → (c : Call) (w : List ℕ) → Next m t c w
   next m t h c w =
-      go (receiving s t (length w) c) refl
-      (answering-sound s some-bytes (foundBy s t (esiOf c)) (found-stands m s t (esiOf c) some-bytes h .reduced) (length w) c)
+      go (receiving s flows t (length w) c) refl
+      (answering-sound s some-bytes flows (foundBy s t (esiOf c)) (found-stands m s t (esiOf c) some-bytes (h .holds) .reduced) (length w) c)
     where
       is-headed : headerIn m ≡ none → ⊥
-      is-headed e = Option·none-ne-some _ (sym e ∙ h .header)
+      is-headed e = Option·none-ne-some _ (sym e ∙ h .holds .header)
 
-      go : (o : Outcome s) → receiving s t (length w) c ≡ o → Sound s some-bytes o → Next m t c w
+      go : (o : Outcome s) → receiving s flows t (length w) c ≡ o → Sound s some-bytes o → Next m t c w
       go (refused n) e g = record {
         answer = Refused (g .refusal);
         memory = m;
@@ -251,9 +270,9 @@ module _ (s : Setting) (v : Valid s) where
           unopened = ((λ q. absurd (g .other (sym (g .number) ∙ ap number q))), (λ q. absurd (is-headed q)));
           untouched = λ _. refl;
           refused = λ k q. refl;
-          contained = contained m m w t h (record { same = refl; past = refl });
+          contained = contained m m w t (h .holds) (record { same = refl; past = refl });
           follows = follows-all m m (Refused (g .refusal)) t (length w) c h
-              (subst (λ x. Follows receiverLayout s x m m (Refused (g .refusal))) (sym e) (ap refusal (g .number), refl));
+              (subst (λ x. Follows receiverLayout s flows x m m (Refused (g .refusal))) (sym e) (ap refusal (g .number), refl));
           starts = starts-refused m t (length w) c n h e;
           origins = heard-refused m t (length w) c n h e;
         };
@@ -266,14 +285,14 @@ module _ (s : Setting) (v : Valid s) where
           number (refusal k) = k
       go (done n x) e g =
           let j = foundBy s t (esiOf c) in
-          let r = reading s (j .base) (length w) c in
+          let r = reading s flows (j .base) (length w) c in
           let H = originsAfter {s = s} r (done n x) (now-heard m j) in
-          let b = built s v x g H (drop (memorySize s) m) in
-          let room : memorySize s ≤ length m = subst (λ y. memorySize y ≤ length m) (setting-of s t) (header-room m (headerOf s t) (h .header)) in
-          let fits = header-fits (b .memory) (headerOf s (some x)) (b .holds .header) in
+          let b = built s flows v (flows-length m s flows t h) x g H (drop (memorySize s) m) in
+          let room : memorySize s ≤ length m = subst (λ y. memorySize y ≤ length m) (setting-of s t) (header-room m (headerOf s t) (h .holds .header)) in
+          let fits = header-fits (b .memory) (headerOf s (some x)) (b .holds .holds .header) in
           let M = marking s j (now-marked m j) r (done n x) in
           let (m′, only, marks, noted) = with-starts (s .width) (s .size) (x .base % s .width) M (fits .some-width) (b .memory) (fits .room) in
-          let held = starts-holds s (some x) (b .memory) m′ (b .holds) only in
+          let held = starts-keep (some x) (b .memory) m′ (b .holds) (omega (arith, fits .room, header-long)) only in
           record {
             answer = Done n;
             memory = m′;
@@ -281,11 +300,11 @@ module _ (s : Setting) (v : Valid s) where
               unopened = ((λ q. absurd (subst IsValue q tt)), (λ q. absurd (is-headed q)));
               untouched = λ q. refl;
               refused = λ k q. absurd (subst IsValue q tt);
-              contained = contained m m′ w t h (record {
+              contained = contained m m′ w t (h .holds) (record {
                 same = only .size ∙ b .same ∙ omega (arith, length-drop (memorySize s) m, room);
                 past = starts-contained s (b .memory) m′ only .past ∙ b .rest;
               });
-              follows = follows-all m m′ (Done n) t (length w) c h (subst (λ y. Follows receiverLayout s y m m′ (Done n)) (sym e) (refl, held));
+              follows = follows-all m m′ (Done n) t (length w) c h (subst (λ y. Follows receiverLayout s flows y m m′ (Done n)) (sym e) (refl, held));
               starts = starts-done m m′ t (length w) c n x h e (λ q. absurd (omega (arith, noted, q))) marks;
               origins = heard-done m m′ t (length w) c n x h e (λ i l. ap (ltb 0) (untouched (s .width) (s .size) only _) ∙ b .heard i l);
             };
@@ -293,7 +312,7 @@ module _ (s : Setting) (v : Valid s) where
             held = held;
           }
 
-  runs : (cs : List Asked) → AllOfBytes cs → (m : List ℕ) (t : State s) → Holds m s t
+  runs : (cs : List Asked) → AllOfBytes cs → (m : List ℕ) (t : State s) → HoldsWith m s flows t
       → (ts : List Step) × Run receiverLayout m ts × (map asked ts ≡ cs)
   runs [] k m t h = ([], tt, refl)
   runs (c ∷ cs) k m t h =
@@ -303,6 +322,6 @@ module _ (s : Setting) (v : Valid s) where
       (u ∷ ts, (k .0, n .received, r), ap (λ (l : List Asked). c ∷ l) e)
 
 pub runs-exist : Runs-exist
-runs-exist scheme E w m₀ m a p e cs k =
+runs-exist scheme E w flows m₀ m a p e cs k =
     let (s, h) = had-setting (settingOf scheme E w) (length m₀) (sym (p .answer) ∙ e) in
-    runs s (setting-names scheme E w s h .valid) cs k m (opened s) (p .holds s h e)
+    runs s flows (setting-names scheme E w s h .valid) cs k m (opened s) (p .holds s h e)

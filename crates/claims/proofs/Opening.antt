@@ -9,7 +9,7 @@ use Rattle.receiver.specs.Promises.{Layout, opening}
 use Rattle.claims.specs.Opening.{Every-opening}
 
 pub every-opening : (L : Layout) → Every-opening L
-every-opening L scheme E w m m′ a p =
+every-opening L scheme E w flows m m′ a p =
     let s : Setting = record { scheme = schemeOf scheme; size = E; width = w } in
     record {
       values = λ n. let e = p .answer ∙ ap (λ o. opening o (length m)) (setting-none scheme E w n) in (e, p .refused 1 e);

@@ -40,29 +40,29 @@ brought-known E (repair x n coefficients symbols ∷ qs) p (inl b) f g a c = abs
 brought-known E (q ∷ qs) p (inr b) f g a c = brought-known E qs p b f g (a .1) (c .1)
 
 -- The log after more calls is that which they make of the log before them.
-goes-append : (s : Setting) (ts us : List Step) (l : Log) → goes-on s l (ts ++ us) ≡ goes-on s (goes-on s l ts) us
-goes-append s [] us l = refl
-goes-append s (t ∷ ts) us l = goes-append s ts us _
+goes-append : (s : Setting) (flows : List ℕ) (ts us : List Step) (l : Log) → goes-on s flows l (ts ++ us) ≡ goes-on s flows (goes-on s flows l ts) us
+goes-append s flows [] us l = refl
+goes-append s flows (t ∷ ts) us l = goes-append s flows ts us _
 
-module _ (s : Setting) (p : ℕ) where
+module _ (s : Setting) (flows : List ℕ) (p : ℕ) where
   -- What was brought stays so.
   kept : (l : Log) (r : Reading) (a : Said) → Brought l p → Brought (logged s l r a) p
   kept l (located q) (value n) b = inr b
   kept l (located q) (refusal n) b = b
   kept l (fails m) a b = b
 
-  stays : (ts : List Step) (l : Log) → Brought l p → Brought (goes-on s l ts) p
+  stays : (ts : List Step) (l : Log) → Brought l p → Brought (goes-on s flows l ts) p
   stays [] l b = b
-  stays (t ∷ ts) l b = stays ts _ (kept l (read s l t) (said (t .answer)) b)
+  stays (t ∷ ts) l b = stays ts _ (kept l (read s flows l t) (said (t .answer)) b)
 
-  stays-after : (ts us : List Step) → Brought (history s ts) p → Brought (history s (ts ++ us)) p
-  stays-after ts us b = subst (λ l. Brought l p) (sym (goes-append s ts us fresh)) (stays us (history s ts) b)
+  stays-after : (ts us : List Step) → Brought (history s flows ts) p → Brought (history s flows (ts ++ us)) p
+  stays-after ts us b = subst (λ l. Brought l p) (sym (goes-append s flows ts us fresh)) (stays us (history s flows ts) b)
 
   module _ (ts : List Step) where
     -- What was brought after the calls `before` and one more of the list was brought by a call of the list, where that is so of what was brought before it.
-    by-one : (before : List Step) (t : Step) (after : List Step) → ts ≡ before ++ (t ∷ after) → (Brought (history s before) p → BroughtBy s ts p)
-        → (r : Reading) → read s (history s before) t ≡ r → (a : Said) → said (t .answer) ≡ a → Brought (logged s (history s before) r a) p
-        → BroughtBy s ts p
+    by-one : (before : List Step) (t : Step) (after : List Step) → ts ≡ before ++ (t ∷ after) → (Brought (history s flows before) p → BroughtBy s flows ts p)
+        → (r : Reading) → read s flows (history s flows before) t ≡ r → (a : Said) → said (t .answer) ≡ a → Brought (logged s (history s flows before) r a) p
+        → BroughtBy s flows ts p
     by-one before t after e k (located (source x symbols)) i (value n) h (inl (low, high)) = record {
       before = before;
       call = t;
@@ -81,18 +81,18 @@ module _ (s : Setting) (p : ℕ) where
     by-one before t after e k (fails m) i a h b = k b
 
     -- And so is what was brought after all of them.
-    by-calls : (before after : List Step) → ts ≡ before ++ after → (Brought (history s before) p → BroughtBy s ts p) → Brought (history s ts) p
-        → BroughtBy s ts p
-    by-calls before [] e k b = k (subst (λ l. Brought (history s l) p) (e ∙ append-nil before) b)
+    by-calls : (before after : List Step) → ts ≡ before ++ after → (Brought (history s flows before) p → BroughtBy s flows ts p)
+        → Brought (history s flows ts) p → BroughtBy s flows ts p
+    by-calls before [] e k b = k (subst (λ l. Brought (history s flows l) p) (e ∙ append-nil before) b)
     by-calls before (t ∷ after) e k b =
         by-calls (before ++ (t ∷ [])) after (e ∙ sym (append-assoc before (t ∷ []) after))
-        (λ h. by-one before t after e k _ refl _ refl (subst (λ l. Brought l p) (goes-append s before (t ∷ []) fresh) h)) b
+        (λ h. by-one before t after e k _ refl _ refl (subst (λ l. Brought l p) (goes-append s flows before (t ∷ []) fresh) h)) b
 
     -- And a call of the list that was accepted has brought what its packet brings.
-    by-accepted : BroughtBy s ts p → Brought (history s ts) p
+    by-accepted : BroughtBy s flows ts p → Brought (history s flows ts) p
     by-accepted k =
-        let l = history s (k .before) in
-        subst (λ y. Brought y p) (sym (ap (history s) (k .split) ∙ goes-append s (k .before) (k .call ∷ k .after) fresh))
+        let l = history s flows (k .before) in
+        subst (λ y. Brought y p) (sym (ap (history s flows) (k .split) ∙ goes-append s flows (k .before) (k .call ∷ k .after) fresh))
         (stays (k .after) _
         (subst (λ r. Brought (logged s l r (said (k .call .answer))) p) (sym (k .read-as)) (go l (said (k .call .answer)) (k .accepted))))
       where
@@ -101,7 +101,7 @@ module _ (s : Setting) (p : ℕ) where
         go l (refusal n) h = absurd h
 
 pub brought-by : Brought-by
-brought-by s ts p = (by-calls s p ts [] ts refl (λ b. absurd b), by-accepted s p ts)
+brought-by s flows ts p = (by-calls s flows p ts [] ts refl (λ b. absurd b), by-accepted s flows p ts)
 
 -- ---- The calls
 
@@ -118,56 +118,56 @@ not-so : (h : Bool) → h ≢ true → h ≡ false
 not-so true n = absurd (n refl)
 not-so false n = refl
 
-module _ (L : Layout) (s : Setting) (v : Valid s) where
+module _ (L : Layout) (s : Setting) (flows : List ℕ) (v : Valid s) where
   open Setting s using (size as E, width)
 
   -- The memory holds a state that follows the history, and says that what the history has brought is heard.
   record Heard (m : List ℕ) (l : Log) : Type 0 where
-    stands : Stands L s v m l
+    stands : Stands L s flows v m l
     hears : L .Hears m s (stands .state) (brought l)
 
   -- A call keeps that.
   step : (m : List ℕ) (l : Log) (t : Step) → Heard m l → OfBytes (t .call) → Received L (t .call) m (t .memory) (t .working) (t .left) (t .answer)
-      → Heard (t .memory) (logged s l (read s l t) (said (t .answer)))
+      → Heard (t .memory) (logged s l (read s flows l t) (said (t .answer)))
   unfolding answering
   step m l t g b p =
       let x = g .stands .state in
       let j = foundBy s x (esiOf (t .call)) in
-      let r = reading s (j .base) (length (t .working)) (t .call) in
+      let r = reading s flows (j .base) (length (t .working)) (t .call) in
       let o = responds s j r in
-      let (e, _, n, z) = called L s v m l t x (g .stands .held) (g .stands .tracks) b p in
+      let (e, _, n, z) = called L s flows v m l t x (g .stands .held) (g .stands .tracks) b p in
       record {
         stands = record { state = stateAfter x o; held = z; tracks = n };
         hears = subst (L .Hears (t .memory) s (stateAfter x o))
-            (brought-after s l r o ∙ ap brought (ap₂ (logged s l) (read-found L s v l t x (g .stands .tracks)) (sym e)))
-            (p .origins s x (brought l) (g .stands .held) (g .hears));
+            (brought-after s l r o ∙ ap brought (ap₂ (logged s l) (read-found L s flows v l t x (g .stands .tracks)) (sym e)))
+            (p .origins s flows x (brought l) (g .stands .held) (g .hears));
       }
 
-  heard-on : (ts : List Step) (m : List ℕ) (l : Log) → Heard m l → Run L m ts → Heard (final m ts) (goes-on s l ts)
+  heard-on : (ts : List Step) (m : List ℕ) (l : Log) → Heard m l → Run L m ts → Heard (final m ts) (goes-on s flows l ts)
   heard-on [] m l g p = g
   heard-on (t ∷ ts) m l g p = heard-on ts (t .memory) _ (step m l t g (p .0) (p .1)) (p .2)
 
-  opened-heard : (scheme size w : ℕ) (m₀ m : List ℕ) (a : Answer) → Opened L scheme size w m₀ m a → said a ≡ value 0
+  opened-heard : (scheme size w : ℕ) (m₀ m : List ℕ) (a : Answer) → Opened L scheme size w flows m₀ m a → said a ≡ value 0
       → settingOf scheme size w ≡ some s → Heard m fresh
   opened-heard scheme size w m₀ m a p e h = record {
-    stands = record { state = opened s; held = p .holds s h e; tracks = fresh-tracks s (some-bytes L s v) };
+    stands = record { state = opened s; held = p .holds s h e; tracks = fresh-tracks s (some-bytes L s flows v) };
     hears = p .origins s h e;
   }
 
   -- ---- The symbol call
 
-  module _ (m : List ℕ) (qs : List Located) (b : ℕ) (g : From L s v m qs b) (hears : L .Hears m s (some (g .state)) (brought qs)) (i : ℕ)
+  module _ (m : List ℕ) (qs : List Located) (b : ℕ) (g : From L s flows v m qs b) (hears : L .Hears m s (some (g .state)) (brought qs)) (i : ℕ)
       (within : i < width) where
     -- What it answers, by whether the position is known.
-    answers : (h : Bool) (a : SymbolAnswer) → SymbolShown L m (esi (b + i)) a → (o : Option (Symbol E)) → symbol L s v m qs b g i within ≡ o
-        → Finds L (found L s v m qs b g i within o) (shownOf a) → (a ≡ Shown h) ↔ (decoder.Accepted o × (brought qs (b + i) ≡ h))
+    answers : (h : Bool) (a : SymbolAnswer) → SymbolShown L m (esi (b + i)) a → (o : Option (Symbol E)) → symbol L s flows v m qs b g i within ≡ o
+        → Finds L (found L s flows v m qs b g i within o) (shownOf a) → (a ≡ Shown h) ↔ (decoder.Accepted o × (brought qs (b + i) ≡ h))
     answers h (Shown heard) p none k f = absurd (subst IsValue f tt)
     answers h (Hidden r) p none k f = ((λ e. absurd (subst IsShown (sym e) tt)), (λ c. absurd (c .0)))
     answers h (Hidden r) p (some x) k f = absurd (subst IsValue (sym f) tt)
     answers h (Shown heard) p (some x) k f =
         let is : heard ≡ brought qs (b + i) =
-        p .origin s (some (g .state)) (brought qs) (g .held) hears (g .state .base + i) x heard
-        (here L s v m qs b g i within ∙ ap (found L s v m qs b g i within) k) refl
+        p .origin s flows (some (g .state)) (brought qs) (g .held) hears (g .state .base + i) x heard
+        (here L s flows v m qs b g i within ∙ ap (found L s flows v m qs b g i within) k) refl
         ∙ ap (λ y. brought qs (y + i)) (g .base-is) in
         ((λ e. (tt, sym is ∙ ap its-origin e)), (λ (_, e). ap Shown (is ∙ e)))
 
@@ -176,8 +176,8 @@ module _ (L : Layout) (s : Setting) (v : Valid s) where
     told h a p =
         Iff·trans
         (answers h a p _ refl
-        (subst (λ y. Finds L y (shownOf a)) (here L s v m qs b g i within) (p .answered .finds s (some (g .state)) (g .held))))
-        (Iff·and (exactly L s v m qs b g i within) Iff·rfl)
+        (subst (λ y. Finds L y (shownOf a)) (here L s flows v m qs b g i within) (p .answered .finds s flows (some (g .state)) (g .held))))
+        (Iff·and (exactly L s flows v m qs b g i within) Iff·rfl)
 
     told-origin : Told-origin L s m qs (b + i)
     told-origin =
@@ -193,8 +193,8 @@ module _ (L : Layout) (s : Setting) (v : Valid s) where
   heard-origin : (m : List ℕ) (l : Log) → Heard m l → (b : ℕ) → baseOf s l ≡ some b → (i : ℕ) → i < width → Told-origin L s m l (b + i)
   heard-origin m l g b e i h = go (g .stands .state) (g .stands .held) (g .hears) (sym (g .stands .tracks .base-is) ∙ e) (g .stands .tracks .from b)
     where
-      go : (x : State s) → L .Holds m s x → L .Hears m s x (brought l) → baseIn s (some-bytes L s v) x ≡ some b
-          → TracksFrom s (some-bytes L s v) l (foundBy s x b) → Told-origin L s m l (b + i)
+      go : (x : State s) → L .Holds m s flows x → L .Hears m s x (brought l) → baseIn s (some-bytes L s flows v) x ≡ some b
+          → TracksFrom s (some-bytes L s flows v) l (foundBy s x b) → Told-origin L s m l (b + i)
       go none k y n f = absurd (Option·none-ne-some b n)
       go (some t) k y n f = told-origin m l b (record { state = t; base-is = Option·some-injective _ _ n; held = k; tracks = f }) y i h
 
@@ -204,10 +204,10 @@ module _ (L : Layout) (s : Setting) (v : Valid s) where
       subst (Told-origin L s m l) at (heard-origin m l g b e (p - b) (omega arith))
 
 pub origins : (L : Layout) → Origins L
-origins L scheme E w m₀ m a p e ts r =
+origins L scheme E w flows m₀ m a p e ts r =
     let (s, h) = had-setting (settingOf scheme E w) (length m₀) (sym (p .answer) ∙ e) in
     let v = setting-names scheme E w s h .valid in
-    (s, h, heard-origin L s v (final m ts) (history s ts) (heard-on L s v ts m fresh (opened-heard L s v scheme E w m₀ m a p e h) r))
+    (s, h, heard-origin L s flows v (final m ts) (history s flows ts) (heard-on L s flows v ts m fresh (opened-heard L s flows v scheme E w m₀ m a p e h) r))
 
 -- ---- More calls
 
@@ -217,15 +217,15 @@ run-front L [] us m r = tt
 run-front L (t ∷ ts) us m r = (r .0, r .1, run-front L ts us (t .memory) (r .2))
 
 pub stays-heard : (L : Layout) → Stays-heard L
-stays-heard L scheme E w m₀ m a k z ts us r =
+stays-heard L scheme E w flows m₀ m a k z ts us r =
     let (s, h) = had-setting (settingOf scheme E w) (length m₀) (sym (k .answer) ∙ z) in
     let v = setting-names scheme E w s h .valid in
-    let g = opened-heard L s v scheme E w m₀ m a k z h in
-    let before = heard-on L s v ts m fresh g (run-front L ts us m r) in
-    let after = heard-on L s v (ts ++ us) m fresh g r in (
+    let g = opened-heard L s flows v scheme E w m₀ m a k z h in
+    let before = heard-on L s flows v ts m fresh g (run-front L ts us m r) in
+    let after = heard-on L s flows v (ts ++ us) m fresh g r in (
       s,
       h,
       λ b c p i j low high low′ high′ x sx e y sy.
-          origin-at L s v _ _ after c j p low′ high′ .heard y sy .1
-          (stays-after s p ts us (origin-at L s v _ _ before b i p low high .heard x sx .0 e)),
+          origin-at L s flows v _ _ after c j p low′ high′ .heard y sy .1
+          (stays-after s flows p ts us (origin-at L s flows v _ _ before b i p low high .heard x sx .0 e)),
     )

@@ -17,12 +17,13 @@ use Rattle.rows.specs.Combination.{combination}
 use Rattle.coefficients.specs.Coefficients.{listsOf, allOk}
 use Rattle.sender.specs.declared.RepairAnswer.the-variants.{Made, NotMade}
 use Rattle.sender.specs.Run.{SenderCall, added, repaired, Calls, SenderRun, symbolsOf}
-use Rattle.sender.specs.Judged.{Writes, Ranged, AduJudged, keyIn, keysIn, covered, older, packetOf, RepairJudged, CallsJudged}
+use Rattle.sender.specs.Judged.{Writes, Ranged, AduJudged, keyIn, keysIn, covered, older, packetOf, RepairJudged}
+use Rattle.wire.specs.Flows.{Announced}
 use Rattle.sender.specs.Claims.{given, OfBytes}
 use Rattle.sender.proofs.Repairing.{written-small}
 use Rattle.sender.proofs.Ring.{below}
 use Rattle.sender.proofs.Running.{impossible, symbols-append, ran, run-holds, run-valid}
-use Rattle.sender.proofs.Judging.{key-is, sender-judged}
+use Rattle.sender.proofs.Judging.{key-is, sender-judged, announced-only}
 use Rattle.claims.specs.Written.{Packet, repair, packetsOf, Wrote, wrote-source, wrote-repair}
 use Rattle.claims.specs.SentAdus.{Begins, Sent, sent-source, sent-repair, AllSent, Sender-sends}
 
@@ -30,16 +31,17 @@ use Rattle.claims.specs.SentAdus.{Begins, Sent, sent-source, sent-repair
 front : (packet : List ℕ) (n : ℕ) (out out′ : List ℕ) → Writes packet (value n) out out′ → take n out′ ≡ packet
 front packet n out out′ w = let e : length packet ≡ n = cc (w .answer) in rw (w .output) (take-at packet (drop (length packet) out) n e)
 
-module _ (t : Setting) (v : Valid t) (xs : List (List ℕ)) (m : List ℕ) where
+module _ (t : Setting) (v : Valid t) (flows : List ℕ) (xs : List (List ℕ)) (m : List ℕ) where
   open Setting t using (scheme, size as E, width)
 
   -- an ADU that was taken
-  adu-packet : (adu out : List ℕ) (n : ℕ) (m′ out′ : List ℕ) → AduJudged t xs m adu out (value n) m′ out′ → take n out′ ≡ sourcePacket adu (length xs % 2 ^ 32)
-  adu-packet adu out n m′ out′ p =
-      below 65535 (length adu) (λ g. absurd (impossible n 4 (p .long (λ k. omega (arith, k .0)) .answer)))
-      (λ l. below (width * E) (3 + length adu) (λ g. absurd (impossible n 4 (p .long (λ k. omega (arith, k .1)) .answer)))
-      (λ h. below (length out) (length adu + 4) (λ g. absurd (impossible n 2 (p .short (l, h) g .answer)))
-      (λ g. front _ n out out′ (p .takes (l, h) g .0))))
+  adu-packet : (flow : ℕ) (adu out : List ℕ) (n : ℕ) (m′ out′ : List ℕ) → Announced flows flow
+      → AduJudged t flows xs m flow adu out (value n) m′ out′ → take n out′ ≡ sourcePacket adu (length xs % 2 ^ 32)
+  adu-packet flow adu out n m′ out′ a p =
+      below 65535 (length adu) (λ g. absurd (impossible n 4 (p .long a (λ k. omega (arith, k .0)) .answer)))
+      (λ l. below (width * E) (3 + length adu) (λ g. absurd (impossible n 4 (p .long a (λ k. omega (arith, k .1)) .answer)))
+      (λ h. below (length out) (length adu + 4) (λ g. absurd (impossible n 2 (p .short a (l, h) g .answer)))
+      (λ g. front _ n out out′ (p .takes a (l, h) g .0))))
 
   -- repair that was made
   record Repaired (key dt count : ℕ) (packet : List ℕ) : Type 0 where
@@ -70,7 +72,7 @@ module _ (t : Setting) (v : Valid t) (xs : List (List ℕ)) (m : List ℕ) where
 
   -- the key has 16 bits
   key-small : (key dt : ℕ) → key < 2 ^ 16 → keyIn t key dt < 2 ^ 16
-  key-small key dt h = rw (← key-is t v xs key dt) (written-small scheme key dt h)
+  key-small key dt h = rw (← key-is t v flows xs key dt) (written-small scheme key dt h)
 
   some-symbol : (l : List (List ℕ)) → ¬ (l ≡ []) → 1 ≤ length l
   some-symbol [] n = absurd (n refl)
@@ -92,7 +94,7 @@ module _ (t : Setting) (v : Valid t) (xs : List (List ℕ)) (m : List ℕ) where
 
 -- ---- the list
 
-module _ (t : Setting) (v : Valid t) (l : List SenderCall) (m : List ℕ) (j : CallsJudged t m l) where
+module _ (t : Setting) (v : Valid t) (l : List SenderCall) (r : SenderRun t l) where
   moved : (before : List SenderCall) (x : SenderCall) (after : List SenderCall) → l ≡ before ++ (x ∷ after) → l ≡ (before ++ (x ∷ [])) ++ after
   moved before x after e = e ∙ sym (append-snoc before x after)
 
@@ -103,15 +105,16 @@ module _ (t : Setting) (v : Valid t) (l : List SenderCall) (m : List ℕ) (j : C
       let x = added flow adu out (Done n) m′ out′ in
       let g : Begins (t .size) l (length xs) flow adu
       = record { before = before; after = after; out = out; answer = n; m′ = m′; out′ = out′; split = e; place = refl } in
-      let p = adu-packet t v xs _ adu out n m′ out′ (j before x after e) in
+      let known = announced-only t l r before flow adu out n m′ out′ after e in
+      let p = adu-packet t v (r .flows) xs _ flow adu out n m′ out′ known (sender-judged t l r before x after e) in
       ((length xs, rw p (sent-source g)), sends (before ++ (x ∷ [])) after (moved before x after e) b)
   sends before (added flow adu out (Refused k) m′ out′ ∷ after) e (f, a, b) =
       let x = added flow adu out (Refused k) m′ out′ in sends (before ++ (x ∷ [])) after (moved before x after e) b
   sends before (repaired key dt count out (Made n d) out′ ∷ after) e (k, b) =
       let xs = symbolsOf (t .size) before in
       let x = repaired key dt count out (Made n d) out′ in
-      let p = repair-packet t v xs _ key dt count out n d out′ (j before x after e) in
-      let w = repair-wrote t v xs _ (symbolsOf (t .size) after) key dt count (take n out′) k p in
+      let p = repair-packet t v (r .flows) xs _ key dt count out n d out′ (sender-judged t l r before x after e) in
+      let w = repair-wrote t v (r .flows) xs _ (symbolsOf (t .size) after) key dt count (take n out′) k p in
       let s : symbolsOf (t .size) l ≡ xs ++ symbolsOf (t .size) after = ap (symbolsOf (t .size)) e ∙ symbols-append (t .size) before (x ∷ after) in
       let p = length (take (older t xs) xs) in
       ((p, sent-repair {p = p} {x = take n out′} (rw s w)), sends (before ++ (x ∷ [])) after (moved before x after e) b)
@@ -124,7 +127,7 @@ of-bytes m (added flow adu out r m′ out′ ∷ l) (f, b, p, c) = (f, b, of-byt
 of-bytes m (repaired key dt count out r out′ ∷ l) (k, p, c) = (k, of-bytes m l c)
 
 pub sender-sends : Sender-sends
-sender-sends t l r = sends t (run-valid t l r) l (r .after) (sender-judged t l r) [] l refl (of-bytes (r .after) l (r .calls))
+sender-sends t l r = sends t (run-valid t l r) l r [] l refl (of-bytes (r .after) l (r .calls))
 
 -- ---- an ADU that was taken
 
@@ -137,10 +140,11 @@ pub record Taken (flow : ℕ) (adu : List ℕ) : Type 0 where
 pub begun : (t : Setting) (l : List SenderCall) → SenderRun t l → (p flow : ℕ) (adu : List ℕ) → Begins (t .size) l p flow adu → Taken flow adu
 begun t l r p flow adu b =
     let x = added flow adu (b .out) (Done (b .answer)) (b .m′) (b .out′) in
-    let (h, c) = ran t [] (r .after) (b .before) (x ∷ b .after) (run-holds t l r) (rw (b .split) at (r .calls)) in
+    let (h, c) = ran t (r .flows) [] (r .after) (b .before) (x ∷ b .after) (run-holds t l r) (rw (b .split) at (r .calls)) in
     let (f, g, q, d) = c in
     let j = sender-judged t l r (b .before) x (b .after) (b .split) in
-    let s : length adu ≤ 65535 = below 65535 (length adu) (λ k. absurd (impossible _ 4 (j .long (λ e. omega (arith, e .0)) .answer))) (λ k. k) in
+    let known = announced-only t l r (b .before) flow adu (b .out) (b .answer) (b .m′) (b .out′) (b .after) (b .split) in
+    let s : length adu ≤ 65535 = below 65535 (length adu) (λ k. absurd (impossible _ 4 (j .long known (λ e. omega (arith, e .0)) .answer))) (λ k. k) in
     record { flow-byte = f; adu-bytes = g; short = s }
 
 -- its symbols stand among the sender's

@@ -176,7 +176,7 @@ module _ (t s : Setting) (l : List SenderCall) (k : Peers t s l) where
 
   -- ---- The list
 
-  module _ (offset : ℕ) where
+  module _ (flows : List ℕ) (offset : ℕ) where
     -- A packet that the sender's symbols satisfy and that names boundaries only.
     record Keeps (q : Located) : Type 0 where
       rounds : offset % 2 ^ 32 ≡ 0
@@ -191,9 +191,9 @@ module _ (t s : Setting) (l : List SenderCall) (k : Peers t s l) where
 
     -- A packet of the sender's near the base names boundaries only.
     sent-names : (x : Packet) (p : ℕ) → Sent scheme E l x p → (base : ℕ) → offset % 2 ^ 32 ≡ 0 → Near p (base + offset) → (q : Located)
-        → readPacket s base (callOf x) ≡ located q → (i : ℕ) → MarkedBy s q i → Boundary E l (i + offset)
+        → readPacket s flows base (callOf x) ≡ located q → (i : ℕ) → MarkedBy s q i → Boundary E l (i + offset)
     sent-names x p (sent-source {flow = flow} {adu = adu} b) base rounds near q h i =
-        let r = source-read s base flow _ q h in
+        let r = source-read s flows base flow _ q h in
         let esi-is = source-esi adu (p % 2 ^ 32) (mod-lt p (lit< tt)) in
         let d = distanceOf (p % 2 ^ 32) (base % 2 ^ 32) in
         let here : base + d + offset ≡ p = found-again p base offset rounds near (rw esi-is at (r .near)) in
@@ -228,23 +228,23 @@ module _ (t s : Setting) (l : List SenderCall) (k : Peers t s l) where
     fresh-kept : Kept fresh
     fresh-kept = record { rounds = λ b e. absurd (Option·none-ne-some b e); filled = λ f c. tt; starts = λ p e. absurd e }
 
-    kept : (ts : List Step) (g : Log) → AsSent s l offset g ts → Kept g → Kept (goes-on s g ts)
+    kept : (ts : List Step) (g : Log) → AsSent s flows l offset g ts → Kept g → Kept (goes-on s flows g ts)
     kept [] g a w = w
     kept (x ∷ xs) g a w =
         kept xs _ (a .1)
-        (logged-kept g (read s g x) (said (x .answer))
+        (logged-kept g (read s flows g x) (said (x .answer))
         (λ q e v.
         let (y, p, i, o, arrives) = a .0 v in
         let z : 0 < E = omega (arith, peer-size t s l k) in
         let base = baseFor (baseOf s g) (esiOf (x .call)) in
-        let (rounds, near, h) = arrived-satisfied s z all offset g x q e y p i (wrote y p o) (w .rounds) arrives in
+        let (rounds, near, h) = arrived-satisfied s flows z all offset g x q e y p i (wrote y p o) (w .rounds) arrives in
         record {
           rounds = rounds;
-          satisfied = λ f c. written-satisfied s z all offset rounds base y p (wrote y p o) near q h 0 (omega arith) f c;
+          satisfied = λ f c. written-satisfied s flows z all offset rounds base y p (wrote y p o) near q h 0 (omega arith) f c;
           names = sent-names y p o base rounds near q h;
         }) w)
 
-    as-written : (ts : List Step) (g : Log) → AsSent s l offset g ts → AsWritten s all offset g ts
+    as-written : (ts : List Step) (g : Log) → AsSent s flows l offset g ts → AsWritten s flows all offset g ts
     as-written [] g a = tt
     as-written (x ∷ xs) g a = ((λ v. let (y, p, i, o, arrives) = a .0 v in (y, p, i, wrote y p o, arrives)), as-written xs _ (a .1))
 
@@ -252,12 +252,12 @@ pub start-gives : Start-gives
 start-gives = gives
 
 pub sent-written : Sent-written
-sent-written t s l k offset ts a = as-written t s l k offset ts fresh a
+sent-written t s l k flows offset ts a = as-written t s l k flows offset ts fresh a
 
 pub sent-starts : Sent-starts
-sent-starts t s l k offset ts a = kept t s l k offset ts fresh a (fresh-kept t s l k offset) .starts
+sent-starts t s l k flows offset ts a = kept t s l k flows offset ts fresh a (fresh-kept t s l k flows offset) .starts
 
 pub sent-handed : Sent-handed
-sent-handed t s l k offset ts a b p flow adu start h =
-    let w = kept t s l k offset ts fresh a (fresh-kept t s l k offset) in
-    held-begins t s l k offset (history s ts) (w .filled) p (w .starts p start) b flow adu h
+sent-handed t s l k flows offset ts a b p flow adu start h =
+    let w = kept t s l k flows offset ts fresh a (fresh-kept t s l k flows offset) in
+    held-begins t s l k offset (history s flows ts) (w .filled) p (w .starts p start) b flow adu h

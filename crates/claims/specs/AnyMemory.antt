@@ -88,10 +88,11 @@ pub record OfSender (t : Setting) (m : List ℕ) : Type 0 where
 -- A receiver's memory: as a list of packet calls left it, from an opening with this E and width that answered 0. Its other calls change no memory.
 pub record OfReceiver (E width : ℕ) (m : List ℕ) : Type 0 where
   pub scheme : ℕ
+  pub flows : List ℕ
   pub before : List ℕ
   pub after : List ℕ
   pub answer : Answer
-  pub opened : Opened receiverLayout scheme E width before after answer
+  pub opened : Opened receiverLayout scheme E width flows before after answer
   pub answered : said answer ≡ value 0
   pub calls : List Step
   pub run : Run receiverLayout after calls

@@ -16,21 +16,21 @@ AnsweredBy (fails n) a = a ≡ refusal n
 AnsweredBy (located q) a = IsValue a ⊎ (a ≡ refusal 11)
 
 -- The call t, after the calls ts: the base that it finds is the one that they left, or else its packet's first ESI.
-pub record CallChecked (s : Setting) (ts : List Step) (t : Step) : Type 0 where
+pub record CallChecked (s : Setting) (flows : List ℕ) (ts : List Step) (t : Step) : Type 0 where
   pub reading : Reading
-  pub checked : Checked s (baseFor (baseOf s (history s ts)) (esiOf (t .call))) (length (t .working)) (t .call) reading
+  pub checked : Checked s flows (baseFor (baseOf s (history s flows ts)) (esiOf (t .call))) (length (t .working)) (t .call) reading
   pub answered : AnsweredBy reading (said (t .answer))
 
 -- From memory on which opening has just answered 0.
 abbrev pub All-checked : Layout → Type 0
 All-checked L =
-    (scheme E w : ℕ) (m₀ m : List ℕ) (a : Answer) → Opened L scheme E w m₀ m a → said a ≡ value 0
+    (scheme E w : ℕ) (flows m₀ m : List ℕ) (a : Answer) → Opened L scheme E w flows m₀ m a → said a ≡ value 0
     → (ts : List Step) (t : Step) → Run L m (ts ++ (t ∷ []))
-    → (s : Setting) × (settingOf scheme E w ≡ some s) × CallChecked s ts t
+    → (s : Setting) × (settingOf scheme E w ≡ some s) × CallChecked s flows ts t
 
 abbrev pub Base-rises : Layout → Type 0
 Base-rises L =
-    (scheme E w : ℕ) (m₀ m : List ℕ) (a : Answer) → Opened L scheme E w m₀ m a → said a ≡ value 0
+    (scheme E w : ℕ) (flows m₀ m : List ℕ) (a : Answer) → Opened L scheme E w flows m₀ m a → said a ≡ value 0
     → (ts : List Step) (t : Step) → Run L m (ts ++ (t ∷ []))
     → (s : Setting) × (settingOf scheme E w ≡ some s)
-    × BaseAfter s (baseOf s (history s ts)) (t .call) (said (t .answer)) (baseOf s (history s (ts ++ (t ∷ []))))
+    × BaseAfter s (baseOf s (history s flows ts)) (t .call) (said (t .answer)) (baseOf s (history s flows (ts ++ (t ∷ []))))

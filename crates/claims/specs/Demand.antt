@@ -45,32 +45,32 @@ module _ (L : Layout) (s : Setting) (m : List ℕ) where
     pub nothing : (memory part : RefT (List ℕ)) → now memory ≡ m → PartShown L memory part (esi (base + d)) → now part ≡ []
 
 -- Each call of the list, after the calls before it, is answered as the history asks.
-abbrev pub Answered : Setting → List Step → Type 0
-Answered s ts =
+abbrev pub Answered : Setting → (flows : List ℕ) → List Step → Type 0
+Answered s flows ts =
     (before : List Step) (t : Step) (after : List Step) → ts ≡ before ++ (t ∷ after)
-    → Judged s (history s before) (read s (history s before) t) (said (t .answer))
+    → Judged s (history s flows before) (read s flows (history s flows before) t) (said (t .answer))
 
--- Demand 3, of the list of calls `ts` that has left the memory m.
-pub record Demand-3 (L : Layout) (s : Setting) (ts : List Step) (m : List ℕ) : Type 0 where
+-- Demand 3, of the list of calls `ts` that has left the memory m, where these flows are announced.
+pub record Demand-3 (L : Layout) (s : Setting) (flows : List ℕ) (ts : List Step) (m : List ℕ) : Type 0 where
   -- A packet is accepted exactly when it passes the checks of form, place and coefficients and some filling of the
   -- whole stream, from the joining position on, satisfies it and every packet accepted before; else its call answers
   -- the number of the first check that fails, or 11.
-  pub calls : Answered s ts
+  pub calls : Answered s flows ts
   -- At least one filling satisfies every accepted packet.
-  pub consistent : Consistent (s .size) (history s ts)
+  pub consistent : Consistent (s .size) (history s flows ts)
   -- Before any base the window is empty.
-  pub before : baseOf s (history s ts) ≡ none → (e : ℕ) → HiddenBefore L s m e
+  pub before : baseOf s (history s flows ts) ≡ none → (e : ℕ) → HiddenBefore L s m e
   -- A position in the window has its symbol shown exactly when all such fillings hold the same bytes there, and those
   -- are shown.
-  pub window : (b : ℕ) → baseOf s (history s ts) ≡ some b → (i : ℕ) → i < s .width
-      → ShownExactly L s m (history s ts) (b + i)
-  pub outside : (b : ℕ) → baseOf s (history s ts) ≡ some b → (d : ℕ) → s .width ≤ d → d < 2 ^ 32
+  pub window : (b : ℕ) → baseOf s (history s flows ts) ≡ some b → (i : ℕ) → i < s .width
+      → ShownExactly L s m (history s flows ts) (b + i)
+  pub outside : (b : ℕ) → baseOf s (history s flows ts) ≡ some b → (d : ℕ) → s .width ≤ d → d < 2 ^ 32
       → HiddenOutside L s m b d
 
--- From memory on which opening has just answered 0, with any scheme, E and width, demand 3 holds of every list of
--- packet calls.
+-- From memory on which opening has just answered 0, with any scheme, E, width and flows, demand 3 holds of every list
+-- of packet calls.
 abbrev pub Every-list : Layout → Type 0
 Every-list L =
-    (scheme E w : ℕ) (m₀ m : List ℕ) (a : Answer) → Opened L scheme E w m₀ m a → said a ≡ value 0
+    (scheme E w : ℕ) (flows m₀ m : List ℕ) (a : Answer) → Opened L scheme E w flows m₀ m a → said a ≡ value 0
     → (ts : List Step) → Run L m ts
-    → (s : Setting) × (settingOf scheme E w ≡ some s) × Demand-3 L s ts (final m ts)
+    → (s : Setting) × (settingOf scheme E w ≡ some s) × Demand-3 L s flows ts (final m ts)

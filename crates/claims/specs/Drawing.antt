@@ -19,7 +19,8 @@ use Rattle.claims.specs.Sent.{Peers}
 -- opening, and 0 for a source packet.
 abbrev pub Accepted-draws : Type 0
 Accepted-draws =
-    (scheme E w : ℕ) (m₀ m : List ℕ) (a : Answer) → Opened receiverLayout scheme E w m₀ m a → said a ≡ value 0 → (ts : List Step) → Run receiverLayout m ts
+    (scheme E w : ℕ) (flows m₀ m : List ℕ) (a : Answer) → Opened receiverLayout scheme E w flows m₀ m a → said a ≡ value 0
+    → (ts : List Step) → Run receiverLayout m ts
     → (s : Setting) × (settingOf scheme E w ≡ some s)
     × ((c : Call) (m′ v v′ : List ℕ) (n d : ℕ) → PacketAnswered receiverLayout c (final m ts) m′ v v′ (Accepted n d) → d ≡ drawsFor s c)
 

@@ -16,26 +16,26 @@ use Rattle.claims.specs.Handing.{HoldsAdu, Handed-out}
 -- accepted packets by demand 3.
 abbrev pub Goes-on : Type 0
 Goes-on =
-    (s : Setting) → Valid s → (ts : List Step) → Consistent (s .size) (history s ts) → (b : ℕ) → baseOf s (history s ts) ≡ some b
-    → (p flow : ℕ) (adu : List ℕ) → Start s (history s ts) p → HoldsAdu s (history s ts) b p flow adu
-    → Start s (history s ts) (p + symbolCount (s .size) (length adu))
+    (s : Setting) → Valid s → (flows : List ℕ) (ts : List Step) → Consistent (s .size) (history s flows ts) → (b : ℕ) → baseOf s (history s flows ts) ≡ some b
+    → (p flow : ℕ) (adu : List ℕ) → Start s (history s flows ts) p → HoldsAdu s (history s flows ts) b p flow adu
+    → Start s (history s flows ts) (p + symbolCount (s .size) (length adu))
 
 -- The first position of an accepted source packet, and the one after its last, are starts as long as the base has not passed them, whatever packets
 -- are accepted later.
 abbrev pub Heard : Type 0
 Heard =
-    (s : Setting) (ts : List Step) (later earlier : List Located) (q : Located) → history s ts ≡ later ++ (q ∷ earlier)
-    → (p : ℕ) → MarkedBy s q p → (b : ℕ) → baseOf s (history s ts) ≡ some b → b ≤ p → Start s (history s ts) p
+    (s : Setting) (flows : List ℕ) (ts : List Step) (later earlier : List Located) (q : Located) → history s flows ts ≡ later ++ (q ∷ earlier)
+    → (p : ℕ) → MarkedBy s q p → (b : ℕ) → baseOf s (history s flows ts) ≡ some b → b ≤ p → Start s (history s flows ts) p
 
 -- So where a source packet's call answered a count, the ADU call at its first position hands out its ADU with its flow, where output has room: as long
 -- as the base has not passed that position, whatever calls come after.
 abbrev pub Heard-handed : Layout → Type 0
 Heard-handed L =
-    (s : Setting) → Valid s → (before : List Step) (t : Step) (after : List Step) (m : List ℕ)
-    → let l = history s (before ++ (t ∷ after)) in
-    (b : ℕ) → baseOf s l ≡ some b → Handed-out L s m l b
-    → (flow : ℕ) (packet : List ℕ) (q : Located) → t .call ≡ source-call flow packet → read s (history s before) t ≡ located q → IsValue (said (t .answer))
-    → b ≤ first q
+    (s : Setting) → Valid s → (flows : List ℕ) (before : List Step) (t : Step) (after : List Step) (m : List ℕ)
+    → let l = history s flows (before ++ (t ∷ after)) in
+    (b : ℕ) → baseOf s l ≡ some b → Handed-out L s flows m l b
+    → (flow : ℕ) (packet : List ℕ) (q : Located) → t .call ≡ source-call flow packet → read s flows (history s flows before) t ≡ located q
+    → IsValue (said (t .answer)) → b ≤ first q
     → (out out′ : List ℕ) (a : Handed) → AduAnswered L m (esi (first q)) out out′ a
     → let adu = sourceAdu packet in
     length adu ≤ length out → (a ≡ Adu flow (length adu)) × (out′ ≡ adu ++ drop (length adu) out)

@@ -18,3 +18,4 @@ pub mod Heard
 pub mod SentAdus
 pub mod Drawing
 pub mod Joining
+pub mod Strays

@@ -1,5 +1,5 @@
 -- Demand 3 leaves a receiver no choice.
-use Rattle.words.specs.Words.{_≡_, List, length, [], _∷_, map}
+use Rattle.words.specs.Words.{_≡_, ℕ, List, length, [], _∷_, map}
 use Rattle.wire.specs.declared.Setting.{Setting}
 use Rattle.wire.specs.Answers.{said}
 use Rattle.claims.specs.Run.{Step}
@@ -15,5 +15,5 @@ Alike (t ∷ ts) (u ∷ us) = (t .call ≡ u .call) × (length (t .working) ≡ 
 -- Demand 3 leaves a receiver no choice: two that meet it answer the same calls alike.
 abbrev pub No-choice : Type 0
 No-choice =
-    (s : Setting) (ts us : List Step) → Alike ts us → Answered s ts → Answered s us
+    (s : Setting) (flows : List ℕ) (ts us : List Step) → Alike ts us → Answered s flows ts → Answered s flows us
     → map (λ t. said (t .answer)) ts ≡ map (λ u. said (u .answer)) us

@@ -21,5 +21,5 @@ AllOfBytes (c ∷ cs) = OfBytes (c .call) × AllOfBytes cs
 
 abbrev pub Runs-exist : Type 0
 Runs-exist =
-    (scheme E w : ℕ) (m₀ m : List ℕ) (a : Answer) → Opened receiverLayout scheme E w m₀ m a → said a ≡ value 0
+    (scheme E w : ℕ) (flows m₀ m : List ℕ) (a : Answer) → Opened receiverLayout scheme E w flows m₀ m a → said a ≡ value 0
     → (cs : List Asked) → AllOfBytes cs → (ts : List Step) × Run receiverLayout m ts × (map asked ts ≡ cs)

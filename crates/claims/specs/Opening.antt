@@ -7,4 +7,4 @@ use Rattle.receiver.specs.Promises.{Layout, Opened}
 
 abbrev pub Every-opening : Layout → Type 0
 Every-opening L =
-    (scheme E w : ℕ) (m m′ : List ℕ) (a : Answer) → Opened L scheme E w m m′ a → OpeningJudged (receiverMemory E w) scheme E w m (said a) m′
+    (scheme E w : ℕ) (flows m m′ : List ℕ) (a : Answer) → Opened L scheme E w flows m m′ a → OpeningJudged (receiverMemory E w) scheme E w m (said a) m′

@@ -24,14 +24,14 @@ pub record Told-origin (L : Layout) (s : Setting) (m : List ℕ) (qs : List Loca
 -- From memory on which opening has just answered 0, after every list of packet calls.
 abbrev pub Origins : Layout → Type 0
 Origins L =
-    (scheme E w : ℕ) (m₀ m : List ℕ) (a : Answer) → Opened L scheme E w m₀ m a → said a ≡ value 0
+    (scheme E w : ℕ) (flows m₀ m : List ℕ) (a : Answer) → Opened L scheme E w flows m₀ m a → said a ≡ value 0
     → (ts : List Step) → Run L m ts
     → (s : Setting) × (settingOf scheme E w ≡ some s)
-    × ((b : ℕ) → baseOf s (history s ts) ≡ some b → (i : ℕ) → i < s .width → Told-origin L s (final m ts) (history s ts) (b + i))
+    × ((b : ℕ) → baseOf s (history s flows ts) ≡ some b → (i : ℕ) → i < s .width → Told-origin L s (final m ts) (history s flows ts) (b + i))
 
 -- A packet of the history has brought a position exactly when a call of the list was accepted whose packet, read at its place, is a source packet with a
 -- symbol for it: whatever that call answered, and none that was refused.
-pub record BroughtBy (s : Setting) (ts : List Step) (p : ℕ) : Type 0 where
+pub record BroughtBy (s : Setting) (flows : List ℕ) (ts : List Step) (p : ℕ) : Type 0 where
   pub before : List Step
   pub call : Step
   pub after : List Step
@@ -39,19 +39,19 @@ pub record BroughtBy (s : Setting) (ts : List Step) (p : ℕ) : Type 0 where
   pub accepted : IsValue (said (call .answer))
   pub first : ℕ
   pub symbols : List (List ℕ)
-  pub read-as : read s (history s before) call ≡ located (source first symbols)
+  pub read-as : read s flows (history s flows before) call ≡ located (source first symbols)
   pub low : first ≤ p
   pub high : p < first + length symbols
 
 abbrev pub Brought-by : Type 0
-Brought-by = (s : Setting) (ts : List Step) (p : ℕ) → Brought (history s ts) p ↔ BroughtBy s ts p
+Brought-by = (s : Setting) (flows : List ℕ) (ts : List Step) (p : ℕ) → Brought (history s flows ts) p ↔ BroughtBy s flows ts p
 
 -- One heard never becomes solved: after more calls it is heard, as long as it is in the window.
 abbrev pub Stays-heard : Layout → Type 0
 Stays-heard L =
-    (scheme E w : ℕ) (m₀ m : List ℕ) (a : Answer) → Opened L scheme E w m₀ m a → said a ≡ value 0
+    (scheme E w : ℕ) (flows m₀ m : List ℕ) (a : Answer) → Opened L scheme E w flows m₀ m a → said a ≡ value 0
     → (ts us : List Step) → Run L m (ts ++ us)
     → (s : Setting) × (settingOf scheme E w ≡ some s)
-    × ((b c p : ℕ) → baseOf s (history s ts) ≡ some b → baseOf s (history s (ts ++ us)) ≡ some c → b ≤ p → p < b + s .width → c ≤ p → p < c + s .width
-    → (x : SymbolAnswer) → SymbolShown L (final m ts) (esi p) x → x ≡ Shown true
+    × ((b c p : ℕ) → baseOf s (history s flows ts) ≡ some b → baseOf s (history s flows (ts ++ us)) ≡ some c
+    → b ≤ p → p < b + s .width → c ≤ p → p < c + s .width → (x : SymbolAnswer) → SymbolShown L (final m ts) (esi p) x → x ≡ Shown true
     → (y : SymbolAnswer) → SymbolShown L (final m (ts ++ us)) (esi p) y → y ≡ Shown true)

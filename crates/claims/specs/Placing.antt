@@ -37,9 +37,9 @@ pub record Place-told (L : Layout) (s : Setting) (m : List ℕ) (l : Log) : Type
 -- From memory on which opening has just answered 0, after every list of packet calls.
 abbrev pub Every-place : Layout → Type 0
 Every-place L =
-    (scheme E w : ℕ) (m₀ m : List ℕ) (a : Answer) → Opened L scheme E w m₀ m a → said a ≡ value 0
+    (scheme E w : ℕ) (flows m₀ m : List ℕ) (a : Answer) → Opened L scheme E w flows m₀ m a → said a ≡ value 0
     → (ts : List Step) → Run L m ts
-    → (s : Setting) × (settingOf scheme E w ≡ some s) × Place-told L s (final m ts) (history s ts)
+    → (s : Setting) × (settingOf scheme E w ≡ some s) × Place-told L s (final m ts) (history s flows ts)
 
 -- On a receiver's memory the part that shows a symbol is the E bytes at that place.
 abbrev pub Part-placed : Type 0

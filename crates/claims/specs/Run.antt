@@ -24,10 +24,10 @@ abbrev pub final : List ℕ → List Step → List ℕ
 final m [] = m
 final m (t ∷ ts) = final (t .memory) ts
 
-module _ (s : Setting) where
-  -- What the checks before 11 make of a call.
+module _ (s : Setting) (flows : List ℕ) where
+  -- What the checks before 11 make of a call, where these flows are announced.
   abbrev pub read : Log → Step → Reading
-  read l t = readAfter s l (length (t .working)) (t .call)
+  read l t = readAfter s flows l (length (t .working)) (t .call)
 
   -- The history of a list of calls, from their packets and answers alone.
   abbrev pub goes-on : Log → List Step → Log

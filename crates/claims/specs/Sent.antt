@@ -1,8 +1,9 @@
 -- The sender's filling, and what becomes of a sender's packets at the receiver.
-use Rattle.words.specs.Words.{_≡_, ℕ, _≤_, _+_, List, length, _<_, [], some, _∷_, none, getD, Option, now, RefT}
+use Rattle.words.specs.Words.{_≡_, ℕ, _≤_, _+_, List, length, _<_, [], some, _∷_, true, none, getD, Option, now, RefT}
 use Rattle.wire.specs.declared.Setting.{Setting}
 use Rattle.wire.specs.Settings.{Valid}
 use Rattle.wire.specs.Packets.{symbolCount, sourceAdu, protectedCount}
+use Rattle.wire.specs.Flows.{announced}
 use Rattle.wire.specs.declared.Answer.{Answer}
 use Rattle.wire.specs.Answers.{Said, value, refusal, said}
 use Rattle.history.specs.History.{Filling, All, Call, source-call, repair-call, workingSize, Log, fresh, IsValue, readAfter, baseOf, logged, Judged, joinedAt}
@@ -36,19 +37,19 @@ Arrives (some b) offset p = Near p (b + offset)
 
 -- All packets that the list accepts are as a sender of the same scheme and E wrote them, F included, whose symbols are `all`, and stood less than
 -- halfway from base on arrival.
-module _ (s : Setting) (all : List (List ℕ)) (offset : ℕ) where
+module _ (s : Setting) (flows : List ℕ) (all : List (List ℕ)) (offset : ℕ) where
   abbrev pub AsWritten : Log → List Step → Type 0
   AsWritten l [] = Unit {0}
   AsWritten l (t ∷ ts) =
       (IsValue (said (t .answer)) → (x : Packet) × (p : ℕ) × (callOf x ≡ t .call) × Wrote (s .scheme) (s .size) all x p × Arrives (baseOf s l) offset p)
-      × AsWritten (logged s l (read s l t) (said (t .answer))) ts
+      × AsWritten (logged s l (read s flows l t) (said (t .answer))) ts
 
 -- Then the sender's symbols from the joining position on, with any bytes after them, are a filling that satisfies them.
 abbrev pub Sender-fills : Type 0
 Sender-fills =
-    (s : Setting) → Valid s → (all : List (List ℕ)) (offset : ℕ) (ts : List Step) → AsWritten s all offset fresh ts
-    → (join : ℕ) → joinedAt (history s ts) ≡ some join
-    → (f : Filling (s .size)) → Carries (s .size) join offset all f → All (s .size) (history s ts) f
+    (s : Setting) → Valid s → (flows : List ℕ) (all : List (List ℕ)) (offset : ℕ) (ts : List Step) → AsWritten s flows all offset fresh ts
+    → (join : ℕ) → joinedAt (history s flows ts) ≡ some join
+    → (f : Filling (s .size)) → Carries (s .size) join offset all f → All (s .size) (history s flows ts) f
 
 -- A list of a sender's calls, and a receiver of the same scheme and E.
 pub record Peers (t s : Setting) (l : List SenderCall) : Type 0 where
@@ -61,31 +62,37 @@ abbrev pub InReach : (base : Option ℕ) (offset p n : ℕ) → Type 0
 InReach none offset p n = Unit {0}
 InReach (some b) offset p n = (b + offset ≤ p) × (p + n ≤ b + offset + farthest)
 
--- Every packet of the sender's that lies ahead of the base, not too far, and names no more symbols than the window has, is accepted.
+-- The receiver announces the flow of a source packet.
+abbrev pub AnnouncedAt : (flows : List ℕ) → Packet → Type 0
+AnnouncedAt flows (source flow p) = announced flows flow ≡ true
+AnnouncedAt flows (repair p) = Unit {0}
+
+-- Every packet of the sender's whose flow the receiver announces, that lies ahead of the base, not too far, and names no more symbols than the window has,
+-- is accepted.
 abbrev pub Sent-accepted : Type 0
 Sent-accepted =
     (t s : Setting) (l : List SenderCall) → Peers t s l → Valid s
-    → (offset : ℕ) (ts : List Step) → AsWritten s (symbolsOf (s .size) l) offset fresh ts
-    → (x : Packet) (p : ℕ) → Wrote (s .scheme) (s .size) (symbolsOf (s .size) l) x p
-    → InReach (baseOf s (history s ts)) offset p (named (s .size) x) → named (s .size) x ≤ s .width
-    → (room : ℕ) → workingSize s ≤ room → (a : Said) → Judged s (history s ts) (readAfter s (history s ts) room (callOf x)) a → IsValue a
+    → (flows : List ℕ) (offset : ℕ) (ts : List Step) → AsWritten s flows (symbolsOf (s .size) l) offset fresh ts
+    → (x : Packet) (p : ℕ) → Wrote (s .scheme) (s .size) (symbolsOf (s .size) l) x p → AnnouncedAt flows x
+    → InReach (baseOf s (history s flows ts)) offset p (named (s .size) x) → named (s .size) x ≤ s .width
+    → (room : ℕ) → workingSize s ≤ room → (a : Said) → Judged s (history s flows ts) (readAfter s flows (history s flows ts) room (callOf x)) a → IsValue a
 
--- Every one that begins before the base, by no more than halfway, is behind: after joining, all that was sent or reaches back before it.
+-- Every such one that begins before the base, by no more than halfway, is behind: after joining, all that was sent or reaches back before it.
 abbrev pub Sent-behind : Type 0
 Sent-behind =
     (t s : Setting) (l : List SenderCall) → Peers t s l → Valid s
-    → (offset : ℕ) (ts : List Step) → AsWritten s (symbolsOf (s .size) l) offset fresh ts
-    → (b : ℕ) → baseOf s (history s ts) ≡ some b
-    → (x : Packet) (p : ℕ) → Wrote (s .scheme) (s .size) (symbolsOf (s .size) l) x p
+    → (flows : List ℕ) (offset : ℕ) (ts : List Step) → AsWritten s flows (symbolsOf (s .size) l) offset fresh ts
+    → (b : ℕ) → baseOf s (history s flows ts) ≡ some b
+    → (x : Packet) (p : ℕ) → Wrote (s .scheme) (s .size) (symbolsOf (s .size) l) x p → AnnouncedAt flows x
     → p < b + offset → b + offset ≤ p + halfway → named (s .size) x ≤ s .width
-    → (room : ℕ) → workingSize s ≤ room → (a : Said) → Judged s (history s ts) (readAfter s (history s ts) room (callOf x)) a → a ≡ refusal 8
+    → (room : ℕ) → workingSize s ≤ room → (a : Said) → Judged s (history s flows ts) (readAfter s flows (history s flows ts) room (callOf x)) a → a ≡ refusal 8
 
 -- And what is shown at a position of the sender's is the sender's symbol.
 abbrev pub Sent-shown : Layout → Type 0
 Sent-shown L =
-    (t s : Setting) (l : List SenderCall) → Peers t s l → (ts : List Step) (m : List ℕ) → Demand-3 L s ts m
-    → (offset : ℕ) → AsWritten s (symbolsOf (s .size) l) offset fresh ts
-    → (b : ℕ) → baseOf s (history s ts) ≡ some b → (i : ℕ) → i < s .width → b + i + offset < length (symbolsOf (s .size) l)
+    (t s : Setting) (l : List SenderCall) → Peers t s l → (flows : List ℕ) (ts : List Step) (m : List ℕ) → Demand-3 L s flows ts m
+    → (offset : ℕ) → AsWritten s flows (symbolsOf (s .size) l) offset fresh ts
+    → (b : ℕ) → baseOf s (history s flows ts) ≡ some b → (i : ℕ) → i < s .width → b + i + offset < length (symbolsOf (s .size) l)
     → (a : Answer) → SymbolAnswered L m (esi (b + i)) a → said a ≡ value 0
     → (memory part : RefT (List ℕ)) → now memory ≡ m → PartShown L memory part (esi (b + i))
     → now part ≡ getD (symbolsOf (s .size) l) (b + i + offset) []

@@ -63,29 +63,29 @@ Junk-gives =
     → sourceSymbols flow adu (s .size) ≡ take (symbolCount (s .size) (length adu)) (drop (p + offset) all)
 
 -- All packets that the list accepts are this sender's, and stood less than halfway from base on arrival.
-module _ (s : Setting) (l : List SenderCall) (offset : ℕ) where
+module _ (s : Setting) (flows : List ℕ) (l : List SenderCall) (offset : ℕ) where
   abbrev pub AsSent : Log → List Step → Type 0
   AsSent log [] = Unit {0}
   AsSent log (t ∷ ts) =
       (IsValue (said (t .answer)) → (x : Packet) × (p : ℕ) × (callOf x ≡ t .call) × Sent (s .scheme) (s .size) l x p × Arrives (baseOf s log) offset p)
-      × AsSent (logged s log (read s log t) (said (t .answer))) ts
+      × AsSent (logged s log (read s flows log t) (said (t .answer))) ts
 
 -- Then all of them are as it wrote them: what is claimed of such packets is claimed of these.
 abbrev pub Sent-written : Type 0
 Sent-written =
-    (t s : Setting) (l : List SenderCall) → Peers t s l → (offset : ℕ) (ts : List Step) → AsSent s l offset fresh ts
-    → AsWritten s (symbolsOf (s .size) l) offset fresh ts
+    (t s : Setting) (l : List SenderCall) → Peers t s l → (flows : List ℕ) (offset : ℕ) (ts : List Step) → AsSent s flows l offset fresh ts
+    → AsWritten s flows (symbolsOf (s .size) l) offset fresh ts
 
 -- Then every start is the first symbol of one of its ADUs, or the end of all.
 abbrev pub Sent-starts : Type 0
 Sent-starts =
-    (t s : Setting) (l : List SenderCall) → Peers t s l → (offset : ℕ) (ts : List Step) → AsSent s l offset fresh ts
-    → (p : ℕ) → Start s (history s ts) p → Boundary (s .size) l (p + offset)
+    (t s : Setting) (l : List SenderCall) → Peers t s l → (flows : List ℕ) (offset : ℕ) (ts : List Step) → AsSent s flows l offset fresh ts
+    → (p : ℕ) → Start s (history s flows ts) p → Boundary (s .size) l (p + offset)
 
 -- And an ADU that every filling holds at a start, whatever the base b, is one that it took, with its flow. Together with `handed` this is what the ADU call
 -- hands out.
 abbrev pub Sent-handed : Type 0
 Sent-handed =
-    (t s : Setting) (l : List SenderCall) → Peers t s l → (offset : ℕ) (ts : List Step) → AsSent s l offset fresh ts
-    → (b p flow : ℕ) (adu : List ℕ) → Start s (history s ts) p → HoldsAdu s (history s ts) b p flow adu
+    (t s : Setting) (l : List SenderCall) → Peers t s l → (flows : List ℕ) (offset : ℕ) (ts : List Step) → AsSent s flows l offset fresh ts
+    → (b p flow : ℕ) (adu : List ℕ) → Start s (history s flows ts) p → HoldsAdu s (history s flows ts) b p flow adu
     → Begins (s .size) l (p + offset) flow adu
