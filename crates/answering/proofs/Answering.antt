@@ -7,8 +7,9 @@ use Rattle.receiver.specs.declared.PacketAnswer.the-variants.{Accepted, NotAcce
 use Rattle.history.specs.History.{Call, source-call, repair-call}
 use Rattle.history.specs.Model.{State, Outcome, refused, done, saidOf, stateAfter, receiving}
 use Rattle.wire.specs.Answers.{said}
+use Rattle.flows.specs.Promises.{allFlows}
 use Rattle.receiver.specs.Promises.{answerOf, Draws, Follows, PacketAnswered}
-use Rattle.holding.specs.Layout.{Holds}
+use Rattle.holding.specs.Layout.{HoldsWith}
 use Rattle.receiver.specs.Layout.{receiverLayout}
 use Rattle.lines.specs.declared.Spoken.{Spoken}
 use Rattle.lines.specs.declared.Spoken.the-variants.{Source, Repair, Malformed}
@@ -34,7 +35,7 @@ answered-other have line m h = record {
   small = omega arith;
   other = λ l k e. refl;
   answer = λ l s t k held.
-      subst (λ o. (malformed ≡ recordAt s t o) × Holds m s (stateAt s t o)) (sym (h l k)) (refl, held);
+      subst (λ o. (malformed ≡ recordAt s t o) × HoldsWith m s allFlows (stateAt s t o)) (sym (h l k)) (refl, held);
 }
 
 -- what a packet line said
@@ -52,9 +53,9 @@ pub spoken-malformed : {p : List ℕ} {o : Option Call} (x : Spoken) → x ≡ M
 spoken-malformed x e h = let g = subst (CallRead _ _) e h in sym (g .call)
 
 -- what a call did
-did : (s : Setting) (t : State s) (o : Outcome s) (m m′ : List ℕ) (a : PacketAnswer) → Follows receiverLayout s o m m′ (answerOf a) → Holds m s t
-    → (said (answerOf a) ≡ saidOf o) × Holds m′ s (stateAfter t o)
-did s t (refused n) m m′ a (e, q) h = (e, subst (λ x. Holds x s t) (sym q) h)
+did : (s : Setting) (t : State s) (o : Outcome s) (m m′ : List ℕ) (a : PacketAnswer) → Follows receiverLayout s allFlows o m m′ (answerOf a)
+    → HoldsWith m s allFlows t → (said (answerOf a) ≡ saidOf o) × HoldsWith m′ s allFlows (stateAfter t o)
+did s t (refused n) m m′ a (e, q) h = (e, subst (λ x. HoldsWith x s allFlows t) (sym q) h)
 did s t (done n t′) m m′ a p h = p
 
 few : (c : Call) (m : List ℕ) (a : PacketAnswer) → Draws c m a → recordOf (said (answerOf a)) .known ≤ 65535
@@ -68,7 +69,7 @@ answered-call have line m m′ v v′ c a r h lent p e = record {
   small = rw e (few c m a (p .draws));
   other = λ l k n. absurd (Option·none-ne-some c (sym n ∙ h l k));
   answer = λ l s t k held.
-      let f = subst (λ x. Follows receiverLayout s (receiving s t x c) m m′ (answerOf a)) lent (p .received .follows s t held) in
-      let (same, after) = did s t (receiving s t room c) m m′ a f held in
-      subst (λ o. (r ≡ recordAt s t o) × Holds m′ s (stateAt s t o)) (sym (h l k)) (e ∙ ap recordOf same, after);
+      let f = subst (λ x. Follows receiverLayout s allFlows (receiving s allFlows t x c) m m′ (answerOf a)) lent (p .received .follows s allFlows t held) in
+      let (same, after) = did s t (receiving s allFlows t room c) m m′ a f held in
+      subst (λ o. (r ≡ recordAt s t o) × HoldsWith m′ s allFlows (stateAt s t o)) (sym (h l k)) (e ∙ ap recordOf same, after);
 }

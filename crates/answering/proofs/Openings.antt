@@ -10,10 +10,11 @@ use Rattle.wire.specs.declared.Answer.{Answer}
 use Rattle.wire.specs.declared.Answer.the-variants.{Done, Refused}
 use Rattle.wire.specs.declared.Refusal.{Refusal}
 use Rattle.wire.specs.Answers.{value, refusal, said}
+use Rattle.flows.specs.Promises.{allFlows}
 use Rattle.history.specs.History.{memorySize, workingSize}
 use Rattle.history.specs.Model.{opened}
 use Rattle.receiver.specs.Promises.{opening}
-use Rattle.holding.specs.Layout.{Holds}
+use Rattle.holding.specs.Layout.{HoldsWith}
 use Rattle.lines.specs.declared.First.{First}
 use Rattle.lines.specs.Forms.{Values, longest}
 use Rattle.lines.specs.Reading.{on, valuesIn}
@@ -96,6 +97,6 @@ open-done a k s n e h = go (ltb n (memorySize s)) refl (sym (ap said e) ∙ h)
     go false t q = (ltb-false n (memorySize s) t, ap said e ∙ q)
 
 -- the line opens the receiver
-pub opens : {have : ℕ} {line : List ℕ} (m′ : List ℕ) (s : Setting) → ((l : List ℕ) → Kept have line l → settingNamed l ≡ some s) → Holds m′ s (opened s)
-    → OpenedBy have line m′ true
+pub opens : {have : ℕ} {line : List ℕ} (m′ : List ℕ) (s : Setting) → ((l : List ℕ) → Kept have line l → settingNamed l ≡ some s)
+    → HoldsWith m′ s allFlows (opened s) → OpenedBy have line m′ true
 opens m′ s h held = λ l k. subst (λ o. OpensOrNot o m′ true) (sym (h l k)) (refl, held)

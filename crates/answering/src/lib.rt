@@ -54,7 +54,7 @@ pub fn keep(line: &mut [u8], have: usize, bytes: &[u8]) -> usize
     have + bytes.len()
 }
 
-// Opens the receiver that the first line names, if it names one.
+// Opens the receiver that the first line names, if it names one, with all flows announced.
 pub fn open_by(line: &[u8], have: usize, mem: &mut [u8]) -> bool
     requires { ⌜ (8192 ≤ length (now line)) × (length (now mem) ≡ 65536) ⌝ }
     ensures { λ r. ⌜ OpenedBy have (now (line .entry)) (now (mem .exit)) r ⌝ }
@@ -72,7 +72,8 @@ pub fn open_by(line: &[u8], have: usize, mem: &mut [u8]) -> bool
     if ROOM < front::working_size(setting) {
         return false;
     }
-    let Answer::Done(_) = receiver::open(mem, scheme, size, width) else {
+    let announced = [255; 32];
+    let Answer::Done(_) = receiver::open(mem, scheme, size, width, &announced) else {
         return false;
     };
     true

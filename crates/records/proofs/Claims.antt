@@ -6,6 +6,7 @@ use Rattle.wire.specs.declared.Scheme.{Scheme}
 use Rattle.wire.specs.declared.Scheme.the-variants.{Gf2, Gf256}
 use Rattle.wire.specs.Settings.{schemeNumber, settingOf}
 use Rattle.wire.proofs.Settings.{both, setting-named, Named, setting-names}
+use Rattle.flows.proofs.Bits.{all-announced}
 use Rattle.history.specs.History.{memorySize, workingSize, fresh}
 use Rattle.history.specs.Model.{opened}
 use Rattle.history.proofs.Answers.{fresh-tracks}
@@ -107,5 +108,6 @@ prints = record {
   good = good;
   bad = bad;
   missing = λ input e. rw e;
+  flows = all-announced;
   once = λ s ls rs rs′. records-once s ls fresh rs rs′;
 }

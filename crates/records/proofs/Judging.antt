@@ -5,6 +5,7 @@ use Rattle.wire.specs.declared.Setting.{Setting}
 use Rattle.history.specs.History.{Call, source-call, repair-call, OfBytes, esiOf, Side, behind, ahead, Reading, fails, located, check, fromSide, readSource}
 use Rattle.history.specs.History.{readRepair, reading, Located, Log, readAfter, logged, Judged}
 use Rattle.wire.specs.Answers.{Said, value, refusal}
+use Rattle.flows.specs.Promises.{allFlows}
 use Rattle.history.specs.Model.{packetOf, Joined, State, foundBy, saidOf, stateAfter, added, responds, answering, receiving}
 use Rattle.history.proofs.Answers.{Tracks, Passes, base-found, judged}
 use Rattle.history.proofs.Counting.{judged-once}
@@ -34,11 +35,12 @@ unfolding fromSide
 side-numbered n behind next h = omega arith
 side-numbered n (ahead d) next h = checked _ 9 (next d) (omega arith) (h d)
 
-numbered : (s : Setting) (base b : ℕ) (c : Call) → Numbered (reading s base b c)
+numbered : (s : Setting) (flows : List ℕ) (base b : ℕ) (c : Call) → Numbered (reading s flows base b c)
 unfolding reading readSource readRepair
-numbered s base b (source-call flow p) =
-    checked _ 2 _ (omega arith) (checked _ 5 _ (omega arith) (checked _ 4 _ (omega arith) (side-numbered _ _ _ (λ d. tt))))
-numbered s base b (repair-call p) =
+numbered s flows base b (source-call flow p) =
+    checked _ 2 _ (omega arith)
+    (checked _ 5 _ (omega arith) (checked _ 16 _ (omega arith) (checked _ 4 _ (omega arith) (side-numbered _ _ _ (λ d. tt)))))
+numbered s flows base b (repair-call p) =
     checked _ 2 _ (omega arith)
     (checked _ 5 _ (omega arith) (checked _ 6 _ (omega arith) (side-numbered _ _ _ (λ d. checked _ 10 _ (omega arith) tt))))
 
@@ -60,9 +62,9 @@ refused-nothing (refusal n) h = refl
 
 module _ (s : Setting) (some-bytes : 0 < s .size) where
   -- the answer of a call is numbered
-  positive : (t : State s) (c : Call) → Positive (saidOf (receiving s t room c))
+  positive : (t : State s) (c : Call) → Positive (saidOf (receiving s allFlows t room c))
   unfolding answering
-  positive t c = go (foundBy s t (esiOf c)) (reading s (foundBy s t (esiOf c) .base) room c) (numbered s (foundBy s t (esiOf c) .base) room c)
+  positive t c = go (foundBy s t (esiOf c)) (reading s allFlows (foundBy s t (esiOf c) .base) room c) (numbered s allFlows (foundBy s t (esiOf c) .base) room c)
     where
       got : (j : Joined s) (o : Option (Joined s)) → Positive (saidOf (added s j o))
       got j none = omega arith
@@ -74,15 +76,17 @@ module _ (s : Setting) (some-bytes : 0 < s .size) where
 
   -- a call is answered as the history asks, and the state follows the history after it
   called : (log : Log) (t : State s) (c : Call) → Tracks s some-bytes log t → OfBytes c
-      → let o = receiving s t room c in
-      Judged s log (readAfter s log room c) (saidOf o) × Tracks s some-bytes (logged s log (readAfter s log room c) (saidOf o)) (stateAfter t o)
+      → let o = receiving s allFlows t room c in
+      Judged s log (readAfter s allFlows log room c) (saidOf o)
+      × Tracks s some-bytes (logged s log (readAfter s allFlows log room c) (saidOf o)) (stateAfter t o)
   unfolding answering
   called log t c k b =
       let j = foundBy s t (esiOf c) in
-      let r = reading s (j .base) room c in
-      let same : r ≡ readAfter s log room c = ap (λ y. reading s y room c) (sym (base-found s some-bytes log t (esiOf c) k)) in
+      let r = reading s allFlows (j .base) room c in
+      let same : r ≡ readAfter s allFlows log room c = ap (λ y. reading s allFlows y room c) (sym (base-found s some-bytes log t (esiOf c) k)) in
       let passes : (q : Located) → r ≡ located q → Passes s some-bytes log (j .base) q =
-      λ q e. subst (λ y. Passes s some-bytes log y q) (base-found s some-bytes log t (esiOf c) k) (reading-passes s some-bytes log room c q b (sym same ∙ e)) in
+      λ q e. subst (λ y. Passes s some-bytes log y q) (base-found s some-bytes log t (esiOf c) k)
+      (reading-passes s allFlows some-bytes log room c q b (sym same ∙ e)) in
       subst (λ y. Judged s log y (saidOf (responds s j r)) × Tracks s some-bytes (logged s log y (saidOf (responds s j r))) (stateAfter t (responds s j r)))
       same (judged s some-bytes log t (esiOf c) r k passes)
 
@@ -99,17 +103,18 @@ module _ (s : Setting) (some-bytes : 0 < s .size) where
   )
   at-line log t l k (some c) e =
       let says : Says l c = read-exactly .calls l c .0 e in
-      let a = saidOf (receiving s t room c) in
+      let a = saidOf (receiving s allFlows t room c) in
       let (j, n) = called log t c k (says .bytes) in
       let same : saidBy (recordOf a) ≡ a = told a (positive t c) in (
         record {
           answered = λ c′ h.
-              subst (λ x. Judged s log (readAfter s log room x) (saidBy (recordOf a))) (Option·some-injective _ _ (sym e ∙ read-exactly .calls l c′ .1 h))
-              (subst (Judged s log (readAfter s log room c)) (sym same) j);
+              subst (λ x. Judged s log (readAfter s allFlows log room x) (saidBy (recordOf a)))
+              (Option·some-injective _ _ (sym e ∙ read-exactly .calls l c′ .1 h))
+              (subst (Judged s log (readAfter s allFlows log room c)) (sym same) j);
           nothing = refused-nothing a;
           other = λ h. absurd (h c says);
         },
-        subst (λ x. Tracks s some-bytes (logged s log (readAfter s log room c) x) (stateAfter t (receiving s t room c))) (sym same) n,
+        subst (λ x. Tracks s some-bytes (logged s log (readAfter s allFlows log room c) x) (stateAfter t (receiving s allFlows t room c))) (sym same) n,
       )
 
   pub records : (ls : List (List ℕ)) (log : Log) (t : State s) → Tracks s some-bytes log t → Records s log ls (recordsFrom s t ls)
@@ -154,7 +159,7 @@ module _ (s : Setting) where
   one-line log l (some c) e r r′ h h′ =
       let says : Says l c = read-exactly .calls l c .0 e in
       same-record r r′ (h .nothing) (h′ .nothing)
-      (judged-once s log (readAfter s log room c) (saidBy r) (saidBy r′) (h .answered c says) (h′ .answered c says))
+      (judged-once s log (readAfter s allFlows log room c) (saidBy r) (saidBy r′) (h .answered c says) (h′ .answered c says))
 
   pub records-once : (ls : List (List ℕ)) (log : Log) (rs rs′ : List Record) → Records s log ls rs → Records s log ls rs′ → rs ≡ rs′
   records-once [] log [] [] h h′ = refl

@@ -1,8 +1,10 @@
 -- What is claimed of what is printed (proofs/Claims), in the words of document 02, No. 4, and of the receiver's history.
-use Rattle.words.specs.Words.{_≡_, ℕ, _≤_, _+_, List, length, [], some, _∷_, none, _++_, Option, _≢_, take, cond, eqb, _↔_}
+use Rattle.words.specs.Words.{_≡_, ℕ, _≤_, _+_, List, length, _<_, [], some, _∷_, true, none, _++_, Option, _≢_, take, cond, eqb, _↔_}
 use Rattle.wire.specs.declared.Setting.{Setting}
 use Rattle.wire.specs.Settings.{schemeNumber, Valid}
 use Rattle.wire.specs.Answers.{Said, value, refusal}
+use Rattle.wire.specs.Flows.{announced}
+use Rattle.flows.specs.Promises.{allFlows}
 use Rattle.history.specs.History.{Call, memorySize, workingSize, Log, fresh, readAfter, logged, Judged}
 use Rattle.printing.specs.Printed.{lastLine}
 use Rattle.lines.specs.Lines.{linesOf}
@@ -31,12 +33,12 @@ module _ (s : Setting) where
   -- what the accepted packets are after a line with a record: a line that is not of the form says nothing to the receiver
   abbrev pub loggedBy : Log → Option Call → Record → Log
   loggedBy log none r = log
-  loggedBy log (some c) r = logged s log (readAfter s log room c) (saidBy r)
+  loggedBy log (some c) r = logged s log (readAfter s allFlows log room c) (saidBy r)
 
-  -- the record of a line, after the packets that were accepted before it
+  -- the record of a line, after the packets that were accepted before it, where all flows are announced
   pub record Recorded (log : Log) (l : List ℕ) (r : Record) : Type 0 where
     -- a line of the form is answered as the history asks; a refused packet has made nothing known
-    pub answered : (c : Call) → Says l c → Judged s log (readAfter s log room c) (saidBy r)
+    pub answered : (c : Call) → Says l c → Judged s log (readAfter s allFlows log room c) (saidBy r)
     pub nothing : r .answer ≢ 0 → r .known ≡ 0
     -- any other line is answered 15
     pub other : ((c : Call) → ¬ Says l c) → r .answer ≡ 15
@@ -62,5 +64,7 @@ pub record Prints : Type 0 where
   -- a bad first line, or none: only the last line, with zeros
   pub bad : (input l : List ℕ) (packets : List (List ℕ)) → linesOf input ≡ l ∷ packets → ((s : Setting) → ¬ Opens l s) → printed input ≡ lastLine 0 0 0 0
   pub missing : (input : List ℕ) → linesOf input ≡ [] → printed input ≡ lastLine 0 0 0 0
+  -- every flow is announced
+  pub flows : (F : ℕ) → F < 256 → announced allFlows F ≡ true
   -- nothing but these records can be printed
   pub once : (s : Setting) (ls : List (List ℕ)) (rs rs′ : List Record) → Records s fresh ls rs → Records s fresh ls rs′ → rs ≡ rs′

@@ -11,6 +11,7 @@ use Rattle.wire.specs.declared.Scheme.the-variants.{Gf2, Gf256}
 use Rattle.wire.specs.Settings.{inRange, settingOf}
 use Rattle.wire.specs.Packets.{symbolCount, adui, sourceSymbols, sourceForm, sourceAdu, sourceEsi, repairCount, repairForm, repairKey, densityThreshold}
 use Rattle.wire.specs.Packets.{protectedCount, firstEsi, repairSymbols}
+use Rattle.wire.specs.Flows.{announced}
 use Rattle.coefficients.specs.Coefficients.{nonzeroFrom, bitOf, byteOf, extend, coefficientsOf}
 use Rattle.history.specs.History.{halfway, sideOf, check, farthest, fromSide, readSource, readRepair, reading}
 use Rattle.history.specs.Model.{answering}
@@ -47,7 +48,7 @@ unfolding
     symbolCount adui sourceSymbols sourceForm sourceAdu sourceEsi
     repairCount repairForm repairKey densityThreshold protectedCount firstEsi repairSymbols
     inRange settingOf part
-    halfway sideOf check farthest fromSide readSource readRepair reading answering
+    halfway sideOf check farthest fromSide announced readSource readRepair reading answering
     packets.source packets.source-rows packets.row packets.only packets.repair
     decoder.empty decoder.receive decoder.rise decoder.newly decoder.count-new decoder.is-new
     decoder.embed decoder.advance-by decoder.insert-all
@@ -59,15 +60,15 @@ unfolding
 printings = refl
 
 -- first lines that open a receiver: the working memory of the second and third has exactly 65,536 bytes, and no wider window than the fourth fits; and bad
--- ones: values that opening refuses; a working memory of 65,537 bytes, one more than fits for E, twice, and for the width; a leading zero, two blanks, a
+-- ones: values that opening refuses; a working memory of 65,538 bytes, one more than fits for E, twice, and for the width; a leading zero, two blanks, a
 -- number past 64 bits, a byte after the form
 pub firstLines : map (λ t. settingNamed (ascii t))
-    ("scheme=9 e=4 width=2" ∷ "scheme=10 e=12 width=247" ∷ "scheme=9 e=1440 width=43" ∷ "scheme=9 e=4 width=250"
+    ("scheme=9 e=4 width=2" ∷ "scheme=10 e=245 width=159" ∷ "scheme=9 e=734 width=79" ∷ "scheme=9 e=4 width=250"
     ∷ "scheme=8 e=4 width=2" ∷ "scheme=9 e=3 width=2" ∷ "scheme=9 e=4 width=0" ∷ "scheme=9 e=4 width=256"
-    ∷ "scheme=9 e=44 width=232" ∷ "scheme=10 e=13 width=247" ∷ "scheme=9 e=1441 width=43" ∷ "scheme=9 e=4 width=251"
+    ∷ "scheme=9 e=757 width=77" ∷ "scheme=10 e=246 width=159" ∷ "scheme=9 e=735 width=79" ∷ "scheme=9 e=4 width=251"
     ∷ "scheme=09 e=4 width=2" ∷ "scheme=9  e=4 width=2" ∷ "scheme=18446744073709551625 e=4 width=2" ∷ "scheme=9 e=4 width=2\r" ∷ "" ∷ [])
-    ≡ some (record { scheme = Gf2; size = 4; width = 2 }) ∷ some (record { scheme = Gf256; size = 12; width = 247 })
-    ∷ some (record { scheme = Gf2; size = 1440; width = 43 }) ∷ some (record { scheme = Gf2; size = 4; width = 250 })
+    ≡ some (record { scheme = Gf2; size = 4; width = 2 }) ∷ some (record { scheme = Gf256; size = 245; width = 159 })
+    ∷ some (record { scheme = Gf2; size = 734; width = 79 }) ∷ some (record { scheme = Gf2; size = 4; width = 250 })
     ∷ none ∷ none ∷ none ∷ none ∷ none ∷ none ∷ none ∷ none ∷ none ∷ none ∷ none ∷ none ∷ none ∷ []
 unfolding inRange settingOf after numberFrom numberIn valuesIn settingNamed
 firstLines = refl

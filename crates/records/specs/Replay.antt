@@ -4,6 +4,7 @@ use Rattle.words.specs.Words.{ℕ, List, length, [], some, _∷_, none, _++_, O
 use Rattle.wire.specs.declared.Setting.{Setting}
 use Rattle.wire.specs.Settings.{settingOf}
 use Rattle.wire.specs.Answers.{Said, value, refusal}
+use Rattle.flows.specs.Promises.{allFlows}
 use Rattle.history.specs.History.{Call, memorySize, workingSize}
 use Rattle.history.specs.Model.{State, opened, saidOf, stateAfter, receiving}
 use Rattle.lines.specs.Lines.{linesOf}
@@ -23,14 +24,14 @@ abbrev pub malformed : Record
 malformed = record { answer = 15; known = 0 }
 
 module _ (s : Setting) where
-  -- what a line says to a receiver in a state: its record, and the state after it; a line that is not of the form says nothing
+  -- what a line says to a receiver in a state, where all flows are announced: its record, and the state after it; a line that is not of the form says nothing
   abbrev pub recordAt : State s → Option Call → Record
   recordAt t none = malformed
-  recordAt t (some c) = recordOf (saidOf (receiving s t room c))
+  recordAt t (some c) = recordOf (saidOf (receiving s allFlows t room c))
 
   abbrev pub stateAt : State s → Option Call → State s
   stateAt t none = t
-  stateAt t (some c) = stateAfter t (receiving s t room c)
+  stateAt t (some c) = stateAfter t (receiving s allFlows t room c)
 
   -- the records of packet lines
   unfoldable pub recordsFrom : State s → List (List ℕ) → List Record

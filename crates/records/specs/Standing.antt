@@ -1,8 +1,9 @@
 -- Where a capture stands after lines of it, and what is printed on the way. The claims need only that it is kept: a reader need not believe it.
 use Rattle.words.specs.Words.{_≡_, ℕ, _≤_, _+_, List, length, [], some, _∷_, none, _*_, _++_, Option, take, cond, ltb, min}
 use Rattle.wire.specs.declared.Setting.{Setting}
+use Rattle.flows.specs.Promises.{allFlows}
 use Rattle.history.specs.Model.{State, opened}
-use Rattle.holding.specs.Layout.{Holds}
+use Rattle.holding.specs.Layout.{HoldsWith}
 use Rattle.printing.specs.Printed.{recordLine}
 use Rattle.lines.specs.Forms.{longest}
 use Rattle.lines.specs.Reading.{callIn}
@@ -66,7 +67,7 @@ pub record Counts (p : Progress) (rs : List Record) : Type 0 where
 -- a progress with the receiver's memory m stands there
 pub record Works (p : Progress) (m : List ℕ) (s : Setting) (t : State s) (rs : List Record) : Type 0 where
   pub stage : p .stage ≡ Working
-  pub holds : Holds m s t
+  pub holds : HoldsWith m s allFlows t
   pub counts : Counts p rs
 
 abbrev pub Stands : Progress → (m : List ℕ) → Standing → Type 0

@@ -70,37 +70,33 @@ returns-4 c =
     (large-working (setting p) (omega (arith, c .before .working-size .ensures))))
 
 -- what opening said
-opening-said : (p : tie.After-open) → said (p .«open» .result) ≡ opening (some (setting (p .before .before .before .before .before))) room
+opening-said : (p : tie.After-open) → said (p .«open» .result) ≡ opening (some (setting (p .before .before .before .before .before .before))) room
 opening-said p =
-    p .«open» .ensures .answer ∙ ap (λ o. opening o (length (p .before .before .before .before .before .before .before .before .before .before .before
-    .before .before .before .before .before .args .mem .now))) (named (p .before .before .before .before .before))
-    ∙ ap (opening (some (setting (p .before .before .before .before .before)))) (p .before .before .before .before .before .before .before .before .before
-    .before .before .before .before .before .before .before .pre .1)
+    let q = p .before .before .before .before .before .before in
+    let start = q .before .before .before .before .before .before .before .before .before .before .before in
+    p .«open» .ensures .answer ∙ ap (λ o. opening o (length (start .args .mem .now))) (named q) ∙ ap (opening (some (setting q))) (start .pre .1)
 
 returns-5 : tie.Need-returns-5
 returns-5 c =
-    let p = c .before .before .before .before .before .before .before .before .before in
-    let h = open-refused _ _ (setting p) room (c .enum-told4 .given .1) (opening-said (c .before .before .before .before)) in
+    let o = c .before .before .before .before in
+    let p = o .before .before .before .before .before .before in
+    let h = open-refused _ _ (setting p) room (c .enum-told4 .given .1) (opening-said o) in
     opens-none _ (λ l k. not-fitting l _ _ _ (setting p) (values (p .before .before .before .before) l k) (named p) (large-memory (setting p) h))
 
 returns-6 : tie.Need-returns-6
 returns-6 c =
-    let p = c .before .before .before .before .before .before .before .before .before in
-    let (h, zero-said) = open-done _ _ (setting p) room (c .enum-told3 .given .1) (opening-said (c .before .before .before .before)) in
-    let w : workingSize (setting p) ≤ room = omega (
-      arith,
-      c .before .before .before .before .before .before .before .working-size .ensures,
-      c .before .before .before .before .before .before .if2 .left,
-    ) in
+    let o = c .before .before .before .before in
+    let e = o .before .before .before in
+    let p = e .before .before .before in
+    let (h, zero-said) = open-done _ _ (setting p) room (c .enum-told3 .given .1) (opening-said o) in
+    let w : workingSize (setting p) ≤ room = omega (arith, e .before .working-size .ensures, e .if2 .left) in
     opens _ (setting p)
     (λ l k. values (p .before .before .before .before) l k ∙ rw (
-      le-leb (length l) longest
-          (kept-short _ _ l k (c .before .before .before .before .before .before .before .before .before .before .before .before .before .before .before
-          .before .before .if1 .left)),
+      le-leb (length l) longest (kept-short _ _ l k (p .before .before .before .before .before .before .before .before .if1 .left)),
       named p,
       both-fit (setting p) h w,
     ))
-    (c .before .before .before .before .«open» .ensures .holds (setting p) (named p) zero-said)
+    (o .«open» .ensures .holds (setting p) (named p) zero-said)
 
 pub open-by-spec : {M : Type 1} → statement M
 open-by-spec =
