@@ -1,5 +1,5 @@
 // Prints the bench sheet of document 01, C1 to C12, as the code computes them: a line for each case, packets and symbols in hexadecimal.
-// C10 begins after a packet at ESI 0 (document 02, No. 2).
+// C10 begins after a packet at ESI 0 (document 02, No. 2). All flows are announced (No. 7).
 ghost use Rattle.words.specs.Words.{_≡_, length};
 
 mod receiving;
@@ -63,10 +63,10 @@ fn print_repair(answer: RepairAnswer, out: &[u8]) {
 }
 
 // The memory of a sender with E 4 and width 2, and room for its packets.
-fn memory_for_two() -> [u8; 40]
-    ensures { λ r. ⌜ length r ≡ 40 ⌝ }
+fn memory_for_two() -> [u8; 72]
+    ensures { λ r. ⌜ length r ≡ 72 ⌝ }
 {
-    [0; 40]
+    [0; 72]
 }
 
 fn output() -> [u8; 12]
@@ -103,7 +103,8 @@ fn coefficients_case(name: &[u8], n: usize, scheme: Scheme, dt: u8) {
 fn packets_case() {
     let mut mem = memory_for_two();
     let mut out = output();
-    sender::open(&mut mem, 9, 4, 2);
+    let announced = flows::all();
+    sender::open(&mut mem, 9, 4, 2, &announced);
     print(b"C7");
     let first = sender::add_adu(&mut mem, 1, b"\x41", &mut out);
     print_source(first, &out);
@@ -120,7 +121,8 @@ fn packets_case() {
 fn width_case() {
     let mut mem = memory_for_two();
     let mut out = output();
-    sender::open(&mut mem, 9, 4, 2);
+    let announced = flows::all();
+    sender::open(&mut mem, 9, 4, 2, &announced);
     print(b"C9");
     let taken = sender::add_adu(&mut mem, 1, b"\0\0\0\0\0", &mut out);
     print_source(taken, &out);

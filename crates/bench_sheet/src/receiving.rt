@@ -6,20 +6,21 @@ use report::show;
 use report::source;
 
 // The memory of a receiver of width 4, enough for the smaller widths too, and its working memory.
-fn receiver_memory() -> [u8; 116]
-    ensures { λ r. ⌜ length r ≡ 116 ⌝ }
+fn receiver_memory() -> [u8; 148]
+    ensures { λ r. ⌜ length r ≡ 148 ⌝ }
 {
-    [0; 116]
+    [0; 148]
 }
 
-fn working_memory() -> [u8; 129]
-    ensures { λ r. ⌜ length r ≡ 129 ⌝ }
+fn working_memory() -> [u8; 161]
+    ensures { λ r. ⌜ length r ≡ 161 ⌝ }
 {
-    [0; 129]
+    [0; 161]
 }
 
 fn open(mem: &mut [u8], width: usize) {
-    receiver::open(mem, 9, 4, width);
+    let announced = flows::all();
+    receiver::open(mem, 9, 4, width, &announced);
 }
 
 // Width 2: the first and the repair packet of C7, then symbol 1.

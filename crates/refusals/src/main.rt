@@ -1,6 +1,6 @@
 // Document 01's table of refusals ("Why a call says no"), line by line: what each small example answers. None is known for 10. Then cases of joining,
-// and of the ADU call: flow, length and output, or the refusal. The examples are a table on standard input, and a line of it is a step: its first
-// character says which, and the bytes after it are hexadecimal.
+// of the ADU call (flow, length and output, or the refusal), and of flows that are not announced (document 02, No. 7). The examples are a table on
+// standard input, and a line of it is a step: its first character says which, and the bytes after it are hexadecimal.
 //
 // =  prints the rest of the line           .  ends a printed line
 // m  lends so many bytes of the memory     z  makes all its bytes zero
@@ -10,6 +10,8 @@
 // a  adds an ADU with flow 1               k  makes repair with key 1: DT, count
 // p  receives a source packet with flow 1  q  receives a repair packet
 // y  shows the symbol with an ESI          h  hands out the ADU that begins at an ESI
+// f  announces a flow, and no other, from the next opening on
+// F  announces all flows from the next opening on, as at the beginning
 ghost use Rattle.words.specs.Words.{_≡_, _≤_, length};
 use libc::STDIN_FILENO;
 use report::print;
@@ -23,16 +25,16 @@ struct Sizes {
 }
 
 // The memory of a receiver of width 4, enough for the smaller widths and for a sender too; its working memory; and output.
-fn memory_for_four() -> [u8; 116]
-    ensures { λ r. ⌜ 116 ≡ length r ⌝ }
+fn memory_for_four() -> [u8; 148]
+    ensures { λ r. ⌜ 148 ≡ length r ⌝ }
 {
-    [0; 116]
+    [0; 148]
 }
 
-fn working_memory() -> [u8; 129]
-    ensures { λ r. ⌜ 129 ≡ length r ⌝ }
+fn working_memory() -> [u8; 161]
+    ensures { λ r. ⌜ 161 ≡ length r ⌝ }
 {
-    [0; 129]
+    [0; 161]
 }
 
 fn output() -> [u8; 12]
@@ -86,18 +88,18 @@ fn read_bytes(line: &[u8], args: &mut [u8; 16]) -> usize
 }
 
 // Opening an end.
-fn opens(step: u8, scheme: u8, size: u8, width: u8, mem: &mut [u8]) {
+fn opens(step: u8, scheme: u8, size: u8, width: u8, announced: &[u8; 32], mem: &mut [u8]) {
     let scheme = scheme as usize;
     let size = size as usize;
     let width = width as usize;
     match step {
-        b's' => report::print_answer(sender::open(mem, scheme, size, width)),
+        b's' => report::print_answer(sender::open(mem, scheme, size, width, announced)),
         b'S' => {
-            sender::open(mem, scheme, size, width);
+            sender::open(mem, scheme, size, width, announced);
         }
-        b'r' => report::print_answer(receiver::open(mem, scheme, size, width)),
+        b'r' => report::print_answer(receiver::open(mem, scheme, size, width, announced)),
         b'R' => {
-            receiver::open(mem, scheme, size, width);
+            receiver::open(mem, scheme, size, width, announced);
         }
         _ => {}
     }
@@ -138,10 +140,18 @@ fn asks(step: u8, dt: u8, count: u8, esi: u32, mem: &[u8], out: &mut [u8]) {
 }
 
 // The call that a step names, if it names one.
-fn call(step: u8, args: &[u8; 16], n: usize, mem: &mut [u8], work: &mut [u8], out: &mut [u8])
+fn call(
+    step: u8,
+    args: &[u8; 16],
+    n: usize,
+    announced: &[u8; 32],
+    mem: &mut [u8],
+    work: &mut [u8],
+    out: &mut [u8],
+)
     requires { ⌜ n ≤ 16 ⌝ }
 {
-    opens(step, args[0], args[1], args[2], mem);
+    opens(step, args[0], args[1], args[2], announced, mem);
     takes(step, args, n, mem, work, out);
     asks(step, args[0], args[1], esi_of(args), mem, out);
 }
@@ -152,6 +162,7 @@ fn call_on(
     args: &[u8; 16],
     n: usize,
     sizes: Sizes,
+    announced: &[u8; 32],
     mem: &mut [u8],
     work: &mut [u8],
     out: &mut [u8],
@@ -168,6 +179,7 @@ fn call_on(
                     step,
                     args,
                     n,
+                    announced,
                     &mut mem[0..m],
                     &mut work[0..w],
                     &mut out[0..o],
@@ -207,8 +219,29 @@ fn lends(step: u8, n: u8, sizes: Sizes, mem: &mut [u8], out: &mut [u8]) -> Sizes
     }
 }
 
+// The flows that are announced after a step.
+fn announces(step: u8, flow: u8, announced: &mut [u8; 32]) {
+    match step {
+        b'f' => {
+            memory::fill(announced, 0);
+            flows::announce(announced, flow);
+        }
+        b'F' => {
+            flows::announce_all(announced);
+        }
+        _ => {}
+    }
+}
+
 // A line of the table.
-fn take_step(line: &[u8], sizes: Sizes, mem: &mut [u8], work: &mut [u8], out: &mut [u8]) -> Sizes {
+fn take_step(
+    line: &[u8],
+    sizes: Sizes,
+    announced: &mut [u8; 32],
+    mem: &mut [u8],
+    work: &mut [u8],
+    out: &mut [u8],
+) -> Sizes {
     if line.len() == 0 {
         return sizes;
     }
@@ -223,7 +256,8 @@ fn take_step(line: &[u8], sizes: Sizes, mem: &mut [u8], work: &mut [u8], out: &m
     }
     let mut args = [0u8; 16];
     let n = read_bytes(line, &mut args);
-    call_on(step, &args, n, sizes, mem, work, out);
+    call_on(step, &args, n, sizes, announced, mem, work, out);
+    announces(step, args[0], announced);
     lends(step, args[0], sizes, mem, out)
 }
 
@@ -241,28 +275,48 @@ fn end_from(table: &[u8], at: usize) -> usize
 }
 
 // All lines of the table.
-fn take_all(table: &[u8], mem: &mut [u8], work: &mut [u8], out: &mut [u8]) {
+fn take_all(
+    table: &[u8],
+    announced: &mut [u8; 32],
+    mem: &mut [u8],
+    work: &mut [u8],
+    out: &mut [u8],
+) {
     let mut sizes = Sizes {
-        mem: 116,
-        work: 129,
+        mem: 148,
+        work: 161,
         out: 12,
     };
     let mut at: usize = 0;
     while at < table.len() {
         let end = end_from(table, at);
-        let next = take_step(memory::part(table, at, end - at), sizes, mem, work, out);
+        let next = take_step(
+            memory::part(table, at, end - at),
+            sizes,
+            announced,
+            mem,
+            work,
+            out,
+        );
         sizes = next;
         at = end + 1;
     }
 }
 
 fn main() {
+    let mut announced = flows::all();
     let mut mem = memory_for_four();
     let mut work = working_memory();
     let mut out = output();
     let mut table = io::large_buffer();
     let n = io::read_full(STDIN_FILENO, &mut table);
     if n <= 65536 {
-        take_all(memory::part(&table, 0, n), &mut mem, &mut work, &mut out);
+        take_all(
+            memory::part(&table, 0, n),
+            &mut announced,
+            &mut mem,
+            &mut work,
+            &mut out,
+        );
     }
 }

@@ -1,5 +1,6 @@
 -- The bench sheet of document 01 (C1 to C12, C10 as document 02 has it), the small examples of its refusals, cases at the limits of place and density,
--- of joining, of starts and of the ADU call, computed from the definitions that the promises use, from the packets' bytes on: one table, one result.
+-- of joining, of starts and of the ADU call, computed from the definitions that the promises use, from the packets' bytes on: one table, one result. All
+-- flows are announced throughout (document 02, No. 7).
 use Rattle.words.specs.Words.{_≡_, ℕ, List, refl, [], some, _∷_, none, _*_, Option, map}
 use Rattle.tinymt.specs.Computing.{computing}
 use Rattle.field.specs.Gf256.{product}
@@ -10,8 +11,10 @@ use Rattle.wire.specs.declared.Scheme.the-variants.{Gf2, Gf256}
 use Rattle.wire.specs.declared.Setting.{Setting}
 use Rattle.wire.specs.Settings.{inRange, settingOf}
 use Rattle.wire.specs.Stored.{field, settingIn}
+use Rattle.wire.specs.Flows.{announced}
 use Rattle.wire.specs.Packets.{zeros, symbolCount, adui, sourceSymbols, sourcePacket, sourceForm, sourceAdu, sourceEsi, repairHeader, repairPacket, repairCount}
 use Rattle.wire.specs.Packets.{repairForm, repairKey, densityThreshold, protectedCount, firstEsi, repairSymbols}
+use Rattle.flows.specs.Promises.{allFlows}
 use Rattle.coefficients.specs.Coefficients.{nonzeroFrom, bitOf, byteOf, extend, coefficientsOf, packetDraws}
 use Rattle.sender.specs.declared.Header.{Header}
 use Rattle.sender.specs.State.{Sender, fresh, headerSize, headerIn}
@@ -56,7 +59,7 @@ line (refused n) = refusal n
 line (done p s) = packet p
 
 abbrev after : Outcome → Sender
-after (refused n) = fresh (record { scheme = Gf2; size = 0; width = 0 })
+after (refused n) = fresh (record { scheme = Gf2; size = 0; width = 0 }) []
 after (done p s) = s
 
 -- a call on memory without a sender's header
@@ -66,7 +69,7 @@ headed (some h) = packet []
 
 -- scheme 9, E 4, width 2, and the two ADUs of C7 with F 1
 abbrev opened : Sender
-opened = after (opening 9 4 2 40)
+opened = after (opening 9 4 2 allFlows 72)
 
 abbrev first : Outcome
 first = adding opened 1 (0x41 ∷ []) 5
@@ -84,14 +87,14 @@ module _ (s : Setting) where
   -- the calls of a list from a fresh receiver, and what is shown for some ESIs after them
   abbrev case : List Call → List ℕ → Line
   case cs es =
-      let a = called s (begun s) cs in
+      let a = called s allFlows (begun s) cs in
       received (a .answers) (map (λ e. seen (finding s (a .state) e)) es)
 
   -- the calls of a list from a fresh receiver, and what is handed out after them
   abbrev handing-case : List Call → List Ask → Line
   handing-case cs asks =
-      let a = called s (begun s) cs in
-      handed (a .answers) (map (λ (q : Ask). aduAt s (a .state) (a .marks) (q .room) (q .esi)) asks)
+      let a = called s allFlows (begun s) cs in
+      handed (a .answers) (map (λ (q : Ask). aduAt s allFlows (a .state) (a .marks) (q .room) (q .esi)) asks)
 
 -- scheme 9 and scheme 10, E 4
 abbrev gf2 : ℕ → Setting
@@ -198,14 +201,14 @@ pub bench :
     -- C12
     ∷ case (gf2 4) (repair-of 2 3 ∷ repair-of 4 4 ∷ adu 0x45 4 ∷ adu 0x46 5 ∷ adu 0x44 3 ∷ []) (2 ∷ [])
     -- refusal 1: E = 3; 2: output of 0 bytes for a 1-byte ADU; 3: 100 zero bytes; 4 is C9's; 6: DT 16; 7: repair straight after opening
-    ∷ line (opening 9 3 2 40) ∷ line (adding opened 1 (0x41 ∷ []) 0) ∷ headed (headerIn (zeros 100))
+    ∷ line (opening 9 3 2 allFlows 72) ∷ line (adding opened 1 (0x41 ∷ []) 0) ∷ headed (headerIn (zeros 100))
     ∷ line (repairing opened 1 16 1 12) ∷ line (repairing opened 1 15 1 12)
     -- the receiver's refusals 4; 5, of both packets; 6, of NSS 0 and of NSS over the width; 8 and 9, with base 0; 11, of two unlike repair symbols
     ∷ case (gf2 2) (long ∷ []) [] ∷ case (gf2 2) (short-source ∷ short-repair ∷ []) [] ∷ case (gf2 2) (repair-of 0 0 ∷ repair-of 3 0 ∷ []) []
     ∷ case (gf2 2) (at-zero ∷ empty-at 0xFF 0xFF 0xFF 0xFF ∷ empty-at 0 1 0 0 ∷ []) [] ∷ case (gf2 2) (repair-of 2 3 ∷ unlike ∷ []) []
     -- a receiver's opening, with the least memory that it needs and one byte less, at the smallest and the largest E and width; 1 before 2
-    ∷ received (opens (settingOf 9 4 1) 74 ∷ opens (settingOf 9 4 1) 73 ∷ []) []
-    ∷ received (opens (settingOf 10 1500 255) 448864 ∷ opens (settingOf 10 1500 255) 448863 ∷ opens (settingOf 10 1501 255) 0 ∷ []) []
+    ∷ received (opens (settingOf 9 4 1) 106 ∷ opens (settingOf 9 4 1) 105 ∷ []) []
+    ∷ received (opens (settingOf 10 1500 255) 448896 ∷ opens (settingOf 10 1500 255) 448895 ∷ opens (settingOf 10 1501 255) 0 ∷ []) []
     -- the symbol call before any base
     ∷ case (gf2 2) [] (0 ∷ 2 ∷ 2147483647 ∷ 2147483648 ∷ 4294967295 ∷ [])
     -- the symbol call with base 0: unknown, past the window, the last ESI ahead, the first behind, the last
@@ -316,7 +319,7 @@ unfolding
     symbolCount adui sourceSymbols sourcePacket sourceForm sourceAdu sourceEsi
     repairHeader repairPacket repairCount repairForm repairKey densityThreshold protectedCount firstEsi repairSymbols
     inRange settingOf field part settingIn headerSize headerIn repairSymbol opening adding repairing
-    halfway sideOf check farthest fromSide readSource readRepair reading answering finding
+    halfway sideOf check farthest fromSide announced readSource readRepair reading answering finding
     packets.source packets.source-rows packets.row packets.only packets.repair
     decoder.empty decoder.receive decoder.rise decoder.newly decoder.count-new decoder.is-new
     decoder.embed decoder.advance-by decoder.insert-all

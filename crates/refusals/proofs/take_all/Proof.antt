@@ -4,11 +4,11 @@ use Rattle.refusals.proofs.take_all.Statement.{statement}
 use Rattle.refusals.proofs.take_all.Tie as tie
 
 abbrev Inv-loop : tie.InvT-loop
-Inv-loop table mem₀ work₀ out₀ sizes₀ at₀ mem work out sizes at =
+Inv-loop table announced₀ mem₀ work₀ out₀ sizes₀ at₀ announced mem work out sizes at =
     (length mem ≡ length mem₀) × (length work ≡ length work₀) × (length out ≡ length out₀)
 
 abbrev μ-loop : tie.MeasureT-loop
-μ-loop table mem₀ work₀ out₀ sizes₀ at₀ mem work out sizes at = length table - at
+μ-loop table announced₀ mem₀ work₀ out₀ sizes₀ at₀ announced mem work out sizes at = length table - at
 
 pub take-all-spec : {M : Type 1} → statement M
 take-all-spec =
