@@ -3,14 +3,22 @@
  * Link with libcapi.a. Document 01 is the specification; its words are used here: E is the number of bytes in a symbol, the width is the number of
  * symbols in the window at that end, an ESI numbers source symbols and a key repair symbols.
  *
- * Answers. Each function answers a value, 0 or more, or minus the number of a refusal (enum rlc_refusal). Where several refusals apply, the answer is
- * the first in the order in which the function's comment lists them. A refusal changes nothing but working memory.
+ * Answers. Each function, but for the two that announce flows, answers a value, 0 or more, or minus the number of a refusal (enum rlc_refusal). Where
+ * several refusals apply, the answer is the first in the order in which the function's comment lists them. A refusal changes nothing but working memory.
  * rlc_sender_make_repair, rlc_receive_source and rlc_receive_repair answer two numbers in one, value + 4,294,967,296 x draws, which rlc_value and
  * rlc_draws take apart; the value is at most 65,535, whatever the memory holds. The draws are the rand16 and rand256 draws that the packet's coefficients
  * took, added up over its repair symbols, without the eight steps of the generator's start: 0 for a source packet, 0 in scheme 9 at DT 15, at most
  * 69,360 (16 lists of 255 coefficients, each at most 17 draws). Ends of the same scheme and E answer the same
  * draws for the same packet. A refusal tells no draws.
  * rlc_symbol answers 0, plus 4,294,967,296 for a symbol that was heard, which rlc_heard tells.
+ *
+ * Flows. Each ADU has a flow, 0 to 255. An end announces the flows that it is opened with: 256 yes or no values in RLC_FLOWS bytes, flow F being bit
+ * F mod 8, lowest first, of byte F div 8. All zero they announce none; rlc_announce and rlc_announce_all set them. They are read during the opening
+ * alone: the end's memory keeps a copy, which only another opening changes. Checked are the ADUs that are given to a sender and the source packets that
+ * come to a receiver: one whose flow that end does not announce is refused (RLC_UNANNOUNCED), so that it takes no ESI and, be it the first, begins no
+ * window. Repair packets are not checked: their symbols are sums, over ADUs of any flows. So a receiver may solve an ADU whose flow it does not
+ * announce and its sender does. Then the ADU's symbols are shown and counted like all others, and the start of the ADU after it is found; but rlc_adu
+ * withholds the ADU itself (RLC_UNANNOUNCED).
  *
  * Memory. An end, a sender or a receiver, lives in one piece of memory that the caller owns: bytes with no alignment, which can be copied or moved
  * between calls and are freed by the caller, with nothing to close. Ask for its size, open it once, then lend the same bytes to each call, as the last
@@ -22,10 +30,10 @@
  *
  * What is asked of the caller. A pointer and the length after it are a slice: that many bytes, all of which the process can read and, where the
  * pointer is not to const, write. The pointer is not NULL, even where the length is 0; then it is not followed. Where a slice is written, it overlaps no
- * other slice of the call, and nobody else reads or writes it during the call; nobody writes the others. The one pointer without a length, remainder of
- * rlc_dw_max_size, is not NULL and points to a uint64_t, aligned as such, that nobody else reads or writes during the call. All else is checked: every
- * value of every number is allowed, and so are any bytes in any slice, memory that was never opened or was changed by others among them: a call then
- * still ends, stays within its slices (and *remainder) and answers.
+ * other slice of the call, and nobody else reads or writes it during the call; nobody writes the others. Two pointers have no length after them: flows is
+ * a slice of RLC_FLOWS bytes, always; remainder of rlc_dw_max_size is not NULL and points to a uint64_t, aligned as such, that nobody else reads or writes
+ * during the call. All else is checked: every value of every number is allowed, and so are any bytes in any slice, memory that was never opened or was
+ * changed by others among them: a call then still ends, stays within its slices (and *remainder) and answers.
  */
 #ifndef RLC8681_H
 #define RLC8681_H
@@ -37,7 +45,8 @@
 extern "C" {
 #endif
 
-/* Why a call says no. A refusal is minus its number: compare -answer with these (minus a variable of this type is no int64_t). */
+/* Why a call says no. A refusal is minus its number: compare -answer with these (minus a variable of this type is no int64_t).
+ * No call answers -15. */
 enum rlc_refusal {
     RLC_VALUES = 1,         /* scheme, E, width, latency budget or bitrate outside its values */
     RLC_SHORT = 2,          /* memory for opening, working memory or output too short */
@@ -52,7 +61,8 @@ enum rlc_refusal {
     RLC_CONTRADICTION = 11, /* contradiction with the packets accepted before */
     RLC_UNKNOWN = 12,       /* not known, past the window, or no window yet */
     RLC_NO_START = 13,      /* no start */
-    RLC_PADDING = 14        /* ADUI needs more than the width, or padding not zero */
+    RLC_PADDING = 14,       /* ADUI needs more than the width, or padding not zero */
+    RLC_UNANNOUNCED = 16    /* flow not announced */
 };
 
 /* The value in an answer of these three, and the draws beside it: 0 where the answer is a refusal. */
@@ -62,9 +72,21 @@ static inline uint32_t rlc_draws(int64_t answer) { return answer < 0 ? 0 : (uint
 /* Whether an answer of rlc_symbol tells of a symbol that was heard: 1; 0 where it was solved, or where the answer is a refusal. */
 static inline int rlc_heard(int64_t answer) { return answer >= INT64_C(4294967296); }
 
+/* How many bytes say which flows are announced. */
+#define RLC_FLOWS 32
+
 /*
- * The bytes of memory that a sender, a receiver, and a receiver's packet calls need, in either scheme: 32 + width x E,
- * 64 + width x (width + E + 4) + width, and 64 + (width + 1) x (width + E + 4) + (width + 1).
+ * Set the bytes that say which flows are announced: the first announces one flow more and leaves the others as they were, the second announces all 256.
+ * For some flows only, begin with bytes that are all zero:
+ *     uint8_t flows[RLC_FLOWS] = {0};
+ *     rlc_announce(flows, 1);
+ */
+void rlc_announce(uint8_t flows[RLC_FLOWS], uint8_t flow);
+void rlc_announce_all(uint8_t flows[RLC_FLOWS]);
+
+/*
+ * The bytes of memory that a sender, a receiver, and a receiver's packet calls need, in either scheme: 64 + width x E,
+ * 96 + width x (width + E + 4) + width, and 96 + (width + 1) x (width + E + 4) + (width + 1).
  * Refusal: RLC_VALUES where symbol_size (E) is not 4 to 1500 or width not 1 to 255.
  */
 int64_t rlc_sender_memory(uint32_t symbol_size, uint32_t width);
@@ -83,15 +105,16 @@ int64_t rlc_working_memory(uint32_t symbol_size, uint32_t width);
 int64_t rlc_dw_max_size(uint64_t budget, uint64_t bitrate, uint32_t symbol_size, uint64_t *remainder);
 
 /*
- * Opens a sender in memory, whatever it held. Scheme is 9 or 10. Answers 0.
+ * Opens a sender in memory, whatever it held. Scheme is 9 or 10; flows are those that it announces. Answers 0.
  * Refusals: RLC_VALUES, RLC_SHORT (memory).
  */
-int64_t rlc_sender_open(uint8_t *memory, size_t memory_length, uint32_t scheme, uint32_t symbol_size, uint32_t width);
+int64_t rlc_sender_open(uint8_t *memory, size_t memory_length, uint32_t scheme, uint32_t symbol_size, uint32_t width,
+                        const uint8_t flows[RLC_FLOWS]);
 
 /*
  * Takes an ADU of a flow: its symbols join the window, the oldest leaving past the width, and its source packet, the ADU and then 4 bytes of ESI, is
  * written at the front of out. The flow travels beside the packet. Answers the number of bytes written, adu_length + 4.
- * Refusals: RLC_UNOPENED, RLC_LONG, RLC_SHORT (out).
+ * Refusals: RLC_UNOPENED, RLC_UNANNOUNCED, RLC_LONG, RLC_SHORT (out).
  */
 int64_t rlc_sender_add_adu(uint8_t *memory, size_t memory_length, uint8_t flow, const uint8_t *adu, size_t adu_length,
                            uint8_t *out, size_t out_length);
@@ -106,17 +129,19 @@ int64_t rlc_sender_make_repair(const uint8_t *memory, size_t memory_length, uint
                                uint8_t *out, size_t out_length);
 
 /*
- * Opens a receiver in memory, whatever it held. Scheme and E are the sender's; the width is the receiver's own. Answers 0.
+ * Opens a receiver in memory, whatever it held. Scheme and E are the sender's; the width and the flows, those that it announces, are the receiver's own.
+ * Answers 0.
  * The receiver has no window yet, and can join a stream anywhere: the first packet that it accepts begins its window, at the first ESI that the packet
  * names. Until then no packet is RLC_BEHIND or RLC_AHEAD, and every symbol and ADU is RLC_UNKNOWN; then symbols before that ESI are RLC_BEHIND.
  * Refusals: RLC_VALUES, RLC_SHORT (memory).
  */
-int64_t rlc_receiver_open(uint8_t *memory, size_t memory_length, uint32_t scheme, uint32_t symbol_size, uint32_t width);
+int64_t rlc_receiver_open(uint8_t *memory, size_t memory_length, uint32_t scheme, uint32_t symbol_size, uint32_t width,
+                          const uint8_t flows[RLC_FLOWS]);
 
 /*
  * Receives a source packet that came with a flow. Answers how many positions of the window became known, at most the width; its draws
  * are 0.
- * Refusals: RLC_UNOPENED, RLC_SHORT (work), RLC_FORM, RLC_LONG, RLC_BEHIND, RLC_AHEAD, RLC_CONTRADICTION.
+ * Refusals: RLC_UNOPENED, RLC_SHORT (work), RLC_FORM, RLC_UNANNOUNCED, RLC_LONG, RLC_BEHIND, RLC_AHEAD, RLC_CONTRADICTION.
  */
 int64_t rlc_receive_source(uint8_t *memory, size_t memory_length, uint8_t *work, size_t work_length, uint8_t flow,
                            const uint8_t *packet, size_t packet_length);
@@ -153,7 +178,7 @@ int64_t rlc_symbol_place(const uint8_t *memory, size_t memory_length, uint32_t e
  * symbol, once known: before the first source packet accepted, nothing is handed out.
  * RLC_BEHIND says that the ESI is before the window, which only moves on; RLC_UNKNOWN and RLC_NO_START may be answered otherwise after a later packet.
  * Refusals: RLC_UNOPENED, RLC_UNKNOWN (no window yet), RLC_BEHIND, RLC_UNKNOWN (past the window), RLC_NO_START, RLC_UNKNOWN (first symbol),
- * RLC_PADDING (more symbols than the width), RLC_UNKNOWN (another symbol), RLC_PADDING (padding not zero), RLC_SHORT (out).
+ * RLC_PADDING (more symbols than the width), RLC_UNKNOWN (another symbol), RLC_PADDING (padding not zero), RLC_UNANNOUNCED, RLC_SHORT (out).
  */
 int64_t rlc_adu(const uint8_t *memory, size_t memory_length, uint32_t esi, uint8_t *out, size_t out_length);
 

@@ -117,8 +117,9 @@ pub extern "C" fn bench_sender_open(
     scheme: usize,
     size: usize,
     width: usize,
+    flows: &[u8; 32],
 ) -> usize {
-    answered(sender::open(mem, scheme, size, width))
+    answered(sender::open(mem, scheme, size, width, flows))
 }
 
 #[no_mangle]
@@ -153,8 +154,9 @@ pub extern "C" fn bench_receiver_open(
     scheme: usize,
     size: usize,
     width: usize,
+    flows: &[u8; 32],
 ) -> usize {
-    answered(receiver::open(mem, scheme, size, width))
+    answered(receiver::open(mem, scheme, size, width, flows))
 }
 
 #[no_mangle]

@@ -1,7 +1,9 @@
-// The calls of sender and receiver, and that for the window, under C names (include/rlc8681.h): each takes numbers and slices, that one a number to
-// write, and answers one signed number. What a function promises is the promise of the call that it wraps, of the answer that its number codes.
+// The calls of sender and receiver, that for the window, and those that announce flows, under C names (include/rlc8681.h): each takes numbers, slices and
+// the 32 bytes of the flows, that for the window a number to write, and answers one signed number; those that announce flows answer nothing. What a
+// function promises is the promise of the call that it wraps, of the answer that its number codes.
 ghost use Rattle.words.specs.Words.{_≡_};
 ghost use Rattle.latency.specs.Promises.{WindowAnswered};
+ghost use Rattle.flows.specs.Promises.{Announces, AnnouncesAll};
 ghost use Rattle.sender.specs.Promises.{Opens, Adds, RepairMade};
 ghost use Rattle.history.specs.History.{source-call, repair-call};
 ghost use Rattle.wire.specs.Answers.{said};
@@ -45,10 +47,36 @@ pub extern "C" fn rlc_dw_max_size(budget: u64, bitrate: u64, size: u32, remainde
 }
 
 #[no_mangle]
-pub extern "C" fn rlc_sender_open(memory: &mut [u8], scheme: u32, size: u32, width: u32) -> i64
-    ensures { λ r. ⌜ Codes said (λ a. Opens scheme size width (now (memory .entry)) a (now (memory .exit))) r ⌝ }
+pub extern "C" fn rlc_announce(flows: &mut [u8; 32], flow: u8)
+    ensures { λ _. ⌜ Announces flow (now (flows .entry)) (now (flows .exit)) ⌝ }
 {
-    coding::coded_answer(sender::open(memory, scheme as usize, size as usize, width as usize))
+    flows::announce(flows, flow);
+}
+
+#[no_mangle]
+pub extern "C" fn rlc_announce_all(flows: &mut [u8; 32])
+    ensures { λ _. ⌜ AnnouncesAll (now (flows .exit)) ⌝ }
+{
+    flows::announce_all(flows);
+}
+
+#[no_mangle]
+pub extern "C" fn rlc_sender_open(
+    memory: &mut [u8],
+    scheme: u32,
+    size: u32,
+    width: u32,
+    flows: &[u8; 32],
+) -> i64
+    ensures { λ r. ⌜ Codes said (λ a. Opens scheme size width (now (flows .entry)) (now (memory .entry)) a (now (memory .exit))) r ⌝ }
+{
+    coding::coded_answer(sender::open(
+        memory,
+        scheme as usize,
+        size as usize,
+        width as usize,
+        flows,
+    ))
 }
 
 #[no_mangle]
@@ -79,10 +107,23 @@ pub extern "C" fn rlc_sender_make_repair(
 }
 
 #[no_mangle]
-pub extern "C" fn rlc_receiver_open(memory: &mut [u8], scheme: u32, size: u32, width: u32) -> i64
-    ensures { λ r. ⌜ Codes said (Opened receiverLayout scheme size width (now (memory .entry)) (now (memory .exit))) r ⌝ }
+pub extern "C" fn rlc_receiver_open(
+    memory: &mut [u8],
+    scheme: u32,
+    size: u32,
+    width: u32,
+    flows: &[u8; 32],
+) -> i64
+    ensures { λ r. ⌜ Codes said
+        (Opened receiverLayout scheme size width (now (flows .entry)) (now (memory .entry)) (now (memory .exit))) r ⌝ }
 {
-    coding::coded_answer(receiver::open(memory, scheme as usize, size as usize, width as usize))
+    coding::coded_answer(receiver::open(
+        memory,
+        scheme as usize,
+        size as usize,
+        width as usize,
+        flows,
+    ))
 }
 
 #[no_mangle]
