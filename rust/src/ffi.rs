@@ -1,6 +1,6 @@
 //! The C interface of the proved library. Each call answers its value, 0 or more, or minus a refusal's number; beside the value of
 //! `rlc_sender_make_repair`, `rlc_receive_source` and `rlc_receive_repair` stand the draws, times 2^32, and beside that of `rlc_symbol`
-//! 2^32 for a symbol that was heard.
+//! 2^32 for a symbol that was heard. `flows` are 32 bytes; the two calls that set them answer nothing.
 
 extern "C" {
     pub fn rlc_sender_memory(symbol_size: u32, width: u32) -> i64;
@@ -9,7 +9,10 @@ extern "C" {
 
     pub fn rlc_dw_max_size(budget: u64, bitrate: u64, symbol_size: u32, remainder: *mut u64) -> i64;
 
-    pub fn rlc_sender_open(memory: *mut u8, memory_len: usize, scheme: u32, symbol_size: u32, width: u32) -> i64;
+    pub fn rlc_announce(flows: *mut u8, flow: u8);
+    pub fn rlc_announce_all(flows: *mut u8);
+
+    pub fn rlc_sender_open(memory: *mut u8, memory_len: usize, scheme: u32, symbol_size: u32, width: u32, flows: *const u8) -> i64;
     pub fn rlc_sender_add_adu(
         memory: *mut u8,
         memory_len: usize,
@@ -22,7 +25,7 @@ extern "C" {
     pub fn rlc_sender_make_repair(memory: *const u8, memory_len: usize, key: u16, dt: u32, count: u32, out: *mut u8, out_len: usize)
         -> i64;
 
-    pub fn rlc_receiver_open(memory: *mut u8, memory_len: usize, scheme: u32, symbol_size: u32, width: u32) -> i64;
+    pub fn rlc_receiver_open(memory: *mut u8, memory_len: usize, scheme: u32, symbol_size: u32, width: u32, flows: *const u8) -> i64;
     pub fn rlc_receive_source(
         memory: *mut u8,
         memory_len: usize,

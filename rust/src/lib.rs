@@ -5,14 +5,16 @@
 //! last `width` symbols. A [`Receiver`] takes source and repair packets in any order, with losses and repeats, and shows every symbol of
 //! its window that the packets determine, and which of them it heard and which it solved ([`Origin`]); it can join a running stream, at the
 //! first packet that it accepts. All working is exact: what it shows is what the packets imply, and a packet that contradicts them is
-//! refused. [`dw_max_size`] tells how wide a window may be under a latency budget.
+//! refused. Each end announces the flows that it is for ([`Flows`]), and refuses ADUs and source packets of others. [`dw_max_size`] tells how
+//! wide a window may be under a latency budget.
 //!
 //! ```
-//! use rlc8681::{Receiver, Scheme, Sender};
+//! use rlc8681::{Flows, Receiver, Scheme, Sender};
 //!
 //! # fn main() -> Result<(), rlc8681::Refusal> {
-//! let mut sender = Sender::open(Scheme::Gf256, 64, 8)?;
-//! let mut receiver = Receiver::open(Scheme::Gf256, 64, 8)?;
+//! let flows = Flows::only(&[1]);
+//! let mut sender = Sender::open(Scheme::Gf256, 64, 8, &flows)?;
+//! let mut receiver = Receiver::open(Scheme::Gf256, 64, 8, &flows)?;
 //! let mut packet = [0; 200];
 //!
 //! let n = sender.add_adu(1, b"first", &mut packet)?;
@@ -30,11 +32,13 @@
 #![deny(missing_docs)]
 
 mod ffi;
+mod flows;
 mod latency;
 mod receiver;
 mod refusal;
 mod sender;
 
+pub use flows::Flows;
 pub use latency::{dw_max_size, WindowSize};
 pub use receiver::{Adu, Origin, Received, Receiver};
 pub use refusal::Refusal;

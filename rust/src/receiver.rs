@@ -1,14 +1,14 @@
-use crate::{answer, answer_in_two, ffi, memory_of, Refusal, Scheme};
+use crate::{answer, answer_in_two, ffi, memory_of, Flows, Refusal, Scheme};
 use std::fmt;
 
-/// The receiving end. It owns 64 + width × (width + symbol size + 5) bytes of memory, and working memory of one row more;
+/// The receiving end. It owns 96 + width × (width + symbol size + 5) bytes of memory, and working memory of one row more;
 /// a clone goes on by itself from the same history.
 ///
 /// ```
-/// use rlc8681::{Receiver, Refusal, Scheme};
+/// use rlc8681::{Flows, Receiver, Refusal, Scheme};
 ///
 /// # fn main() -> Result<(), Refusal> {
-/// let mut receiver = Receiver::open(Scheme::Gf2, 4, 2)?;
+/// let mut receiver = Receiver::open(Scheme::Gf2, 4, 2, &Flows::all())?;
 /// assert_eq!(receiver.receive_source(1, &[0x41, 0, 0, 0, 0])?.known, 1);
 /// assert_eq!(receiver.symbol(1), Err(Refusal::Unknown));
 /// assert_eq!(receiver.receive_repair(&[0, 0, 0xf0, 2, 0, 0, 0, 0, 0, 0, 0, 3])?.known, 1);
@@ -55,21 +55,22 @@ pub struct Adu<'a> {
 }
 
 impl Receiver {
-    /// A receiver that can join a stream anywhere: the first packet that it accepts begins its window, at the first ESI that the packet
-    /// names. Until then there is no window, and every symbol is [`Refusal::Unknown`]. Symbols have 4 to 1,500 bytes, the window 1 to 255
-    /// symbols; the scheme and the symbol size are the sender's.
+    /// A receiver, for source packets of these flows, that can join a stream anywhere: the first packet that it accepts begins its window, at
+    /// the first ESI that the packet names. Until then there is no window, and every symbol is [`Refusal::Unknown`]. Symbols have 4 to 1,500
+    /// bytes, the window 1 to 255 symbols; the scheme and the symbol size are the sender's.
     ///
     /// # Errors
     ///
     /// [`Refusal::Values`] for a symbol size or width outside its values.
     ///
     /// ```
-    /// use rlc8681::{Receiver, Refusal, Scheme};
+    /// use rlc8681::{Flows, Receiver, Refusal, Scheme};
     /// # fn main() -> Result<(), Refusal> {
-    /// assert_eq!(Receiver::open(Scheme::Gf256, 1400, 256).err(), Some(Refusal::Values));
+    /// assert_eq!(Receiver::open(Scheme::Gf256, 1400, 256, &Flows::all()).err(), Some(Refusal::Values));
     ///
-    /// let mut receiver = Receiver::open(Scheme::Gf256, 1400, 64)?;
+    /// let mut receiver = Receiver::open(Scheme::Gf256, 1400, 64, &Flows::only(&[1]))?;
     /// assert_eq!(receiver.symbol(4_100_000), Err(Refusal::Unknown));
+    /// assert_eq!(receiver.receive_source(2, b"stray\0\0\0\0"), Err(Refusal::Unannounced));
     /// let esi = 4_100_000u32.to_be_bytes();
     /// assert_eq!(receiver.receive_source(1, &[b"ADU", &esi[..]].concat())?.known, 1);
     /// assert!(receiver.symbol(4_100_000).is_ok());
@@ -77,13 +78,14 @@ impl Receiver {
     /// # Ok(())
     /// # }
     /// ```
-    pub fn open(scheme: Scheme, symbol_size: u32, width: u32) -> Result<Receiver, Refusal> {
+    pub fn open(scheme: Scheme, symbol_size: u32, width: u32, flows: &Flows) -> Result<Receiver, Refusal> {
         // SAFETY: both calls take numbers only.
         let (state, work) = unsafe { (ffi::rlc_receiver_memory(symbol_size, width), ffi::rlc_working_memory(symbol_size, width)) };
         let mut memory = memory_of(state)?;
         let work = memory_of(work)?;
-        // SAFETY: pointer and length are those of a slice that is borrowed for the call alone.
-        answer(unsafe { ffi::rlc_receiver_open(memory.as_mut_ptr(), memory.len(), u32::from(scheme.number()), symbol_size, width) })?;
+        let number = u32::from(scheme.number());
+        // SAFETY: pointer and length are those of a slice that is borrowed for the call alone, as are the 32 bytes of the flows, apart from it.
+        answer(unsafe { ffi::rlc_receiver_open(memory.as_mut_ptr(), memory.len(), number, symbol_size, width, flows.as_ptr()) })?;
         Ok(Receiver { memory, work, scheme, symbol_size, width })
     }
 
@@ -91,8 +93,8 @@ impl Receiver {
     ///
     /// # Errors
     ///
-    /// In this order: [`Refusal::Form`], [`Refusal::Long`], [`Refusal::Behind`], [`Refusal::Ahead`], [`Refusal::Contradiction`]. While no
-    /// packet was accepted, none is behind or ahead.
+    /// In this order: [`Refusal::Form`], [`Refusal::Unannounced`], [`Refusal::Long`], [`Refusal::Behind`], [`Refusal::Ahead`],
+    /// [`Refusal::Contradiction`]. While no packet was accepted, none is behind or ahead.
     pub fn receive_source(&mut self, flow: u8, packet: &[u8]) -> Result<Received, Refusal> {
         // SAFETY: pointers and lengths are those of slices that are borrowed for the call alone; the two mutable ones are apart.
         answer_in_two(unsafe {
@@ -117,13 +119,13 @@ impl Receiver {
     /// [`Refusal::Contradiction`]. While no packet was accepted, none is behind or ahead.
     ///
     /// ```
-    /// use rlc8681::{Received, Receiver, Refusal, Scheme};
+    /// use rlc8681::{Flows, Received, Receiver, Refusal, Scheme};
     /// # fn main() -> Result<(), Refusal> {
     /// // One coefficient at density threshold 4: its rand16 draw makes it zero, so that no symbol becomes known.
-    /// let mut receiver = Receiver::open(Scheme::Gf256, 4, 2)?;
+    /// let mut receiver = Receiver::open(Scheme::Gf256, 4, 2, &Flows::all())?;
     /// assert_eq!(receiver.receive_repair(&[0, 1, 0x40, 1, 0, 0, 0, 0, 0, 0, 0, 0]), Ok(Received { known: 0, draws: 1 }));
     ///
-    /// let mut receiver = Receiver::open(Scheme::Gf2, 4, 2)?;
+    /// let mut receiver = Receiver::open(Scheme::Gf2, 4, 2, &Flows::all())?;
     /// // Both repair symbols are the sum of the same two symbols, and they differ.
     /// let unlike = [0, 0, 0xf0, 2, 0, 0, 0, 0, 0, 0, 0, 3, 0, 0, 0, 4];
     /// assert_eq!(receiver.receive_repair(&unlike), Err(Refusal::Contradiction));
@@ -165,9 +167,9 @@ impl Receiver {
     /// Those of [`Receiver::symbol`].
     ///
     /// ```
-    /// use rlc8681::{Origin, Receiver, Refusal, Scheme};
+    /// use rlc8681::{Flows, Origin, Receiver, Refusal, Scheme};
     /// # fn main() -> Result<(), Refusal> {
-    /// let mut receiver = Receiver::open(Scheme::Gf2, 4, 2)?;
+    /// let mut receiver = Receiver::open(Scheme::Gf2, 4, 2, &Flows::all())?;
     /// receiver.receive_source(1, b"A\0\0\0\0")?;
     /// receiver.receive_repair(&[0, 0, 0xf0, 2, 0, 0, 0, 0, 0, 0, 0, 3])?;
     /// assert_eq!((receiver.origin(0), receiver.origin(1)), (Ok(Origin::Heard), Ok(Origin::Solved)));
@@ -191,12 +193,13 @@ impl Receiver {
     ///
     /// [`Refusal::Unknown`] while no packet was accepted. Then, in this order: [`Refusal::Behind`]; [`Refusal::Unknown`] past the window;
     /// [`Refusal::NoStart`]; [`Refusal::Unknown`] for its first symbol; [`Refusal::Padding`] for one that needs more symbols than the
-    /// width; [`Refusal::Unknown`] for another symbol; [`Refusal::Padding`]; [`Refusal::Short`] for an output shorter than the ADU.
+    /// width; [`Refusal::Unknown`] for another symbol; [`Refusal::Padding`]; [`Refusal::Unannounced`]; [`Refusal::Short`] for an output
+    /// shorter than the ADU.
     ///
     /// ```
-    /// use rlc8681::{Adu, Receiver, Refusal, Scheme};
+    /// use rlc8681::{Adu, Flows, Receiver, Refusal, Scheme};
     /// # fn main() -> Result<(), Refusal> {
-    /// let mut receiver = Receiver::open(Scheme::Gf2, 4, 2)?;
+    /// let mut receiver = Receiver::open(Scheme::Gf2, 4, 2, &Flows::all())?;
     /// let mut out = [0; 4];
     /// assert_eq!(receiver.adu(0, &mut out), Err(Refusal::Unknown));
     /// receiver.receive_source(7, b"ABCD\0\0\0\0")?;

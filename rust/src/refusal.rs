@@ -34,10 +34,12 @@ pub enum Refusal {
     NoStart = 13,
     /// 14: the ADU needs more symbols than the width, or its padding is not zero.
     Padding = 14,
+    /// 16: the flow is not announced.
+    Unannounced = 16,
 }
 
 impl Refusal {
-    /// The refusal's number, 1 to 14.
+    /// The refusal's number, 1 to 14 or 16.
     ///
     /// ```
     /// assert_eq!(rlc8681::Refusal::Contradiction.number(), 11);
@@ -47,12 +49,12 @@ impl Refusal {
         self as u8
     }
 
-    /// The refusal of a number; none for a number outside 1 to 14.
+    /// The refusal of a number; none for a number other than 1 to 14 and 16.
     ///
     /// ```
     /// use rlc8681::Refusal;
     /// assert_eq!(Refusal::from_number(12), Some(Refusal::Unknown));
-    /// assert_eq!(Refusal::from_number(0), None);
+    /// assert_eq!((Refusal::from_number(0), Refusal::from_number(15)), (None, None));
     /// ```
     #[must_use]
     pub const fn from_number(number: u8) -> Option<Refusal> {
@@ -71,6 +73,7 @@ impl Refusal {
             12 => Refusal::Unknown,
             13 => Refusal::NoStart,
             14 => Refusal::Padding,
+            16 => Refusal::Unannounced,
             _ => return None,
         })
     }
@@ -93,6 +96,7 @@ impl fmt::Display for Refusal {
             Refusal::Unknown => "not known, or past the window",
             Refusal::NoStart => "no start",
             Refusal::Padding => "ADUI needs more than the width, or padding not zero",
+            Refusal::Unannounced => "flow not announced",
         })
     }
 }

@@ -1,13 +1,13 @@
-use crate::{answer, answer_in_two, ffi, memory_of, Refusal, Scheme};
+use crate::{answer, answer_in_two, ffi, memory_of, Flows, Refusal, Scheme};
 use std::fmt;
 
-/// The sending end. It owns 32 + width × symbol size bytes of memory; a clone goes on by itself from the same history.
+/// The sending end. It owns 64 + width × symbol size bytes of memory; a clone goes on by itself from the same history.
 ///
 /// ```
-/// use rlc8681::{Scheme, Sender};
+/// use rlc8681::{Flows, Scheme, Sender};
 ///
 /// # fn main() -> Result<(), rlc8681::Refusal> {
-/// let mut sender = Sender::open(Scheme::Gf2, 4, 2)?;
+/// let mut sender = Sender::open(Scheme::Gf2, 4, 2, &Flows::all())?;
 /// let mut packet = [0; 16];
 /// let n = sender.add_adu(1, b"A", &mut packet)?;
 /// assert_eq!(packet[..n], [0x41, 0, 0, 0, 0]);
@@ -37,21 +37,23 @@ pub struct Repair {
 }
 
 impl Sender {
-    /// A sender with an empty window, whose first symbol will have ESI 0. Symbols have 4 to 1,500 bytes, the window 1 to 255 symbols.
+    /// A sender with an empty window, whose first symbol will have ESI 0, for ADUs of these flows. Symbols have 4 to 1,500 bytes, the window
+    /// 1 to 255 symbols.
     ///
     /// # Errors
     ///
     /// [`Refusal::Values`] for a symbol size or width outside its values.
     ///
     /// ```
-    /// use rlc8681::{Refusal, Scheme, Sender};
-    /// assert_eq!(Sender::open(Scheme::Gf2, 3, 2).err(), Some(Refusal::Values));
+    /// use rlc8681::{Flows, Refusal, Scheme, Sender};
+    /// assert_eq!(Sender::open(Scheme::Gf2, 3, 2, &Flows::all()).err(), Some(Refusal::Values));
     /// ```
-    pub fn open(scheme: Scheme, symbol_size: u32, width: u32) -> Result<Sender, Refusal> {
+    pub fn open(scheme: Scheme, symbol_size: u32, width: u32, flows: &Flows) -> Result<Sender, Refusal> {
         // SAFETY: the call takes numbers only.
         let mut memory = memory_of(unsafe { ffi::rlc_sender_memory(symbol_size, width) })?;
-        // SAFETY: pointer and length are those of a slice that is borrowed for the call alone.
-        answer(unsafe { ffi::rlc_sender_open(memory.as_mut_ptr(), memory.len(), u32::from(scheme.number()), symbol_size, width) })?;
+        let number = u32::from(scheme.number());
+        // SAFETY: pointer and length are those of a slice that is borrowed for the call alone, as are the 32 bytes of the flows, apart from it.
+        answer(unsafe { ffi::rlc_sender_open(memory.as_mut_ptr(), memory.len(), number, symbol_size, width, flows.as_ptr()) })?;
         Ok(Sender { memory, scheme, symbol_size, width })
     }
 
@@ -60,7 +62,22 @@ impl Sender {
     ///
     /// # Errors
     ///
-    /// [`Refusal::Long`] for an ADU that needs more symbols than the width, then [`Refusal::Short`] for an output under ADU + 4 bytes.
+    /// In this order: [`Refusal::Unannounced`] for a flow that this sender does not announce, [`Refusal::Long`] for an ADU that needs more
+    /// symbols than the width, [`Refusal::Short`] for an output under ADU + 4 bytes.
+    ///
+    /// ```
+    /// use rlc8681::{Flows, Refusal, Scheme, Sender};
+    /// # fn main() -> Result<(), Refusal> {
+    /// let mut sender = Sender::open(Scheme::Gf2, 4, 2, &Flows::only(&[1]))?;
+    /// let mut packet = [0; 5];
+    /// assert_eq!(sender.add_adu(2, b"too long", &mut packet), Err(Refusal::Unannounced));
+    /// assert_eq!(sender.add_adu(1, b"too long", &mut packet), Err(Refusal::Long));
+    /// // What was refused has no ESI.
+    /// assert_eq!(sender.add_adu(1, b"A", &mut packet), Ok(5));
+    /// assert_eq!(packet, [b'A', 0, 0, 0, 0]);
+    /// # Ok(())
+    /// # }
+    /// ```
     pub fn add_adu(&mut self, flow: u8, adu: &[u8], out: &mut [u8]) -> Result<usize, Refusal> {
         // SAFETY: pointers and lengths are those of slices that are borrowed for the call alone; the two mutable ones are apart.
         answer(unsafe {
@@ -78,9 +95,9 @@ impl Sender {
     /// [`Refusal::Short`] for a shorter output, [`Refusal::Draws`].
     ///
     /// ```
-    /// use rlc8681::{Refusal, Repair, Scheme, Sender};
+    /// use rlc8681::{Flows, Refusal, Repair, Scheme, Sender};
     /// # fn main() -> Result<(), Refusal> {
-    /// let mut sender = Sender::open(Scheme::Gf256, 4, 5)?;
+    /// let mut sender = Sender::open(Scheme::Gf256, 4, 5, &Flows::all())?;
     /// assert_eq!(sender.make_repair(0, 16, 1, &mut []), Err(Refusal::Range));
     /// assert_eq!(sender.make_repair(0, 15, 1, &mut []), Err(Refusal::Empty));
     /// let mut packet = [0; 12];
