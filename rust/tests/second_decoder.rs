@@ -1,5 +1,6 @@
-//! The second sender and receiver against RFC 8681's figures, document 01's bench sheet, heard and solved symbols and joining as document 02
-//! words them and plain elimination, and its generator against what program `survey` prints. The library has no part in this file.
+//! The second sender and receiver against RFC 8681's figures, document 01's bench sheet, heard and solved symbols, joining and announced flows
+//! as document 02 words them and plain elimination, and its generator against what program `survey` prints. The library has no part in this
+//! file.
 
 mod reference;
 
@@ -8,7 +9,7 @@ use reference::equations::Equation;
 use reference::figures::{FIGURE_10, FIGURE_9};
 use reference::generator::Generator;
 use reference::random::Random;
-use reference::{dense, field, repair_packet, Field, Receiver, Sender, Setting};
+use reference::{dense, field, repair_packet, Field, Flows, Receiver, Sender, Setting};
 use std::collections::BTreeSet;
 use std::ops::RangeInclusive;
 use std::path::Path;
@@ -101,7 +102,7 @@ fn survey_of_every_key_and_density() {
 
 fn open(scheme: u32, symbol_size: u32, width: u32) -> (Sender, Receiver) {
     let setting = Setting::checked(scheme, symbol_size, width).unwrap();
-    (Sender::open(setting), Receiver::open(setting))
+    (Sender::open(setting, Flows::all()), Receiver::open(setting, Flows::all()))
 }
 
 const ROOM: usize = usize::MAX;
@@ -257,7 +258,7 @@ fn heard_or_solved() {
     assert_eq!(receiver.receive_repair(ROOM, ROOM, &repair_packet(0, 15, 1, 9, &[vec![1, 0, 0, 0]])), Ok((1, 0)));
     assert_eq!([7, 8, 9, 10].map(|esi| receiver.symbol(ROOM, esi)), [Err(8), solved, solved, Err(12)]);
     assert_eq!(receiver.heard, BTreeSet::from([7]));
-    assert_eq!(receiver.symbol(85, 8), Err(3));
+    assert_eq!(receiver.symbol(117, 8), Err(3));
     // All symbols of a source packet are heard
     assert_eq!(receiver.receive_source(ROOM, ROOM, 1, &reference::source_packet(&[5; 5], 10)), Ok((2, 0)));
     assert_eq!(receiver.heard, BTreeSet::from([7, 10, 11]));
@@ -271,13 +272,13 @@ fn joining() {
     let empty = |receiver: &Receiver| {
         for esi in [0, 1, 7, 65_536, (1 << 31) - 1, 1 << 31, u32::MAX] {
             assert_eq!((receiver.symbol(ROOM, esi), receiver.adu(ROOM, esi, ROOM)), (Err(12), Err(12)));
-            assert_eq!((receiver.symbol(85, esi), receiver.adu(85, esi, ROOM)), (Err(3), Err(3)));
+            assert_eq!((receiver.symbol(117, esi), receiver.adu(117, esi, ROOM)), (Err(3), Err(3)));
         }
         assert!(receiver.base.is_none() && receiver.marks.is_empty() && receiver.system.row_count() + receiver.system.known_count() == 0);
     };
     empty(&receiver);
     // What is refused sets no base: neither by form nor by contradiction
-    assert_eq!(receiver.receive_source(ROOM, 96, 1, &reference::source_packet(&[7], 3)), Err(2));
+    assert_eq!(receiver.receive_source(ROOM, 128, 1, &reference::source_packet(&[7], 3)), Err(2));
     assert_eq!(receiver.receive_source(ROOM, ROOM, 1, &[0; 3]), Err(5));
     assert_eq!(receiver.receive_source(ROOM, ROOM, 1, &reference::source_packet(&[0; 6], 3)), Err(4));
     assert_eq!(receiver.receive_repair(ROOM, ROOM, &repair_packet(0, 15, 3, 3, &[vec![1; 4]])), Err(6));
@@ -298,4 +299,69 @@ fn joining() {
     assert_eq!(receiver.receive_source(ROOM, ROOM, 1, &reference::source_packet(&[1], ahead)), Err(9));
     assert_eq!(receiver.receive_source(ROOM, ROOM, 1, &reference::source_packet(&[1], ahead - 1)), Ok((1, 0)));
     assert_eq!(receiver.base, Some(ahead - 2));
+}
+
+/// Document 02, No. 7, by hand: F is bit F mod 8, lowest first, of byte F div 8.
+#[test]
+fn bytes_of_flows() {
+    let place = |flow, at: usize, bit| {
+        let mut bytes = [0; 32];
+        bytes[at] = bit;
+        assert_eq!(Flows::only(&[flow]).bytes(), bytes, "flow {flow}");
+    };
+    for (flow, at, bit) in [(0, 0, 1), (1, 0, 2), (7, 0, 128), (8, 1, 1), (100, 12, 16), (248, 31, 1), (255, 31, 128)] {
+        place(flow, at, bit);
+    }
+    assert_eq!(Flows::only(&[9, 255, 8, 9]).bytes(), [vec![0, 3], vec![0; 29], vec![128]].concat()[..]);
+    assert_eq!((Flows::none().bytes(), Flows::all().bytes()), ([0; 32], [255; 32]));
+}
+
+/// Document 02, No. 7, by hand: 16 stands directly after 3 when adding, after 5 when receiving, and between 14 for padding and 2 in the ADU
+/// call. A stray that is refused sets no base; one that is solved is shown and counted, and marks go on through it.
+#[test]
+fn announced_flows() {
+    let setting = Setting::checked(9, 4, 3).unwrap();
+    let mut sender = Sender::open(setting, Flows::only(&[1, 2]));
+    assert_eq!(sender.add_adu(3, &[0; 10], 0), Err(16));
+    assert_eq!(sender.add_adu(1, &[0; 10], 0), Err(4));
+    assert_eq!(sender.add_adu(3, &[7], 0), Err(16));
+    assert_eq!(sender.add_adu(1, &[7], 0), Err(2));
+    assert_eq!(sender.make_repair(0, 15, 1, ROOM), Err(7));
+    let mut receiver = Receiver::open(setting, Flows::only(&[1]));
+    assert_eq!(receiver.receive_source(0, 0, 2, &[0; 3]), Err(3));
+    assert_eq!(receiver.receive_source(ROOM, 0, 2, &[0; 3]), Err(2));
+    assert_eq!(receiver.receive_source(ROOM, ROOM, 2, &[0; 3]), Err(5));
+    assert_eq!(receiver.receive_source(ROOM, ROOM, 2, &[0; 14]), Err(16));
+    assert_eq!(receiver.receive_source(ROOM, ROOM, 1, &[0; 14]), Err(4));
+    assert_eq!(receiver.receive_source(ROOM, ROOM, 2, &reference::source_packet(&[9], 70_000)), Err(16));
+    assert!(receiver.base.is_none() && receiver.marks.is_empty() && receiver.heard.is_empty());
+    // ADU 41 of flow 1, ADU 1 2 of flow 2, two symbols, and ADU 43 of flow 1
+    let mut repair = Vec::new();
+    let sources = [(1, &[0x41][..]), (2, &[1, 2]), (1, &[0x43])].map(|(flow, adu)| {
+        let source = sender.add_adu(flow, adu, ROOM).unwrap();
+        repair.push(sender.make_repair(0, 15, 1, ROOM).unwrap().0);
+        source
+    });
+    assert_eq!(receiver.receive_source(ROOM, ROOM, 1, &sources[0]), Ok((1, 0)));
+    assert_eq!(receiver.receive_source(ROOM, ROOM, 2, &reference::source_packet(&[9], 4_294_967_295)), Err(16));
+    assert_eq!(receiver.receive_source(ROOM, ROOM, 2, &reference::source_packet(&[9], 65_536)), Err(16));
+    assert_eq!(receiver.receive_source(ROOM, ROOM, 2, &sources[1]), Err(16));
+    assert_eq!(receiver.receive_repair(ROOM, ROOM, &repair[1]), Ok((0, 0)));
+    assert_eq!(receiver.receive_repair(ROOM, ROOM, &repair_packet(0, 15, 1, 2, &[vec![2, 0, 0, 1]])), Ok((2, 0)));
+    assert_eq!(receiver.marks, BTreeSet::from([0, 1, 3]));
+    // Position 2 is wrong on purpose: its padding is not zero, which is told before the flow
+    assert_eq!(receiver.adu(ROOM, 1, 0), Err(14));
+    let mut receiver = Receiver::open(setting, Flows::only(&[1]));
+    assert_eq!(receiver.receive_source(ROOM, ROOM, 1, &sources[0]), Ok((1, 0)));
+    assert_eq!(receiver.receive_repair(ROOM, ROOM, &repair[1]), Ok((0, 0)));
+    assert_eq!(receiver.adu(ROOM, 1, 0), Err(12));
+    assert_eq!(receiver.receive_repair(ROOM, ROOM, &repair_packet(0, 15, 1, 2, &[vec![2, 0, 0, 0]])), Ok((2, 0)));
+    assert_eq!(receiver.adu(ROOM, 1, 0), Err(16));
+    assert_eq!((receiver.part(ROOM, 1), receiver.part(ROOM, 2)), (Ok(&[2, 0, 2, 1][..]), Ok(&[2, 0, 0, 0][..])));
+    assert_eq!((receiver.symbol(ROOM, 1), receiver.symbol(ROOM, 2)), (Ok((0, 0)), Ok((0, 0))));
+    assert_eq!(receiver.receive_repair(ROOM, ROOM, &repair[2]), Ok((1, 0)));
+    assert_eq!(receiver.adu(ROOM, 3, 0), Err(2));
+    assert_eq!(receiver.adu(ROOM, 3, 1).map(|adu| (adu.flow, adu.bytes)), Ok((1, vec![0x43])));
+    assert_eq!(receiver.receive_source(ROOM, ROOM, 2, &sources[1]), Err(16));
+    assert_eq!(receiver.heard, BTreeSet::from([0]));
 }

@@ -16,7 +16,9 @@ mod raw {
         pub fn rlc_receiver_memory(symbol_size: u32, width: u32) -> i64;
         pub fn rlc_working_memory(symbol_size: u32, width: u32) -> i64;
         pub fn rlc_dw_max_size(budget: u64, bitrate: u64, symbol_size: u32, remainder: *mut u64) -> i64;
-        pub fn rlc_sender_open(memory: *mut u8, len: usize, scheme: u32, symbol_size: u32, width: u32) -> i64;
+        pub fn rlc_announce(flows: *mut u8, flow: u8);
+        pub fn rlc_announce_all(flows: *mut u8);
+        pub fn rlc_sender_open(memory: *mut u8, len: usize, scheme: u32, symbol_size: u32, width: u32, flows: *const u8) -> i64;
         pub fn rlc_sender_add_adu(
             memory: *mut u8,
             len: usize,
@@ -27,7 +29,7 @@ mod raw {
             out_len: usize,
         ) -> i64;
         pub fn rlc_sender_make_repair(memory: *const u8, len: usize, key: u16, dt: u32, count: u32, out: *mut u8, out_len: usize) -> i64;
-        pub fn rlc_receiver_open(memory: *mut u8, len: usize, scheme: u32, symbol_size: u32, width: u32) -> i64;
+        pub fn rlc_receiver_open(memory: *mut u8, len: usize, scheme: u32, symbol_size: u32, width: u32, flows: *const u8) -> i64;
         pub fn rlc_receive_source(
             memory: *mut u8,
             len: usize,
@@ -63,8 +65,19 @@ pub fn dw_max_size(budget: u64, bitrate: u64, symbol_size: u32, remainder: &mut 
     unsafe { raw::rlc_dw_max_size(budget, bitrate, symbol_size, remainder) }
 }
 
-pub fn sender_open(memory: &mut [u8], scheme: u32, symbol_size: u32, width: u32) -> i64 {
-    unsafe { raw::rlc_sender_open(memory.as_mut_ptr(), memory.len(), scheme, symbol_size, width) }
+/// The bytes that announce every flow.
+pub const ALL: [u8; 32] = [255; 32];
+
+pub fn announce(flows: &mut [u8; 32], flow: u8) {
+    unsafe { raw::rlc_announce(flows.as_mut_ptr(), flow) }
+}
+
+pub fn announce_all(flows: &mut [u8; 32]) {
+    unsafe { raw::rlc_announce_all(flows.as_mut_ptr()) }
+}
+
+pub fn sender_open(memory: &mut [u8], scheme: u32, symbol_size: u32, width: u32, flows: &[u8; 32]) -> i64 {
+    unsafe { raw::rlc_sender_open(memory.as_mut_ptr(), memory.len(), scheme, symbol_size, width, flows.as_ptr()) }
 }
 
 pub fn add_adu(memory: &mut [u8], flow: u8, adu: &[u8], out: &mut [u8]) -> i64 {
@@ -75,8 +88,8 @@ pub fn make_repair(memory: &[u8], key: u16, dt: u32, count: u32, out: &mut [u8])
     unsafe { raw::rlc_sender_make_repair(memory.as_ptr(), memory.len(), key, dt, count, out.as_mut_ptr(), out.len()) }
 }
 
-pub fn receiver_open(memory: &mut [u8], scheme: u32, symbol_size: u32, width: u32) -> i64 {
-    unsafe { raw::rlc_receiver_open(memory.as_mut_ptr(), memory.len(), scheme, symbol_size, width) }
+pub fn receiver_open(memory: &mut [u8], scheme: u32, symbol_size: u32, width: u32, flows: &[u8; 32]) -> i64 {
+    unsafe { raw::rlc_receiver_open(memory.as_mut_ptr(), memory.len(), scheme, symbol_size, width, flows.as_ptr()) }
 }
 
 pub fn receive_source(memory: &mut [u8], work: &mut [u8], flow: u8, packet: &[u8]) -> i64 {
@@ -99,6 +112,28 @@ pub fn symbol_place(memory: &[u8], esi: u32) -> i64 {
 
 pub fn adu(memory: &[u8], esi: u32, out: &mut [u8]) -> i64 {
     unsafe { raw::rlc_adu(memory.as_ptr(), memory.len(), esi, out.as_mut_ptr(), out.len()) }
+}
+
+/// The flows that a sender announces, in its memory: an ADU that is too long for any is refused with 4 where its flow is announced, and with
+/// 16 where it is not.
+pub fn flows_of_sender(memory: &mut [u8]) -> Vec<u8> {
+    let long = vec![0; 65_536];
+    flows_where(|flow| add_adu(memory, flow, &long, &mut []))
+}
+
+/// The same of a receiver, by a source packet.
+pub fn flows_of_receiver(memory: &mut [u8], work: &mut [u8]) -> Vec<u8> {
+    let long = vec![0; 65_540];
+    flows_where(|flow| receive_source(memory, work, flow, &long))
+}
+
+fn flows_where(mut answer: impl FnMut(u8) -> i64) -> Vec<u8> {
+    let announced = |&flow: &u8| match answer(flow) {
+        -4 => true,
+        -16 => false,
+        other => panic!("flow {flow}: {other}"),
+    };
+    (0..=255).filter(announced).collect()
 }
 
 /// The value and the number beside it in an answer of 0 or more.

@@ -3,7 +3,8 @@
 
 use super::Lent;
 use crate::reference::random::Random;
-use crate::reference::{self, as_c, Answer, Setting};
+use crate::reference::receiver::length_in;
+use crate::reference::{self, as_c, Answer, Flows, Setting};
 use rlc8681::{Origin, Refusal, Scheme};
 
 fn scheme(setting: Setting) -> Scheme {
@@ -19,6 +20,15 @@ fn from_safe(answer: Result<(usize, u32), Refusal>) -> i64 {
     as_c(answer.map(|(value, beside)| (value as u64, u64::from(beside))).map_err(|refusal| u32::from(refusal.number())))
 }
 
+/// The flows as the Rust types take them.
+fn safe_flows(flows: Flows) -> rlc8681::Flows {
+    if flows == Flows::all() {
+        rlc8681::Flows::all()
+    } else {
+        rlc8681::Flows::only(&flows.list())
+    }
+}
+
 /// Junk that is lent beyond the size that a call needs.
 fn longer(random: &mut Random, size: usize) -> Vec<u8> {
     let extra = if random.chance(50) { 0 } else { random.between(1, 40) };
@@ -28,22 +38,29 @@ fn longer(random: &mut Random, size: usize) -> Vec<u8> {
 #[derive(Clone)]
 pub struct Senders {
     pub reference: reference::Sender,
-    memory: Lent,
+    pub memory: Lent,
     safe: rlc8681::Sender,
+    /// ADUs of flows that are not announced: all of them; those that are too long as well; the others whose output was too short.
+    pub strays: [u64; 3],
 }
 
 impl Senders {
+    /// Senders that announce all flows.
     pub fn open(setting: Setting, random: &mut Random) -> Senders {
+        Senders::open_with(setting, Flows::all(), random)
+    }
+
+    pub fn open_with(setting: Setting, flows: Flows, random: &mut Random) -> Senders {
         let Setting { scheme: number, symbol_size, width } = setting;
         let size = setting.sender_memory();
         assert_eq!(super::sender_memory(symbol_size as u32, width as u32), size as i64);
         let content = longer(random, size);
         let mut memory = Lent::new(&content);
-        assert_eq!(super::sender_open(memory.lend(), number, symbol_size as u32, width as u32), 0);
+        assert_eq!(super::sender_open(memory.lend(), number, symbol_size as u32, width as u32, &flows.bytes()), 0);
         memory.check();
         assert_eq!(memory.get()[size..], content[size..], "past the sender's size");
-        let safe = rlc8681::Sender::open(scheme(setting), symbol_size as u32, width as u32).unwrap();
-        Senders { reference: reference::Sender::open(setting), memory, safe }
+        let safe = rlc8681::Sender::open(scheme(setting), symbol_size as u32, width as u32, &safe_flows(flows)).unwrap();
+        Senders { reference: reference::Sender::open(setting, flows), memory, safe, strays: [0; 3] }
     }
 
     /// Output of some length near the one needed, with random content.
@@ -78,6 +95,13 @@ impl Senders {
         let mut out = Senders::output(random, adu.len() + 4);
         let (before, memory_before) = (out.get().to_vec(), self.memory.get().to_vec());
         let expected = self.reference.add_adu(flow, adu, before.len());
+        if expected == Err(16) {
+            let setting = self.reference.setting;
+            let long = adu.len() > 65_535 || setting.symbols_of(adu.len()) > setting.width;
+            self.strays[0] += 1;
+            self.strays[1] += u64::from(long);
+            self.strays[2] += u64::from(!long && before.len() < adu.len() + 4);
+        }
         let answer = super::add_adu(self.memory.lend(), flow, adu, out.lend());
         self.compare(&expected.clone().map(|packet| (packet, 0)), answer, &out, &before, &memory_before);
         let mut again = before;
@@ -102,23 +126,48 @@ impl Senders {
     }
 }
 
+/// What a receiver met of flows that it does not announce. The source packets of such flows, refused with 16, by the rule after 16 that they
+/// break too; those that are refused with 5 before it; and what the ADU call said of ADUs that were solved.
+#[derive(Clone, Copy, Debug, PartialEq, Eq)]
+pub enum Stray {
+    Truncated,
+    Long,
+    Behind,
+    Ahead,
+    Unlike,
+    /// It breaks no other rule, as far as its first symbol tells.
+    Fitting,
+    /// The ADU call: 14 for its padding; 16 with room for the ADU, and with too little; and an ADU handed out that comes after one withheld.
+    Padded,
+    Withheld,
+    WithheldShort,
+    Passed,
+}
+
+pub const STRAYS: [Stray; 10] = {
+    use Stray::*;
+    [Truncated, Long, Behind, Ahead, Unlike, Fitting, Padded, Withheld, WithheldShort, Passed]
+};
+
 /// What a receiver did in a run, so that a test can see that it met what it is meant to meet.
 #[derive(Clone, Default, Debug)]
 pub struct Tally {
     /// Packets by answer: accepted with nothing new, with one and with more symbols new; refused, by number.
     pub accepted: [u64; 3],
-    pub refused: [u64; 15],
+    pub refused: [u64; 17],
     /// Of these: source and repair packets that set the base, packets refused while there was none, by number, and packets accepted with
     /// a base whose ESI had wrapped.
     pub joined: [u64; 2],
-    pub refused_first: [u64; 15],
+    pub refused_first: [u64; 17],
     pub wrapped: u64,
     /// The draws of the packets accepted, and the source packets that made nothing known and yet were the first to name a symbol.
     pub draws: u64,
     pub heard_later: u64,
     /// Symbol calls that showed one, solved and heard; ADU calls by refusal, place 0 for those handed out.
     pub shown: [u64; 2],
-    pub adus: [u64; 15],
+    pub adus: [u64; 17],
+    /// By kind of stray.
+    pub strays: [u64; STRAYS.len()],
 }
 
 impl Tally {
@@ -128,11 +177,24 @@ impl Tally {
 
     /// Prints what happened, for `--nocapture`.
     pub fn told(&self, name: &str) {
-        let Tally { accepted, refused, joined, refused_first, wrapped, draws, heard_later, shown, adus } = self;
+        let Tally { accepted, refused, joined, refused_first, wrapped, draws, heard_later, shown, adus, strays } = self;
         let packets = self.packets();
         println!("{name}: {packets} packets, accepted {accepted:?}, refused {refused:?}, {draws} draws, {heard_later} heard later");
         println!("{name}: solved and heard symbols shown {shown:?}, ADU calls {adus:?}");
         println!("{name}: joined {joined:?}, refused before {refused_first:?}, accepted past the wrap {wrapped}");
+        let strays: Vec<String> = STRAYS.iter().zip(strays).map(|(stray, count)| format!("{stray:?} {count}")).collect();
+        println!("{name}: strays: {}", strays.join(", "));
+    }
+
+    fn stray(&mut self, stray: Stray) {
+        self.strays[stray as usize] += 1;
+    }
+
+    /// Panics where a kind of stray was never met (in whole runs).
+    pub fn met_strays(&self, strays: &[Stray]) {
+        if std::env::var_os("RLC8681_SEED").is_none() {
+            assert!(strays.iter().all(|&stray| self.strays[stray as usize] > 0), "strays {:?}", self.strays);
+        }
     }
 
     /// Panics where no source packet or no repair packet set a base, none was accepted past the wrap, or one of these refusals never came
@@ -163,6 +225,7 @@ impl Tally {
         self.refused_first.iter_mut().zip(other.refused_first).for_each(|(a, b)| *a += b);
         self.shown.iter_mut().zip(other.shown).for_each(|(a, b)| *a += b);
         self.adus.iter_mut().zip(other.adus).for_each(|(a, b)| *a += b);
+        self.strays.iter_mut().zip(other.strays).for_each(|(a, b)| *a += b);
         self.wrapped += other.wrapped;
         self.draws += other.draws;
         self.heard_later += other.heard_later;
@@ -177,23 +240,31 @@ pub struct Receivers {
     work: Lent,
     safe: rlc8681::Receiver,
     pub tally: Tally,
+    /// The ESI after the ADU that was withheld last.
+    after_stray: Option<u32>,
 }
 
 impl Receivers {
+    /// Receivers that announce all flows.
     pub fn open(setting: Setting, random: &mut Random) -> Receivers {
+        Receivers::open_with(setting, Flows::all(), random)
+    }
+
+    pub fn open_with(setting: Setting, flows: Flows, random: &mut Random) -> Receivers {
         let Setting { scheme: number, symbol_size, width } = setting;
         let size = setting.receiver_memory();
         assert_eq!(super::receiver_memory(symbol_size as u32, width as u32), size as i64);
         assert_eq!(super::working_memory(symbol_size as u32, width as u32), setting.working_memory() as i64);
         let content = longer(random, size);
         let mut memory = Lent::new(&content);
-        assert_eq!(super::receiver_open(memory.lend(), number, symbol_size as u32, width as u32), 0);
+        assert_eq!(super::receiver_open(memory.lend(), number, symbol_size as u32, width as u32, &flows.bytes()), 0);
         memory.check();
         assert_eq!(memory.get()[size..], content[size..], "past the receiver's size");
-        let safe = rlc8681::Receiver::open(scheme(setting), symbol_size as u32, width as u32).unwrap();
+        let safe = rlc8681::Receiver::open(scheme(setting), symbol_size as u32, width as u32, &safe_flows(flows)).unwrap();
         let before = memory.get().to_vec();
         let work = Lent::new(&longer(random, setting.working_memory()));
-        Receivers { reference: reference::Receiver::open(setting), memory, before, work, safe, tally: Tally::default() }
+        let reference = reference::Receiver::open(setting, flows);
+        Receivers { reference, memory, before, work, safe, tally: Tally::default(), after_stray: None }
     }
 
     pub fn setting(&self) -> Setting {
@@ -253,9 +324,33 @@ impl Receivers {
                 assert!(self.memory.get() == self.before, "a refusal changed the receiver's memory");
                 self.tally.refused[number as usize] += 1;
                 self.tally.refused_first[number as usize] += u64::from(fresh);
+                if let Some(flow) = flow.filter(|&flow| !self.reference.flows.contains(flow)) {
+                    self.count_stray(flow, packet);
+                }
             }
         }
         expected
+    }
+
+    /// Counts a source packet of a flow that is not announced, which was refused.
+    fn count_stray(&mut self, flow: u8, packet: &[u8]) {
+        let setting = self.setting();
+        if packet.len() < 4 {
+            return self.tally.stray(Stray::Truncated);
+        }
+        let (adu, esi) = packet.split_at(packet.len() - 4);
+        let n = setting.symbols_of(adu.len());
+        if adu.len() > 65_535 || n > setting.width {
+            return self.tally.stray(Stray::Long);
+        }
+        self.tally.stray(match self.reference.place(u32::from_be_bytes(esi.try_into().unwrap()), n) {
+            Err(8) => Stray::Behind,
+            Err(_) => Stray::Ahead,
+            Ok(first) => match self.reference.system.known(first) {
+                Some(symbol) if symbol != setting.cut(flow, adu)[0] => Stray::Unlike,
+                _ => Stray::Fitting,
+            },
+        });
     }
 
     /// The same packet with too short memories: refusals 3 and 2, before anything about the packet.
@@ -343,17 +438,38 @@ impl Receivers {
                 assert_eq!((told.flow, told.bytes), (adu.flow, adu.bytes.as_slice()), "the Rust type's ADU {esi}");
                 wanted[..adu.bytes.len()].copy_from_slice(&adu.bytes);
                 self.tally.adus[0] += 1;
+                if self.after_stray == Some(esi) {
+                    self.tally.stray(Stray::Passed);
+                }
             }
             Err(number) => {
                 assert_eq!(answer, -i64::from(*number), "ADU {esi}, base {:?}", self.reference.base);
                 assert_eq!(safe.map_err(|r| u32::from(r.number())).err(), Some(*number));
                 self.tally.adus[*number as usize] += 1;
+                self.count_withheld(esi, *number, room);
             }
         }
         assert!(out.get() == wanted, "output of ADU {esi}");
         assert!(safe_out == wanted, "the Rust type's output of ADU {esi}");
         out.check();
         assert!(self.memory.get() == self.before, "a showing call changed the receiver's memory");
+    }
+
+    /// Counts an ADU of a flow that is not announced, which was not handed out.
+    fn count_withheld(&mut self, esi: u32, refusal: u32, room: usize) {
+        let (setting, flows) = (self.setting(), self.reference.flows);
+        let Ok(first) = self.reference.part(usize::MAX, esi) else { return };
+        let (flow, length) = (first[0], length_in(first));
+        let n = setting.symbols_of(length);
+        match refusal {
+            14 if n <= setting.width && !flows.contains(flow) => self.tally.stray(Stray::Padded),
+            16 => {
+                assert!(!flows.contains(flow), "ADU {esi}, flow {flow}");
+                self.tally.stray(if room < length { Stray::WithheldShort } else { Stray::Withheld });
+                self.after_stray = Some(esi.wrapping_add(n as u32));
+            }
+            _ => {}
+        }
     }
 
     /// Looks at the whole window, at its edges and at ESIs far away; before any base, as if it stood somewhere.

@@ -1,6 +1,7 @@
-//! What document 02's No. 4 prints of a capture, over the second receiver. The input is held whole and cut into all its lines first.
+//! What document 02's No. 4 prints of a capture, over the second receiver, which announces all flows (No. 7). The input is held whole and cut
+//! into all its lines first.
 
-use super::{Receiver, Setting};
+use super::{Flows, Receiver, Setting};
 
 /// The most characters of a line, the most packet lines that are read, and the most bytes of either receiver memory.
 const CHARACTERS: usize = 8192;
@@ -97,7 +98,7 @@ fn record(receiver: &mut Receiver, line: &[u8]) -> Record {
 pub fn records(input: &[u8]) -> Vec<Record> {
     let lines = lines(input);
     let Some(setting) = lines.first().and_then(|line| setting(line)) else { return Vec::new() };
-    let mut receiver = Receiver::open(setting);
+    let mut receiver = Receiver::open(setting, Flows::all());
     lines[1..].iter().take(PACKET_LINES).map(|line| record(&mut receiver, line)).collect()
 }
 

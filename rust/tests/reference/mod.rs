@@ -11,18 +11,20 @@ pub mod dense;
 pub mod equations;
 pub mod field;
 pub mod figures;
+pub mod flows;
 pub mod generator;
 pub mod random;
 pub mod receiver;
 pub mod sender;
 
 pub use field::Field;
+pub use flows::Flows;
 pub use receiver::Receiver;
 pub use sender::Sender;
 
-/// What a call answers: its value and the number beside it, or a refusal's number (document 01, "Why a call says no"). Beside the value
-/// stand the draws that the call took (document 02, No. 1); of the symbol call, 1 for a symbol that was heard, 0 for one that was solved
-/// (No. 6).
+/// What a call answers: its value and the number beside it, or a refusal's number (document 01, "Why a call says no"; document 02, No. 7).
+/// Beside the value stand the draws that the call took (document 02, No. 1); of the symbol call, 1 for a symbol that was heard, 0 for one
+/// that was solved (No. 6).
 pub type Answer = Result<(u64, u64), u32>;
 
 /// An answer as the C interface gives it.
@@ -33,7 +35,7 @@ pub fn as_c(answer: Answer) -> i64 {
     }
 }
 
-/// What both ends are opened with.
+/// What both ends are opened with, beside their flows.
 #[derive(Clone, Copy, Debug, PartialEq, Eq)]
 pub struct Setting {
     pub scheme: u32,
@@ -59,15 +61,15 @@ impl Setting {
     }
 
     pub fn sender_memory(self) -> usize {
-        32 + self.width * self.symbol_size
+        64 + self.width * self.symbol_size
     }
 
     pub fn receiver_memory(self) -> usize {
-        64 + self.width * (self.width + self.symbol_size + 4) + self.width
+        96 + self.width * (self.width + self.symbol_size + 4) + self.width
     }
 
     pub fn working_memory(self) -> usize {
-        64 + (self.width + 1) * (self.width + self.symbol_size + 4) + self.width + 1
+        96 + (self.width + 1) * (self.width + self.symbol_size + 4) + self.width + 1
     }
 
     /// How many symbols an ADU of this length needs: its ADUI is 3 bytes longer.

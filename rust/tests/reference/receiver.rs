@@ -1,14 +1,15 @@
-//! The receiver of document 01's "plain history", with its marks of starts. It joins at its first packet (document 02, No. 2) and tells what
-//! it heard from what it solved (No. 6).
+//! The receiver of document 01's "plain history", with its marks of starts. It joins at its first packet (document 02, No. 2), tells what it
+//! heard from what it solved (No. 6), and takes no source packet and hands out no ADU of a flow that it does not announce (No. 7).
 
 use super::coefficients::{drawn_list, keys};
 use super::equations::{Equation, System};
-use super::{Answer, Setting};
+use super::{Answer, Flows, Setting};
 use std::collections::BTreeSet;
 
 #[derive(Clone)]
 pub struct Receiver {
     pub setting: Setting,
+    pub flows: Flows,
     /// None until a packet is accepted. Then the window is base .. base + width - 1; positions never wrap.
     pub base: Option<u64>,
     pub system: System,
@@ -26,12 +27,12 @@ pub struct Adu {
 }
 
 impl Receiver {
-    pub fn open(setting: Setting) -> Receiver {
-        Receiver { setting, base: None, system: System::new(setting.field()), marks: BTreeSet::new(), heard: BTreeSet::new() }
+    pub fn open(setting: Setting, flows: Flows) -> Receiver {
+        Receiver { setting, flows, base: None, system: System::new(setting.field()), marks: BTreeSet::new(), heard: BTreeSet::new() }
     }
 
     /// The first position of a packet that names n symbols from this ESI on, or refusal 8 or 9. Before any base it is the ESI itself.
-    fn place(&self, esi: u32, n: usize) -> Result<u64, u32> {
+    pub fn place(&self, esi: u32, n: usize) -> Result<u64, u32> {
         let Some(base) = self.base else { return Ok(u64::from(esi)) };
         let d = distance(base, esi);
         if d >= 1 << 31 {
@@ -83,6 +84,9 @@ impl Receiver {
         self.room(memory, work)?;
         if packet.len() < 4 {
             return Err(5);
+        }
+        if !self.flows.contains(flow) {
+            return Err(16);
         }
         let (adu, esi) = packet.split_at(packet.len() - 4);
         let n = self.setting.symbols_of(adu.len());
@@ -144,7 +148,8 @@ impl Receiver {
         self.system.known(self.position(memory, esi)?).ok_or(12)
     }
 
-    /// The ADU that starts at an ESI, in the order of document 01; `room` is the output's length.
+    /// The ADU that starts at an ESI, or a refusal in the order of document 01, with 16 between 14 for padding and 2; `room` is the output's
+    /// length.
     pub fn adu(&self, memory: usize, esi: u32, room: usize) -> Result<Adu, u32> {
         let position = self.position(memory, esi)?;
         if !self.marks.contains(&position) {
@@ -163,6 +168,9 @@ impl Receiver {
         if adui[3 + length..].iter().any(|&b| b != 0) {
             return Err(14);
         }
+        if !self.flows.contains(adui[0]) {
+            return Err(16);
+        }
         if room < length {
             return Err(2);
         }
@@ -176,6 +184,6 @@ fn distance(base: u64, esi: u32) -> u64 {
 }
 
 /// L, in the first symbol of an ADUI.
-fn length_in(symbol: &[u8]) -> usize {
+pub fn length_in(symbol: &[u8]) -> usize {
     usize::from(symbol[1]) * 256 + usize::from(symbol[2])
 }

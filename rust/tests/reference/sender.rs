@@ -1,11 +1,12 @@
 //! A sender that keeps every symbol it ever took.
 
 use super::coefficients::{combination, drawn_list, keys};
-use super::{repair_packet, source_packet, Setting};
+use super::{repair_packet, source_packet, Flows, Setting};
 
 #[derive(Clone)]
 pub struct Sender {
     pub setting: Setting,
+    pub flows: Flows,
     /// All symbols taken, from position 0 on.
     pub symbols: Vec<Vec<u8>>,
     /// The ADUs taken: first position, flow and bytes.
@@ -13,12 +14,15 @@ pub struct Sender {
 }
 
 impl Sender {
-    pub fn open(setting: Setting) -> Sender {
-        Sender { setting, symbols: Vec::new(), adus: Vec::new() }
+    pub fn open(setting: Setting, flows: Flows) -> Sender {
+        Sender { setting, flows, symbols: Vec::new(), adus: Vec::new() }
     }
 
-    /// The source packet, or refusal 4 or 2 in this order; `room` is the output's length.
+    /// The source packet, or refusal 16, 4 or 2 in this order; `room` is the output's length.
     pub fn add_adu(&mut self, flow: u8, adu: &[u8], room: usize) -> Result<Vec<u8>, u32> {
+        if !self.flows.contains(flow) {
+            return Err(16);
+        }
         if adu.len() > 65_535 || self.setting.symbols_of(adu.len()) > self.setting.width {
             return Err(4);
         }
