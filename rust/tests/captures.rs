@@ -8,7 +8,7 @@ use library::program::{printed, printed_of_file, printed_when_fed, printed_while
 use library::runs;
 use reference::capture::{self, Record, FORM, PACKET_LINES};
 use reference::random::Random;
-use reference::{moved, repair_packet, source_packet, Sender, Setting};
+use reference::{moved, repair_packet, source_packet, Flows, Sender, Setting};
 use std::ffi::OsStr;
 use std::fs;
 use std::io;
@@ -305,7 +305,7 @@ fn numbers_in_the_first_line() {
 fn memory_at_every_width() {
     let mut largest = 0;
     for width in 1..=255 {
-        let memory = |symbol_size: usize| 64 + (width + 1) * (width + symbol_size + 4) + width + 1;
+        let memory = |symbol_size: usize| 96 + (width + 1) * (width + symbol_size + 4) + width + 1;
         let most = (4..=1500).rev().find(|&size| memory(size) <= 65_536);
         for symbol_size in [most.unwrap_or(4), most.unwrap_or(4) + 1] {
             let good = most == Some(symbol_size);
@@ -317,7 +317,7 @@ fn memory_at_every_width() {
             largest += usize::from(good && memory(symbol_size) == 65_536);
         }
     }
-    assert_eq!(largest, 14, "settings with exactly 65,536 bytes");
+    assert_eq!(largest, 2, "settings with exactly 65,536 bytes");
 }
 
 /// A source line of this length; its packet has at most 17 symbols of 255 bytes, where the line is not too long.
@@ -357,7 +357,7 @@ fn lengths_of_lines() {
 fn setting(random: &mut Random) -> Setting {
     let scheme = 9 + random.below(2) as u32;
     let width = if random.chance(80) { random.between(1, 9) } else { random.between(1, 250) };
-    let most = (65_472 / (width + 1)).saturating_sub(width + 5).clamp(4, 1500);
+    let most = (65_440 / (width + 1)).saturating_sub(width + 5).clamp(4, 1500);
     let symbol_size = match random.below(20) {
         0 => most,
         1 => most + 1,
@@ -373,7 +373,7 @@ fn setting(random: &mut Random) -> Setting {
 fn arriving(random: &mut Random, setting: Setting, adus: usize) -> Vec<Packet> {
     // The other end may be wider or narrower
     let width = if random.chance(80) { setting.width } else { random.between(1, 20) };
-    let mut sender = Sender::open(Setting { width, ..setting });
+    let mut sender = Sender::open(Setting { width, ..setting }, Flows::all());
     let beginning = if random.chance(50) { u32::MAX - random.below(100) as u32 } else { random.next() as u32 };
     let unheard = if random.chance(50) { 0 } else { random.between(0, adus / 3) };
     let [loss, repeats, late, damage, oddity] = [40, 10, 20, 10, 15].map(|most| random.below(most + 1));
