@@ -5,14 +5,14 @@ mod reference;
 use reference::coefficients::{coefficients, drawn_list};
 use reference::figures::{FIGURE_10, FIGURE_9};
 use reference::{repair_packet, source_packet, Field};
-use rlc8681::{Adu, Origin, Received, Receiver, Refusal, Repair, Scheme, Sender};
+use rlc8681::{Adu, Flows, Origin, Received, Receiver, Refusal, Repair, Scheme, Sender};
 use std::ops::RangeInclusive;
 
 /// The coefficients that a sender draws: symbol i holds a single one at place i, so the repair symbol lists them after F and L. And the
 /// draws that they take, which a receiver tells too.
 fn drawn(scheme: Scheme, key: u16, dt: u32, count: usize) -> (Vec<u8>, u32) {
     let (symbol_size, width) = (count as u32 + 3, count as u32);
-    let mut sender = Sender::open(scheme, symbol_size, width).unwrap();
+    let mut sender = Sender::open(scheme, symbol_size, width, &Flows::all()).unwrap();
     let mut packet = vec![0; 8 + count + 3];
     for i in 0..count {
         let mut adu = vec![0; count];
@@ -21,7 +21,7 @@ fn drawn(scheme: Scheme, key: u16, dt: u32, count: usize) -> (Vec<u8>, u32) {
     }
     let repair = sender.make_repair(key, dt, 1, &mut packet).unwrap();
     assert_eq!(repair.bytes, packet.len());
-    let received = Receiver::open(scheme, symbol_size, width).unwrap().receive_repair(&packet).unwrap();
+    let received = Receiver::open(scheme, symbol_size, width, &Flows::all()).unwrap().receive_repair(&packet).unwrap();
     assert_eq!(received.draws, repair.draws);
     (packet[8 + 3..].to_vec(), repair.draws)
 }
@@ -66,7 +66,7 @@ fn key_of(coefficient: u8) -> u16 {
 #[test]
 fn c1_and_c2_products() {
     for (coefficient, byte, product) in [(2, 128, 29), (3, 7, 9)] {
-        let mut sender = Sender::open(Scheme::Gf256, 4, 1).unwrap();
+        let mut sender = Sender::open(Scheme::Gf256, 4, 1, &Flows::all()).unwrap();
         let mut packet = [0; 12];
         sender.add_adu(0, &[byte], &mut packet).unwrap();
         sender.make_repair(key_of(coefficient), 15, 1, &mut packet).unwrap();
@@ -77,7 +77,7 @@ fn c1_and_c2_products() {
 /// Inverses at the receiver: 2 times a symbol of 142s is a symbol of ones.
 #[test]
 fn c3_inverse() {
-    let mut receiver = Receiver::open(Scheme::Gf256, 4, 1).unwrap();
+    let mut receiver = Receiver::open(Scheme::Gf256, 4, 1, &Flows::all()).unwrap();
     let packet = repair_packet(key_of(2), 15, 1, 0, &[vec![1; 4]]);
     assert_eq!(receiver.receive_repair(&packet), Ok(Received { known: 1, draws: 1 }));
     assert_eq!(receiver.symbol(0), Ok(&[142; 4][..]));
@@ -108,7 +108,7 @@ fn repair(sender: &Sender, key: u16) -> [u8; 12] {
 }
 
 fn opened(width: u32) -> (Sender, Receiver) {
-    (Sender::open(Scheme::Gf2, 4, width).unwrap(), Receiver::open(Scheme::Gf2, 4, width).unwrap())
+    (Sender::open(Scheme::Gf2, 4, width, &Flows::all()).unwrap(), Receiver::open(Scheme::Gf2, 4, width, &Flows::all()).unwrap())
 }
 
 #[test]
@@ -140,7 +140,7 @@ fn c10_places() {
         [(65_535, known(1)), (65_536, Err(Refusal::Ahead)), (2_147_483_647, Err(Refusal::Ahead)), (2_147_483_648, Err(Refusal::Behind))];
     for scheme in [Scheme::Gf2, Scheme::Gf256] {
         for (esi, answer) in far {
-            let mut receiver = Receiver::open(scheme, 4, 3).unwrap();
+            let mut receiver = Receiver::open(scheme, 4, 3, &Flows::all()).unwrap();
             assert_eq!(receiver.receive_source(1, &source_packet(&[4], 0)), known(1));
             assert_eq!(receiver.receive_source(1, &source_packet(&[5], esi)), answer);
         }

@@ -7,11 +7,11 @@ mod reference;
 use reference::coefficients::{drawn_list, keys};
 use reference::random::Random;
 use reference::Field;
-use rlc8681::{Received, Receiver, Repair, Scheme, Sender};
+use rlc8681::{Flows, Received, Receiver, Repair, Scheme, Sender};
 
 /// A sender with so many symbols of four bytes in its window.
 fn filled(scheme: Scheme, symbols: u32) -> Sender {
-    let mut sender = Sender::open(scheme, 4, symbols).unwrap();
+    let mut sender = Sender::open(scheme, 4, symbols, &Flows::all()).unwrap();
     for i in 0..symbols {
         sender.add_adu(1, &[i as u8], &mut [0; 5]).unwrap();
     }
@@ -22,7 +22,7 @@ fn filled(scheme: Scheme, symbols: u32) -> Sender {
 fn draws(sender: &Sender, key: u16, dt: u32, count: u32) -> u32 {
     let mut packet = vec![0; 8 + 4 * count as usize];
     let repair = sender.make_repair(key, dt, count, &mut packet).unwrap();
-    let mut receiver = Receiver::open(sender.scheme(), 4, sender.width()).unwrap();
+    let mut receiver = Receiver::open(sender.scheme(), 4, sender.width(), &Flows::all()).unwrap();
     assert_eq!(receiver.receive_repair(&packet).unwrap().draws, repair.draws, "key {key}, DT {dt}, {count} symbols");
     repair.draws
 }
@@ -32,7 +32,7 @@ fn figures() {
     let sender = filled(Scheme::Gf256, 5);
     let mut packet = [0; 12];
     assert_eq!(sender.make_repair(1, 4, 1, &mut packet), Ok(Repair { bytes: 12, draws: 7 }));
-    let mut receiver = Receiver::open(Scheme::Gf256, 4, 5).unwrap();
+    let mut receiver = Receiver::open(Scheme::Gf256, 4, 5, &Flows::all()).unwrap();
     assert_eq!(receiver.receive_repair(&packet), Ok(Received { known: 0, draws: 7 }));
     // Coefficients 1 and 2 are not zero: with symbol 2 at hand the packet gives symbol 1, and given again it gives nothing new
     assert_eq!(receiver.receive_source(1, &[2, 0, 0, 0, 2]), Ok(Received { known: 2, draws: 0 }));
@@ -48,10 +48,10 @@ fn figures() {
 /// The C interface: value + 2^32 times the draws, and a refusal's number alone, though the coefficients were drawn before 11.
 #[test]
 fn answers_in_c() {
-    let (mut sender, mut receiver, mut work) = ([0; 32 + 5 * 4], [0; 64 + 5 * 13 + 5], [0; 64 + 6 * 13 + 6]);
+    let (mut sender, mut receiver, mut work) = ([0; 64 + 5 * 4], [0; 96 + 5 * 13 + 5], [0; 96 + 6 * 13 + 6]);
     let mut packet = [0; 12];
-    assert_eq!(library::sender_open(&mut sender, 10, 4, 5), 0);
-    assert_eq!(library::receiver_open(&mut receiver, 10, 4, 5), 0);
+    assert_eq!(library::sender_open(&mut sender, 10, 4, 5, &library::ALL), 0);
+    assert_eq!(library::receiver_open(&mut receiver, 10, 4, 5, &library::ALL), 0);
     for i in 0..5 {
         assert_eq!(library::add_adu(&mut sender, 1, &[i], &mut packet), 5);
         assert_eq!(library::receive_source(&mut receiver, &mut work, 1, &packet[..5]), 1);

@@ -7,7 +7,7 @@ mod reference;
 use library::pair::{Receivers, Senders};
 use reference::coefficients::coefficients;
 use reference::random::Random;
-use reference::{moved, repair_packet, source_packet, Sender, Setting};
+use reference::{moved, repair_packet, source_packet, Flows, Sender, Setting};
 
 /// ESIs to join at: 0, in the millions, and around where numbers of 31 and 32 bits end.
 const ESIS: [u32; 12] = [
@@ -121,7 +121,7 @@ fn streams_over_the_wrap() {
         let setting = small(9 + beginning % 2, width);
         let at = |p: u8| beginning.wrapping_add(u32::from(p));
         let known = |p: u8| (Ok(vec![p, 0, 1, p]), Ok((p, vec![p])));
-        let mut sender = Sender::open(setting);
+        let mut sender = Sender::open(setting, Flows::all());
         let mut receivers = Receivers::open(setting, random);
         let mut overtaken = Vec::new();
         for i in 0..adus {
@@ -354,7 +354,7 @@ fn packets_before_the_joining_one_stay_behind() {
     let random = &mut Random::new(8);
     for (beginning, by_repair) in ESIS.into_iter().flat_map(|esi| [(esi, false), (esi, true)]) {
         let setting = small(9, 4);
-        let mut sender = Sender::open(setting);
+        let mut sender = Sender::open(setting, Flows::all());
         let (mut sources, mut repairs) = (Vec::new(), Vec::new());
         for i in 0..12u8 {
             sources.push(moved(true, &sender.add_adu(1, &[i], ROOM).unwrap(), beginning));

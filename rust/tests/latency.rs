@@ -5,7 +5,7 @@ mod library;
 mod reference;
 
 use reference::random::Random;
-use rlc8681::{dw_max_size, Receiver, Refusal, Scheme, WindowSize};
+use rlc8681::{dw_max_size, Flows, Receiver, Refusal, Scheme, WindowSize};
 
 const BUDGET: u64 = 10_000_000;
 const BITRATE: u64 = 10_000_000_000;
@@ -50,8 +50,8 @@ fn figures() {
     // The widest window, and the first quotient that no window has: both are given, and opening tells them apart
     assert_eq!(answered(85_333, 33_600_000, 1400), window(255, 11_188_800_000));
     assert_eq!(answered(85_334, 33_600_000, 1400), window(256, 22_400_000));
-    assert!(Receiver::open(Scheme::Gf256, 1400, 255).is_ok());
-    assert_eq!(Receiver::open(Scheme::Gf256, 1400, 256).err(), Some(Refusal::Values));
+    assert!(Receiver::open(Scheme::Gf256, 1400, 255, &Flows::all()).is_ok());
+    assert_eq!(Receiver::open(Scheme::Gf256, 1400, 256, &Flows::all()).err(), Some(Refusal::Values));
     // The smallest and the largest quotient
     assert_eq!(answered(1, 1, 4), window(0, 1));
     assert_eq!(answered(BUDGET, BITRATE, 4), window(3_125_000_000, 0));

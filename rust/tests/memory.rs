@@ -5,9 +5,9 @@ mod library;
 mod reference;
 
 use library::pair::{Receivers, Senders};
-use library::{runs, Lent};
+use library::{flows_of_receiver, flows_of_sender, runs, Lent};
 use reference::random::Random;
-use reference::{repair_packet, source_packet, Setting};
+use reference::{repair_packet, source_packet, Flows, Setting};
 
 /// Any packet, mostly of a form that fits the setting.
 fn packet(random: &mut Random, setting: Setting, source: bool) -> Vec<u8> {
@@ -61,7 +61,7 @@ fn call_all(random: &mut Random, setting: Setting, content: &[u8], refusal: Opti
             assert_eq!(answer, refusal, "call {call}");
             assert!(work.get() == work_before, "working memory after refusal 3, call {call}");
         }
-        assert!(answer >= -14, "call {call} answered {answer}");
+        assert!(answer >= -16 && answer != -15, "call {call} answered {answer}");
         memory.check();
         work.check();
         out.check();
@@ -112,14 +112,31 @@ fn setting(random: &mut Random) -> Setting {
     Setting { scheme: 9 + random.below(2) as u32, symbol_size, width }
 }
 
-/// A sender's and a receiver's memory after some packets.
+/// Flows that an end may announce, 1 among them.
+fn flows(random: &mut Random) -> Flows {
+    let count = random.between(0, 300);
+    let list = [random.bytes(count), vec![1]].concat();
+    if random.chance(30) {
+        Flows::all()
+    } else {
+        Flows::only(&list)
+    }
+}
+
+/// A sender's and a receiver's memory after some packets of flow 1, which both announce among others.
 fn used(random: &mut Random, setting: Setting) -> (Vec<u8>, Vec<u8>) {
+    let flows = [flows(random), flows(random)];
+    used_with(random, setting, flows)
+}
+
+/// The same where the two ends announce these.
+fn used_with(random: &mut Random, setting: Setting, flows: [Flows; 2]) -> (Vec<u8>, Vec<u8>) {
     let mut sender = vec![0; setting.sender_memory()];
     let mut receiver = vec![0; setting.receiver_memory()];
     let mut work = vec![0; setting.working_memory()];
     let (e, w) = (setting.symbol_size as u32, setting.width as u32);
-    assert_eq!(library::sender_open(&mut sender, setting.scheme, e, w), 0);
-    assert_eq!(library::receiver_open(&mut receiver, setting.scheme, e, w), 0);
+    assert_eq!(library::sender_open(&mut sender, setting.scheme, e, w, &flows[0].bytes()), 0);
+    assert_eq!(library::receiver_open(&mut receiver, setting.scheme, e, w, &flows[1].bytes()), 0);
     let mut out = vec![0; setting.width * setting.symbol_size + 17 * setting.symbol_size];
     for _ in 0..random.between(0, 12) {
         let length = random.between(0, 2 * setting.symbol_size);
@@ -146,8 +163,8 @@ fn zero_and_short_memory() {
         let setting = setting(random);
         call_all(random, setting, &vec![0; length], Some(-3));
     }
-    for length in 0..36 {
-        // A sender needs 36 bytes at least
+    for length in 0..68 {
+        // A sender needs 68 bytes at least
         let setting = setting(random);
         let junk = random.bytes(length);
         call_all(random, setting, &junk, Some(-3));
@@ -199,7 +216,7 @@ fn junk_memory() {
         }
         for _ in 0..random.between(0, 12) {
             if !content.is_empty() {
-                let front = if random.chance(50) { content.len().min(64) } else { content.len() };
+                let front = if random.chance(50) { content.len().min(96) } else { content.len() };
                 let at = random.below(front as u64) as usize;
                 content[at] = match random.below(4) {
                     0 => 0,
@@ -213,37 +230,82 @@ fn junk_memory() {
     });
 }
 
-/// Opening takes memory with any content, an opened one too, and gives a fresh end.
+/// Opening takes memory with any content, an opened one too, and gives a fresh end, which announces what this opening says.
 #[test]
 fn opening_again() {
     runs(100, |seed| {
         let random = &mut Random::new(seed);
         let old = setting(random);
         let new = setting(random);
+        let flows = [flows(random), flows(random)];
         let (sender, receiver) = used(random, old);
         let (e, w) = (new.symbol_size as u32, new.width as u32);
         for mut memory in [sender, receiver] {
             memory.resize(memory.len().max(new.receiver_memory()) + 5, 3);
             let past = memory[new.receiver_memory()..].to_vec();
-            assert_eq!(library::receiver_open(&mut memory, new.scheme, e, w), 0);
+            assert_eq!(library::receiver_open(&mut memory, new.scheme, e, w, &flows[0].bytes()), 0);
             assert!(memory[new.receiver_memory()..] == past);
+            let mut work = vec![0; new.working_memory()];
+            assert_eq!(flows_of_receiver(&mut memory, &mut work), flows[0].list());
             for esi in (0..=new.width as u32).chain([1 << 31, u32::MAX, random.next() as u32]) {
                 let calls = [library::symbol(&memory, esi), library::symbol_place(&memory, esi), library::adu(&memory, esi, &mut [])];
                 assert_eq!(calls, [-12; 3], "ESI {esi}");
             }
             // Nothing that was heard before is heard now: a repair packet over each position alone solves it
-            let mut work = vec![0; new.working_memory()];
             for esi in 0..new.width as u32 {
                 let repair = repair_packet(1, 15, 1, u64::from(esi), &[random.bytes(new.symbol_size)]);
                 assert_eq!(library::parts(library::receive_repair(&mut memory, &mut work, &repair)).0, 1);
                 assert_eq!(library::symbol(&memory, esi), 0, "ESI {esi}");
             }
             let past = memory[new.sender_memory()..].to_vec();
-            assert_eq!(library::sender_open(&mut memory, new.scheme, e, w), 0);
+            assert_eq!(library::sender_open(&mut memory, new.scheme, e, w, &flows[1].bytes()), 0);
             assert!(memory[new.sender_memory()..] == past);
+            assert_eq!(flows_of_sender(&mut memory), flows[1].list());
             assert_eq!(library::make_repair(&memory, 0, 15, 1, &mut [0; 2000]), -7);
         }
     });
+}
+
+/// The flows stand in an end's memory, bytes 32 to 63, from its opening on and through every call, whatever becomes of the bytes that the
+/// opening read; and they are read there alone: with other flows in these bytes an end announces those, whatever the rest of the memory holds.
+#[test]
+fn flows_in_memory() {
+    runs(100, |seed| {
+        let random = &mut Random::new(seed);
+        let setting = setting(random);
+        let [ours, theirs, others] = [flows(random), flows(random), flows(random)];
+        let (mut sender, mut receiver) = used_with(random, setting, [ours, theirs]);
+        assert_eq!((&sender[32..64], &receiver[32..64]), (&ours.bytes()[..], &theirs.bytes()[..]));
+        let mut work = vec![0; setting.working_memory()];
+        assert_eq!((flows_of_sender(&mut sender), flows_of_receiver(&mut receiver, &mut work)), (ours.list(), theirs.list()));
+        for memory in [&mut sender, &mut receiver] {
+            memory[32..64].copy_from_slice(&others.bytes());
+            let rest = random.bytes(memory.len() - 64);
+            memory[64..].copy_from_slice(&rest);
+            memory[16..32].copy_from_slice(&random.bytes(16));
+        }
+        assert_eq!((flows_of_sender(&mut sender), flows_of_receiver(&mut receiver, &mut work)), (others.list(), others.list()));
+    });
+}
+
+/// Opening reads 32 bytes and writes none of them, and a change to them after it changes nothing.
+#[test]
+fn flows_that_are_lent() {
+    let random = &mut Random::new(9);
+    for setting in [1, 2, 9].map(|width| Setting { scheme: 9, symbol_size: 4, width }) {
+        let (e, w) = (setting.symbol_size as u32, setting.width as u32);
+        for announced in [Flows::all(), Flows::none(), Flows::only(&[0, 7, 8, 255]), flows(random)] {
+            let mut lent = Lent::new(&announced.bytes());
+            let (mut sender, mut receiver) = (vec![0; setting.sender_memory()], vec![0; setting.receiver_memory()]);
+            let mut work = vec![0; setting.working_memory()];
+            assert_eq!(library::sender_open(&mut sender, 9, e, w, lent.get().try_into().unwrap()), 0);
+            assert_eq!(library::receiver_open(&mut receiver, 9, e, w, lent.get().try_into().unwrap()), 0);
+            assert_eq!(lent.get(), announced.bytes());
+            lent.check();
+            lent.lend().iter_mut().for_each(|byte| *byte = !*byte);
+            assert_eq!((flows_of_sender(&mut sender), flows_of_receiver(&mut receiver, &mut work)), (announced.list(), announced.list()));
+        }
+    }
 }
 
 /// A refused call on a good state changes nothing at all, and bytes past the sizes stay through a whole run.
@@ -252,16 +314,20 @@ fn good_memory_stays_good() {
     runs(60, |seed| {
         let random = &mut Random::new(seed);
         let setting = setting(random);
-        let mut senders = Senders::open(setting, random);
-        let mut receivers = Receivers::open(setting, random);
+        let announced = [flows(random), flows(random)];
+        let mut senders = Senders::open_with(setting, announced[0], random);
+        let mut receivers = Receivers::open_with(setting, announced[1], random);
         for _ in 0..40 {
             let adu = packet(random, setting, false);
-            let _ = senders.add_adu(random, 3, &adu);
+            let flow = random.one_of(&[1, 3, 255]);
+            let _ = senders.add_adu(random, flow, &adu);
             let bytes = packet(random, setting, true);
-            let _ = receivers.receive(random, Some(3), &bytes);
+            let _ = receivers.receive(random, Some(flow), &bytes);
             let bytes = packet(random, setting, false);
             let _ = receivers.receive(random, None, &bytes);
         }
         receivers.look_around(random);
+        let kept = [&senders.memory, &receivers.memory].map(|memory| memory.get()[32..64].to_vec());
+        assert_eq!(kept, announced.map(|flows| flows.bytes().to_vec()));
     });
 }

@@ -1,25 +1,37 @@
-//! Every refusal of document 01's table by its small example, and the order of refusals in each call.
+//! Every refusal of document 01's table, and 16 of document 02, by a small example, and the order of refusals in each call.
 
 mod library;
 mod reference;
 
 use reference::{repair_packet, source_packet};
-use rlc8681::{Adu, Received, Receiver, Refusal, Repair, Scheme, Sender};
+use rlc8681::{Adu, Flows, Received, Receiver, Refusal, Repair, Scheme, Sender};
 
 fn sender(symbol_size: u32, width: u32) -> Sender {
-    Sender::open(Scheme::Gf2, symbol_size, width).unwrap()
+    Sender::open(Scheme::Gf2, symbol_size, width, &Flows::all()).unwrap()
 }
 
 fn receiver(symbol_size: u32, width: u32) -> Receiver {
-    Receiver::open(Scheme::Gf2, symbol_size, width).unwrap()
+    Receiver::open(Scheme::Gf2, symbol_size, width, &Flows::all()).unwrap()
 }
 
 /// A receiver of symbols of 4 bytes whose base is 0: it took an empty ADU of flow 9 at ESI 0.
 fn joined(width: u32) -> Receiver {
-    let mut receiver = receiver(4, width);
+    joined_with(width, &Flows::all())
+}
+
+/// The same that announces these flows, of which 9 is one.
+fn joined_with(width: u32, flows: &Flows) -> Receiver {
+    let mut receiver = Receiver::open(Scheme::Gf2, 4, width, flows).unwrap();
     assert_eq!(receiver.receive_source(9, &source_packet(&[], 0)), known(1));
     receiver
 }
+
+/// The bytes that announce flow 1 alone.
+const ONE: [u8; 32] = {
+    let mut flows = [0; 32];
+    flows[0] = 2;
+    flows
+};
 
 /// A repair packet of scheme 9 with DT 15 over n symbols, for E 4.
 fn all_ones(position: u64, n: u16, symbols: &[[u8; 4]]) -> Vec<u8> {
@@ -34,7 +46,7 @@ fn known(known: usize) -> Result<Received, Refusal> {
 
 #[test]
 fn table_of_examples() {
-    assert_eq!(Sender::open(Scheme::Gf2, 3, 1).err(), Some(Refusal::Values));
+    assert_eq!(Sender::open(Scheme::Gf2, 3, 1, &Flows::all()).err(), Some(Refusal::Values));
     assert_eq!(sender(4, 1).add_adu(1, &[7], &mut []), Err(Refusal::Short));
     assert_eq!(library::symbol(&[0; 100], 0), -3);
     assert_eq!(sender(4, 2).add_adu(1, &[0; 6], &mut [0; 99]), Err(Refusal::Long));
@@ -51,15 +63,16 @@ fn table_of_examples() {
     let mut narrow = joined(1);
     assert_eq!(narrow.receive_repair(&all_ones(1, 1, &[[1, 0, 2, 0]])), known(1));
     assert_eq!(narrow.adu(1, &mut [0; 9]), Err(Refusal::Padding));
+    assert_eq!(joined_with(2, &Flows::only(&[9])).receive_source(1, &source_packet(&[], 1)), Err(Refusal::Unannounced));
 }
 
 #[test]
 fn numbers_and_words() {
     let all: Vec<Refusal> = (0..=255).filter_map(Refusal::from_number).collect();
     let numbers: Vec<u8> = all.iter().map(|refusal| refusal.number()).collect();
-    assert_eq!(numbers, (1..=14).collect::<Vec<u8>>());
+    assert_eq!(numbers, (1..=14).chain([16]).collect::<Vec<u8>>());
     let words: Vec<String> = all.iter().map(Refusal::to_string).collect();
-    // Document 01's words; to 1, document 02's No. 3 adds budget and bitrate
+    // Document 01's words; to 1, document 02's No. 3 adds budget and bitrate, and No. 7 adds 16
     let expected = [
         "scheme, E, width, latency budget or bitrate outside its values",
         "memory for opening, working memory or output too short",
@@ -75,6 +88,7 @@ fn numbers_and_words() {
         "not known, or past the window",
         "no start",
         "ADUI needs more than the width, or padding not zero",
+        "flow not announced",
     ];
     assert_eq!(words, expected);
 }
@@ -101,7 +115,7 @@ fn sizes() {
             let good = (4..=1500).contains(&symbol_size) && (1..=255).contains(&width);
             let (e, w) = (i64::from(symbol_size), i64::from(width));
             let row = w + e + 4;
-            let expected = if good { (32 + w * e, 64 + w * row + w, 64 + (w + 1) * row + w + 1) } else { (-1, -1, -1) };
+            let expected = if good { (64 + w * e, 96 + w * row + w, 96 + (w + 1) * row + w + 1) } else { (-1, -1, -1) };
             let found = (
                 library::sender_memory(symbol_size, width),
                 library::receiver_memory(symbol_size, width),
@@ -112,45 +126,50 @@ fn sizes() {
     }
 }
 
-/// Opening: 1, 2. A refused opening leaves the memory as it was; the exact size is enough.
+/// Opening: 1, 2, whatever the flows. A refused opening leaves the memory as it was; the exact size is enough.
 #[test]
 fn order_of_opening() {
-    type Open = fn(&mut [u8], u32, u32, u32) -> i64;
+    type Open = fn(&mut [u8], u32, u32, u32, &[u8; 32]) -> i64;
     type Size = fn(u32, u32) -> i64;
     let ends: [(Open, Size); 2] = [(library::sender_open, library::sender_memory), (library::receiver_open, library::receiver_memory)];
-    for (open, size) in ends {
+    for (open, size, flows) in ends.into_iter().flat_map(|(open, size)| [[0; 32], ONE, library::ALL].map(|flows| (open, size, flows))) {
         for (scheme, e, w) in [(8, 4, 1), (11, 4, 1), (0, 4, 1), (u32::MAX, 4, 1), (9, 3, 1), (9, 1501, 1), (10, 4, 0), (10, 4, 256)] {
             for length in [0, 40, 5000] {
                 let mut memory = vec![77; length];
-                assert_eq!(open(&mut memory, scheme, e, w), -1);
+                assert_eq!(open(&mut memory, scheme, e, w, &flows), -1);
                 assert!(memory.iter().all(|&b| b == 77));
             }
         }
         for (scheme, e, w) in [(9, 4, 1), (10, 4, 255), (9, 1500, 1), (10, 1500, 255), (10, 7, 9)] {
             let needed = size(e, w) as usize;
-            for length in [0, 1, 8, 31, needed - 1] {
+            for length in [0, 1, 8, 31, 32, 63, needed - 32, needed - 1] {
                 let mut memory = vec![77; length];
-                assert_eq!(open(&mut memory, scheme, e, w), -2);
+                assert_eq!(open(&mut memory, scheme, e, w, &flows), -2);
                 assert!(memory.iter().all(|&b| b == 77));
             }
             let mut memory = vec![77; needed + 9];
-            assert_eq!(open(&mut memory[..needed], scheme, e, w), 0);
+            assert_eq!(open(&mut memory[..needed], scheme, e, w, &flows), 0);
             assert!(memory[needed..].iter().all(|&b| b == 77));
-            assert_eq!(open(&mut memory, scheme, e, w), 0);
+            assert_eq!(open(&mut memory, scheme, e, w, &flows), 0);
             assert!(memory[needed..].iter().all(|&b| b == 77));
         }
     }
 }
 
-/// Adding an ADU: 3, 4, 2. Making repair: 3, 6, 7, 2.
+/// Adding an ADU: 3, 16, 4, 2. Making repair: 3, 6, 7, 2.
 #[test]
 fn order_of_the_sender() {
     let mut unopened = [0; 100];
-    assert_eq!(library::add_adu(&mut unopened, 1, &[0; 99], &mut []), -3);
+    assert_eq!(library::add_adu(&mut unopened, 2, &[0; 99], &mut []), -3);
     assert_eq!(library::make_repair(&unopened, 0, 16, 0, &mut []), -3);
-    let mut sender = sender(4, 2);
+    let mut sender = Sender::open(Scheme::Gf2, 4, 2, &Flows::only(&[1])).unwrap();
+    assert_eq!(sender.add_adu(2, &[0; 70_000], &mut []), Err(Refusal::Unannounced));
+    assert_eq!(sender.add_adu(1, &[0; 70_000], &mut []), Err(Refusal::Long));
+    assert_eq!(sender.add_adu(2, &[0; 6], &mut []), Err(Refusal::Unannounced));
     assert_eq!(sender.add_adu(1, &[0; 6], &mut []), Err(Refusal::Long));
+    assert_eq!(sender.add_adu(2, &[0; 5], &mut [0; 8]), Err(Refusal::Unannounced));
     assert_eq!(sender.add_adu(1, &[0; 5], &mut [0; 8]), Err(Refusal::Short));
+    assert_eq!(sender.add_adu(2, &[0; 5], &mut [0; 9]), Err(Refusal::Unannounced));
     assert_eq!(sender.make_repair(0, 16, 1, &mut []), Err(Refusal::Range));
     assert_eq!(sender.make_repair(0, 15, 0, &mut []), Err(Refusal::Range));
     assert_eq!(sender.make_repair(0, 15, 17, &mut []), Err(Refusal::Range));
@@ -160,23 +179,32 @@ fn order_of_the_sender() {
     assert_eq!(sender.make_repair(0, 15, 2, &mut [0; 16]), Ok(Repair { bytes: 16, draws: 0 }));
 }
 
-/// Receiving: 3, 2, 5, 4 or 6, 8, 9, 11. Each packet breaks the rule named and all after it that it can, with the base at 0.
+/// Receiving: 3, 2, 5, of source packets 16 and 4, of repair packets 6, 8, 9, 11. Each packet breaks the rule named and all after it that it
+/// can, with the base at 0, a receiver that announces flow 1, and source packets of flow 2 up to rule 16.
 #[test]
 fn order_of_receiving() {
     let needed = library::receiver_memory(4, 2) as usize;
     let work_needed = library::working_memory(4, 2) as usize;
     let mut memory = vec![0; needed];
-    assert_eq!(library::receive_source(&mut memory, &mut [], 1, &[]), -3);
+    assert_eq!(library::receive_source(&mut memory, &mut [], 2, &[]), -3);
     assert_eq!(library::receive_repair(&mut memory, &mut [], &[]), -3);
-    assert_eq!(library::receiver_open(&mut memory, 9, 4, 2), 0);
+    assert_eq!(library::receiver_open(&mut memory, 9, 4, 2, &ONE), 0);
     let mut work = vec![0; work_needed];
     assert_eq!(library::receive_source(&mut memory, &mut work, 1, &source_packet(&[], 0)), 1);
-    assert_eq!(library::receive_source(&mut memory, &mut work[1..], 1, &[]), -2);
+    assert_eq!(library::receive_source(&mut memory, &mut work[1..], 2, &[]), -2);
     assert_eq!(library::receive_repair(&mut memory, &mut work[1..], &[]), -2);
+    assert_eq!(library::receive_source(&mut memory, &mut work, 2, &[0; 3]), -5);
     assert_eq!(library::receive_source(&mut memory, &mut work, 1, &[0; 3]), -5);
-    assert_eq!(library::receive_source(&mut memory, &mut work, 1, &source_packet(&[0; 6], 1 << 31)), -4);
-    assert_eq!(library::receive_source(&mut memory, &mut work, 1, &source_packet(&[0; 5], 1 << 31)), -8);
-    assert_eq!(library::receive_source(&mut memory, &mut work, 1, &source_packet(&[0; 5], 65_535)), -9);
+    // What a packet of flow 1 says, with that of flow 2 before it
+    let refused =
+        [([0; 70_000].as_slice(), 1 << 31, -4), (&[0; 6], 1 << 31, -4), (&[0; 5], 1 << 31, -8), (&[0; 5], 65_535, -9), (&[7], 0, -11)];
+    for (adu, position, answer) in refused {
+        let packet = source_packet(adu, position);
+        assert_eq!(library::receive_source(&mut memory, &mut work, 2, &packet), -16);
+        assert_eq!(library::receive_source(&mut memory, &mut work, 1, &packet), answer);
+    }
+    assert_eq!(library::receive_source(&mut memory, &mut work, 2, &source_packet(&[], 0)), -16);
+    assert_eq!(library::receive_source(&mut memory, &mut work, 1, &source_packet(&[], 0)), 0);
     for length in [0, 7, 8, 11, 13, 8 + 17 * 4] {
         assert_eq!(library::receive_repair(&mut memory, &mut work, &vec![0; length]), -5);
     }
@@ -212,11 +240,18 @@ fn order_of_symbol() {
     assert_eq!(receiver.symbol(4 + half), Err(Refusal::Behind));
 }
 
-/// ADU: 3, 8, past the window 12, 13, first symbol unknown 12, too many symbols 14, another unknown 12, padding 14, 2.
+/// ADU: 3, 8, past the window 12, 13, first symbol unknown 12, too many symbols 14, another unknown 12, padding 14, 16, 2. Of the flows of the
+/// ADUs, 9 is announced at one receiver and 1 and 9 at the other, so that only what comes after 14 differs.
 #[test]
 fn order_of_adu() {
+    for flows in [Flows::only(&[9]), Flows::only(&[1, 9])] {
+        order_of_adu_with(&flows);
+    }
+}
+
+fn order_of_adu_with(flows: &Flows) {
     assert_eq!(library::adu(&[0; 100], 0, &mut []), -3);
-    let mut receiver = joined(3);
+    let mut receiver = joined_with(3, flows);
     let none: &mut [u8] = &mut [];
     assert_eq!(receiver.adu(4_294_967_295, none), Err(Refusal::Behind));
     assert_eq!(receiver.adu(3, none), Err(Refusal::Unknown));
@@ -233,8 +268,15 @@ fn order_of_adu() {
     assert_eq!(padded.receive_repair(&all_ones(2, 1, &[[8, 0, 1, 0]])), known(1));
     assert_eq!(padded.adu(1, none), Err(Refusal::Padding));
     assert_eq!(receiver.receive_repair(&all_ones(2, 1, &[[8, 0, 0, 0]])), known(1));
-    assert_eq!(receiver.adu(1, none), Err(Refusal::Short));
     let mut out = [9; 3];
+    if !flows.contains(1) {
+        assert_eq!(receiver.adu(1, none), Err(Refusal::Unannounced));
+        assert_eq!(receiver.adu(1, &mut out[..1]), Err(Refusal::Unannounced));
+        assert_eq!(receiver.adu(1, &mut out), Err(Refusal::Unannounced));
+        assert_eq!(out, [9; 3]);
+        return;
+    }
+    assert_eq!(receiver.adu(1, none), Err(Refusal::Short));
     assert_eq!(receiver.adu(1, &mut out[..1]), Err(Refusal::Short));
     assert_eq!(out, [9; 3]);
     assert_eq!(receiver.adu(1, &mut out), Ok(Adu { flow: 1, bytes: &[7, 8] }));
@@ -252,7 +294,7 @@ fn marks_of_starts() {
     assert_eq!(receiver.receive_repair(&all_ones(2, 1, &[[3, 0, 1, 9]])), known(1));
     assert_eq!(receiver.adu(2, &mut out), Ok(Adu { flow: 3, bytes: &[9] }));
     // A chain through repaired symbols, from position 0: there is none until a source packet marks that
-    let mut chain = Receiver::open(Scheme::Gf2, 4, 6).unwrap();
+    let mut chain = Receiver::open(Scheme::Gf2, 4, 6, &Flows::all()).unwrap();
     for (position, symbol) in [(0, [4, 0, 0, 0]), (4, [5, 0, 0, 0]), (2, [0, 0, 0, 0]), (1, [6, 0, 3, 1]), (3, [4, 0, 1, 7])] {
         assert_eq!(chain.receive_repair(&all_ones(position, 1, &[symbol])), known(1));
     }
@@ -270,7 +312,7 @@ fn marks_of_starts() {
     // position 1 has left before
     let found = Ok(Adu { flow: 8, bytes: &[] });
     for (at_once, answer) in [(false, found), (true, Err(Refusal::NoStart))] {
-        let mut receiver = Receiver::open(Scheme::Gf2, 4, 2).unwrap();
+        let mut receiver = Receiver::open(Scheme::Gf2, 4, 2, &Flows::all()).unwrap();
         assert_eq!(receiver.receive_source(1, &source_packet(&[], 0)), known(1));
         assert_eq!(receiver.receive_repair(&all_ones(1, 1, &[[1, 0, 5, 0]])), known(1));
         if !at_once {

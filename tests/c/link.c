@@ -1,6 +1,7 @@
 // The library as a C program links it: the bench sheet's cases C7 to C10 and C12, joining, the draws, the window of a latency budget, symbols heard and
-// solved, and the ADU call's refusals, through the header alone; each answer and each byte is compared. With the argument `unset` the memory that is lent
-// for a sender, a receiver or their work is left as malloc gives it, so that valgrind tells if a call depends on a byte that nobody has set.
+// solved, the ADU call's refusals, and flows that are announced or not, through the header alone; each answer and each byte is compared. With the argument
+// `unset` the memory that is lent for a sender, a receiver or their work is left as malloc gives it, so that valgrind tells if a call depends on a byte that
+// nobody has set.
 #include "rlc8681.h"
 #include <stdio.h>
 #include <stdlib.h>
@@ -100,13 +101,16 @@ static struct room sender_of(uint32_t size, uint32_t width) { return lent(rlc_se
 static struct room receiver_of(uint32_t size, uint32_t width) { return lent(rlc_receiver_memory(size, width)); }
 static struct room work_of(uint32_t size, uint32_t width) { return lent(rlc_working_memory(size, width)); }
 
+// The bytes that announce every flow, for the ends whose flows are not what is tried.
+static uint8_t all[RLC_FLOWS];
+
 static void sizes(void) {
-  SAYS(rlc_sender_memory(4, 2), 32 + 2 * 4);
-  SAYS(rlc_receiver_memory(4, 2), 64 + 2 * (2 + 4 + 4) + 2);
-  SAYS(rlc_working_memory(4, 2), 64 + 3 * (2 + 4 + 4) + 3);
-  SAYS(rlc_sender_memory(1500, 255), 32 + 255 * 1500);
-  SAYS(rlc_receiver_memory(1500, 255), 64 + 255 * 1759 + 255);
-  SAYS(rlc_working_memory(1500, 255), 64 + 256 * 1759 + 256);
+  SAYS(rlc_sender_memory(4, 2), 64 + 2 * 4);
+  SAYS(rlc_receiver_memory(4, 2), 96 + 2 * (2 + 4 + 4) + 2);
+  SAYS(rlc_working_memory(4, 2), 96 + 3 * (2 + 4 + 4) + 3);
+  SAYS(rlc_sender_memory(1500, 255), 64 + 255 * 1500);
+  SAYS(rlc_receiver_memory(1500, 255), 96 + 255 * 1759 + 255);
+  SAYS(rlc_working_memory(1500, 255), 96 + 256 * 1759 + 256);
   const uint32_t wrong[][2] = {{3, 1}, {1501, 1}, {4, 0}, {4, 256}, {4 + 65536, 1}, {4, 257}, {0xffffffff, 0xffffffff}};
   for (size_t i = 0; i < sizeof wrong / sizeof *wrong; i++) {
     SAYS(rlc_sender_memory(wrong[i][0], wrong[i][1]), -RLC_VALUES);
@@ -165,7 +169,7 @@ static void seven_and_eight(void) {
   struct room sender = sender_of(4, 2), receiver = receiver_of(4, 2), work = work_of(4, 2);
   struct room one = room(32), two = room(32), repair = room(32), unopened = room(receiver.length);
   const uint8_t a = 0x41, b = 0x42;
-  SAYS(rlc_sender_open(LENT(sender), 9, 4, 2), 0);
+  SAYS(rlc_sender_open(LENT(sender), 9, 4, 2, all), 0);
   SAYS(rlc_sender_make_repair(LENT(sender), 1, 15, 1, LENT(repair)), -RLC_EMPTY);
   SAYS(rlc_sender_add_adu(LENT(sender), 1, &a, 1, LENT(one)), 5);
   BYTES(one.bytes, 0x41, 0, 0, 0, 0);
@@ -185,10 +189,10 @@ static void seven_and_eight(void) {
   check(untouched(sender, sender.length), "the sender stays in its memory");
 
   SAYS(rlc_receive_source(LENT(unopened), LENT(work), 1, one.bytes, 5), -RLC_UNOPENED);
-  SAYS(rlc_receiver_open(LENT(receiver), 9, 3, 2), -RLC_VALUES);
-  SAYS(rlc_receiver_open(LENT(receiver), 65545, 4, 2), -RLC_VALUES);
-  SAYS(rlc_receiver_open(receiver.bytes, receiver.length - 1, 9, 4, 2), -RLC_SHORT);
-  SAYS(rlc_receiver_open(LENT(receiver), 9, 4, 2), 0);
+  SAYS(rlc_receiver_open(LENT(receiver), 9, 3, 2, all), -RLC_VALUES);
+  SAYS(rlc_receiver_open(LENT(receiver), 65545, 4, 2, all), -RLC_VALUES);
+  SAYS(rlc_receiver_open(receiver.bytes, receiver.length - 1, 9, 4, 2, all), -RLC_SHORT);
+  SAYS(rlc_receiver_open(LENT(receiver), 9, 4, 2, all), 0);
   HIDES(receiver, 0, RLC_UNKNOWN);
   HIDES(receiver, 0xffffffff, RLC_UNKNOWN);
   WITHHOLDS(receiver, 0, RLC_UNKNOWN);
@@ -217,11 +221,11 @@ static void seven_and_eight(void) {
 static void nine(void) {
   struct room sender = sender_of(4, 2), out = room(32), receiver = receiver_of(4, 3), work = work_of(4, 3);
   const uint8_t adu[6] = {1, 2, 3, 4, 5, 6};
-  SAYS(rlc_sender_open(LENT(sender), 10, 4, 2), 0);
+  SAYS(rlc_sender_open(LENT(sender), 10, 4, 2, all), 0);
   SAYS(rlc_sender_add_adu(LENT(sender), 1, adu, 6, LENT(out)), -RLC_LONG);
   SAYS(rlc_sender_add_adu(LENT(sender), 1, adu, 5, LENT(out)), 9);
   BYTES(out.bytes, 1, 2, 3, 4, 5, 0, 0, 0, 0);
-  SAYS(rlc_receiver_open(LENT(receiver), 10, 4, 3), 0);
+  SAYS(rlc_receiver_open(LENT(receiver), 10, 4, 3, all), 0);
   SAYS(rlc_receive_source(LENT(receiver), LENT(work), 255, out.bytes, 9), 2);
   SHOWS(receiver, 0, HEARD, 255, 0, 5, 1);
   SHOWS(receiver, 1, HEARD, 2, 3, 4, 5);
@@ -248,7 +252,7 @@ static void ten(void) {
   uint8_t source[] = {0x41, 0, 0, 0, 0}, unlike[] = {0, 0, 0xf0, 2, 0, 0, 0, 0, 0, 0, 0, 3, 0, 0, 0, 4};
   for (size_t i = 0; i < sizeof begin / sizeof *begin; i++)
     for (size_t k = 0; k < sizeof place / sizeof *place; k++) {
-      SAYS(rlc_receiver_open(LENT(receiver), 9, 4, 2), 0);
+      SAYS(rlc_receiver_open(LENT(receiver), 9, 4, 2, all), 0);
       memcpy(fresh.bytes, receiver.bytes, receiver.length);
       number(unlike + 4, begin[i] + 1000000);
       SAYS(rlc_receive_repair(LENT(receiver), LENT(work), unlike, sizeof unlike), -RLC_CONTRADICTION);
@@ -270,7 +274,7 @@ static void ten(void) {
 // C12: what two repair packets say of symbols that have left the window still counts.
 static void twelve(void) {
   struct room sender = sender_of(4, 4), receiver = receiver_of(4, 4), work = work_of(4, 4), repair[2], source[6];
-  SAYS(rlc_sender_open(LENT(sender), 9, 4, 4), 0);
+  SAYS(rlc_sender_open(LENT(sender), 9, 4, 4, all), 0);
   for (int i = 0; i < 6; i++) {
     const uint8_t adu = 0x41 + i;
     source[i] = room(5);
@@ -284,7 +288,7 @@ static void twelve(void) {
   }
   BYTES(repair[0].bytes, 0, 0, 0xf0, 2, 0, 0, 0, 0, 0, 0, 0, 3);
   BYTES(repair[1].bytes, 0, 0, 0xf0, 4, 0, 0, 0, 0, 0, 0, 0, 4);
-  SAYS(rlc_receiver_open(LENT(receiver), 9, 4, 4), 0);
+  SAYS(rlc_receiver_open(LENT(receiver), 9, 4, 4, all), 0);
   SAYS(rlc_receive_repair(LENT(receiver), LENT(work), LENT(repair[0])), 0);
   SAYS(rlc_receive_repair(LENT(receiver), LENT(work), LENT(repair[1])), 0);
   SAYS(rlc_receive_source(LENT(receiver), LENT(work), 1, LENT(source[4])), 1);
@@ -302,8 +306,8 @@ static void twelve(void) {
 // takes none, and neither does scheme 9 at DT 15; a refusal tells none.
 static void draws(void) {
   struct room sender = sender_of(4, 5), receiver = receiver_of(4, 5), work = work_of(4, 5), source = room(5), repair = room(12), both = room(16);
-  SAYS(rlc_sender_open(LENT(sender), 10, 4, 5), 0);
-  SAYS(rlc_receiver_open(LENT(receiver), 10, 4, 5), 0);
+  SAYS(rlc_sender_open(LENT(sender), 10, 4, 5, all), 0);
+  SAYS(rlc_receiver_open(LENT(receiver), 10, 4, 5, all), 0);
   for (uint8_t i = 0; i < 5; i++) {
     const uint8_t adu = 0x41 + i;
     SAYS(rlc_sender_add_adu(LENT(sender), 1, &adu, 1, LENT(source)), 5);
@@ -339,7 +343,7 @@ static int64_t solve(struct room receiver, struct room work, uint32_t esi, uint8
 // A known symbol is heard once its source packet was accepted, before it was solved or after; a refused one counts for nothing.
 static void heard_later(uint32_t width) {
   struct room receiver = receiver_of(4, width), work = work_of(4, width);
-  SAYS(rlc_receiver_open(LENT(receiver), 9, 4, width), 0);
+  SAYS(rlc_receiver_open(LENT(receiver), 9, 4, width, all), 0);
   check(!rlc_heard(rlc_symbol(LENT(receiver), 7)), "no symbol is heard before any packet");
   SAYS(solve(receiver, work, 7, 0x41), 1);
   SHOWS(receiver, 7, SOLVED, 1, 0, 1, 0x41);
@@ -360,7 +364,7 @@ static void jumps(uint32_t width) {
   struct room receiver = receiver_of(4, width), work = work_of(4, width);
   const uint32_t ahead[] = {width, 2 * width - 1, 2 * width, 2 * width + 1, 65535};
   uint32_t base = 0xfffffffe;
-  SAYS(rlc_receiver_open(LENT(receiver), 9, 4, width), 0);
+  SAYS(rlc_receiver_open(LENT(receiver), 9, 4, width, all), 0);
   for (size_t k = 0; k < sizeof ahead / sizeof *ahead; k++) {
     for (uint32_t esi = base; esi != base + width; esi++) SAYS(hear(receiver, work, esi, (uint8_t)esi), k == 0);
     const uint32_t last = base + ahead[k], next = last + 1 - width;
@@ -383,7 +387,7 @@ static void heard_in_part(void) {
   struct room receiver = receiver_of(4, 3), work = work_of(4, 3);
   const uint8_t sum[] = {0, 0, 0xf0, 3, 0, 0, 0, 0, 2, 3, 0, 0x47}, second[] = {0, 0, 0xf0, 1, 0, 0, 0, 1, 2, 3, 4, 5};
   const uint8_t two[] = {1, 2, 3, 4, 5, 0, 0, 0, 0}, unlike[] = {1, 2, 3, 4, 6, 0, 0, 0, 0};
-  SAYS(rlc_receiver_open(LENT(receiver), 9, 4, 3), 0);
+  SAYS(rlc_receiver_open(LENT(receiver), 9, 4, 3, all), 0);
   SAYS(rlc_receive_repair(LENT(receiver), LENT(work), sum, sizeof sum), 0);
   SAYS(rlc_receive_repair(LENT(receiver), LENT(work), second, sizeof second), 1);
   SAYS(rlc_receive_source(LENT(receiver), LENT(work), 1, unlike, sizeof unlike), -RLC_CONTRADICTION);
@@ -398,7 +402,7 @@ static void heard_in_part(void) {
 static void heard_or_solved(void) {
   check(rlc_heard(HEARD) == 1 && rlc_value(HEARD) == 0, "heard, and the value is 0");
   check(rlc_heard(SOLVED) == 0 && rlc_value(SOLVED) == 0, "solved, and the value is 0");
-  for (int number = RLC_VALUES; number <= RLC_PADDING; number++) check(rlc_heard(-number) == 0, "a refusal is not heard");
+  for (int number = RLC_VALUES; number <= RLC_UNANNOUNCED; number++) check(rlc_heard(-number) == 0, "a refusal is not heard");
   const uint32_t widths[] = {1, 2, 3, 8};
   for (size_t i = 0; i < sizeof widths / sizeof *widths; i++) {
     heard_later(widths[i]);
@@ -411,8 +415,8 @@ static void heard_or_solved(void) {
 static void many_draws(void) {
   struct room sender = sender_of(4, 255), receiver = receiver_of(4, 255), work = work_of(4, 255), source = room(4), repair = room(8 + 16 * 4);
   for (uint32_t scheme = 9; scheme <= 10; scheme++) {
-    SAYS(rlc_sender_open(LENT(sender), scheme, 4, 255), 0);
-    SAYS(rlc_receiver_open(LENT(receiver), scheme, 4, 255), 0);
+    SAYS(rlc_sender_open(LENT(sender), scheme, 4, 255, all), 0);
+    SAYS(rlc_receiver_open(LENT(receiver), scheme, 4, 255, all), 0);
     for (int i = 0; i < 255; i++) SAYS(rlc_sender_add_adu(LENT(sender), 1, source.bytes, 0, LENT(source)), 4);
     TELLS(rlc_sender_make_repair(LENT(sender), 48229, 14, 16, LENT(repair)), 8 + 16 * 4, scheme == 9 ? 16 * 255 : 7934);
     TELLS(rlc_receive_repair(LENT(receiver), LENT(work), LENT(repair)), 0, scheme == 9 ? 16 * 255 : 7934);
@@ -426,7 +430,7 @@ static void thirteen_and_fourteen(void) {
   struct room receiver = receiver_of(4, 2), narrow = receiver_of(4, 1), work = work_of(4, 2);
   const uint8_t second[] = {0, 0, 0xf0, 1, 0, 0, 0, 1, 1, 0, 1, 0x42}, heard[] = {0x42, 0, 0, 0, 1}, empty[] = {0, 0, 0, 0};
   const uint8_t longer[] = {0, 0, 0xf0, 1, 0, 0, 0, 1, 1, 0, 2, 0x41}, padded[] = {0, 0, 0xf0, 1, 0, 0, 0, 1, 1, 0, 0, 7};
-  SAYS(rlc_receiver_open(LENT(receiver), 9, 4, 2), 0);
+  SAYS(rlc_receiver_open(LENT(receiver), 9, 4, 2, all), 0);
   SAYS(rlc_receive_repair(LENT(receiver), LENT(work), second, sizeof second), 1);
   SHOWS(receiver, 1, SOLVED, 1, 0, 1, 0x42);
   WITHHOLDS(receiver, 1, RLC_NO_START);
@@ -435,18 +439,152 @@ static void thirteen_and_fourteen(void) {
   SHOWS(receiver, 1, HEARD, 1, 0, 1, 0x42);
   HANDS(receiver, 1, 1, 0x42);
   WITHHOLDS(receiver, 2, RLC_UNKNOWN);
-  SAYS(rlc_receiver_open(LENT(narrow), 9, 4, 1), 0);
+  SAYS(rlc_receiver_open(LENT(narrow), 9, 4, 1, all), 0);
   SAYS(rlc_receive_source(LENT(narrow), LENT(work), 1, empty, sizeof empty), 1);
   SAYS(rlc_receive_repair(LENT(narrow), LENT(work), longer, sizeof longer), 1);
   WITHHOLDS(narrow, 1, RLC_PADDING);
-  SAYS(rlc_receiver_open(LENT(narrow), 9, 4, 1), 0);
+  SAYS(rlc_receiver_open(LENT(narrow), 9, 4, 1, all), 0);
   SAYS(rlc_receive_source(LENT(narrow), LENT(work), 1, empty, sizeof empty), 1);
   SAYS(rlc_receive_repair(LENT(narrow), LENT(work), padded, sizeof padded), 1);
   WITHHOLDS(narrow, 1, RLC_PADDING);
 }
 
+// The two functions that set the bytes of flows: F is bit F mod 8, lowest first, of byte F div 8, and the others stay.
+static void announcing(void) {
+  const struct { uint8_t flow, byte, bit; } places[] = {{0, 0, 1}, {7, 0, 128}, {8, 1, 1}, {255, 31, 128}};
+  struct room flows = room(RLC_FLOWS);
+  check(sizeof all == 32, "the flows have 32 bytes");
+  for (size_t i = 0; i < sizeof places / sizeof *places; i++)
+    for (int others = 0; others < 2; others++) {
+      memset(flows.bytes, others ? 0x66 : 0, RLC_FLOWS);
+      uint8_t expected[RLC_FLOWS];
+      memcpy(expected, flows.bytes, RLC_FLOWS);
+      expected[places[i].byte] |= places[i].bit;
+      for (int again = 0; again < 2; again++) {
+        rlc_announce(flows.bytes, places[i].flow);
+        check(memcmp(flows.bytes, expected, RLC_FLOWS) == 0, "one more flow is announced");
+      }
+    }
+  memset(flows.bytes, 0, RLC_FLOWS);
+  for (int flow = 0; flow < 256; flow++) {
+    check(memcmp(flows.bytes, all, RLC_FLOWS) != 0, "not all flows are announced yet");
+    rlc_announce(flows.bytes, (uint8_t)flow);
+  }
+  check(memcmp(flows.bytes, all, RLC_FLOWS) == 0, "one after the other they are all announced");
+  memset(flows.bytes, 0x66, RLC_FLOWS);
+  rlc_announce_all(flows.bytes);
+  for (size_t i = 0; i < RLC_FLOWS; i++) check(flows.bytes[i] == 255, "all flows are announced");
+  check(untouched(flows, RLC_FLOWS), "the bytes past the flows are as they were");
+}
+
+// An end that announces these flows, whose bytes are then changed: the end has its own.
+typedef int64_t opening(uint8_t *, size_t, uint32_t, uint32_t, uint32_t, const uint8_t *);
+static void open_with(opening *open, struct room end, uint32_t width, const char *announced) {
+  uint8_t flows[RLC_FLOWS] = {0};
+  for (; *announced; announced++) rlc_announce(flows, (uint8_t)*announced);
+  SAYS(open(LENT(end), 9, 4, width, flows), 0);
+  memset(flows, 0x99, sizeof flows);
+}
+
+// The call says that the flow is not announced (-16), and changes no byte of an end's memory.
+#define REFUSES(call, end)                                                                        \
+  do {                                                                                            \
+    struct room before = room((end).length);                                                      \
+    memcpy(before.bytes, (end).bytes, (end).length);                                              \
+    SAYS(call, -RLC_UNANNOUNCED);                                                                 \
+    check(memcmp(before.bytes, (end).bytes, (end).length) == 0, "a stray changes nothing");       \
+    free(before.bytes);                                                                           \
+  } while (0)
+
+// A sender that announces flows 1 and 2 refuses the ADUs of others, after 3 and before 4 and 2, and gives them no ESI.
+static void strays_at_the_sender(void) {
+  struct room sender = room((size_t)rlc_sender_memory(4, 2)), unopened = room(sender.length), out = room(9);
+  const uint8_t adu[6] = {1, 2, 3, 4, 5, 6};
+  open_with(rlc_sender_open, sender, 2, "\1\2");
+  SAYS(rlc_sender_add_adu(LENT(unopened), 3, adu, 6, LENT(out)), -RLC_UNOPENED);
+  REFUSES(rlc_sender_add_adu(LENT(sender), 3, adu, 6, out.bytes, 0), sender);
+  REFUSES(rlc_sender_add_adu(LENT(sender), 0, adu, 5, out.bytes, 0), sender);
+  REFUSES(rlc_sender_add_adu(LENT(sender), 255, adu, 1, LENT(out)), sender);
+  SAYS(rlc_sender_make_repair(LENT(sender), 1, 15, 1, LENT(out)), -RLC_EMPTY);
+  SAYS(rlc_sender_add_adu(LENT(sender), 2, adu, 6, out.bytes, 0), -RLC_LONG);
+  SAYS(rlc_sender_add_adu(LENT(sender), 2, adu, 5, out.bytes, 8), -RLC_SHORT);
+  check(untouched(out, 0), "refusals leave the output");
+  SAYS(rlc_sender_add_adu(LENT(sender), 2, adu, 1, LENT(out)), 5);
+  BYTES(out.bytes, 1, 0, 0, 0, 0);
+  check(untouched(sender, sender.length), "the sender stays in its memory");
+}
+
+// A receiver that announces flow 1 refuses source packets of others, after 3, 2 and 5 and before 4, 8, 9 and 11; the first packet too, so that the next one
+// begins the window.
+static void strays_at_the_receiver(void) {
+  struct room receiver = receiver_of(4, 2), unopened = room(receiver.length), work = work_of(4, 2);
+  uint8_t stray[] = {9, 9, 9, 9, 9, 9, 0, 0, 0, 0};
+  open_with(rlc_receiver_open, receiver, 2, "\1");
+  SAYS(rlc_receive_source(LENT(unopened), work.bytes, 0, 3, stray, 3), -RLC_UNOPENED);
+  SAYS(rlc_receive_source(LENT(receiver), work.bytes, work.length - 1, 3, stray, 3), -RLC_SHORT);
+  SAYS(rlc_receive_source(LENT(receiver), LENT(work), 3, stray, 3), -RLC_FORM);
+  number(stray + 6, 70000);
+  for (size_t shorter = 0; shorter <= 6; shorter++)
+    REFUSES(rlc_receive_source(LENT(receiver), LENT(work), 3, stray + shorter, sizeof stray - shorter), receiver);
+  SAYS(rlc_receive_source(LENT(receiver), LENT(work), 1, stray, sizeof stray), -RLC_LONG);
+  HIDES(receiver, 70000, RLC_UNKNOWN);
+  WITHHOLDS(receiver, 70000, RLC_UNKNOWN);
+  SAYS(hear(receiver, work, 7, 0x41), 1);
+  SHOWS(receiver, 7, HEARD, 1, 0, 1, 0x41);
+  HIDES(receiver, 6, RLC_BEHIND);
+  const struct { uint32_t esi; int64_t says; } places[] = {{6, -RLC_BEHIND}, {7 + 65536, -RLC_AHEAD}, {7, -RLC_CONTRADICTION}, {8, 1}};
+  for (size_t i = 0; i < sizeof places / sizeof *places; i++) {
+    number(stray + 6, places[i].esi);
+    REFUSES(rlc_receive_source(LENT(receiver), LENT(work), 3, stray + 5, 5), receiver);
+    SAYS(rlc_receive_source(LENT(receiver), LENT(work), 1, stray + 5, 5), places[i].says);
+  }
+  check(untouched(receiver, receiver.length) && untouched(work, work.length), "the receiver stays in its memory");
+}
+
+// The sender announces flows 1 and 2, the receiver flow 1 alone. By repair the receiver solves an ADU of flow 2, of two symbols: they are counted and shown,
+// the ADU is withheld (after 12 and 14, before 2), and the one after it, found through its length, is handed out.
+static void strays_that_are_solved(void) {
+  struct room sender = sender_of(4, 4), receiver = receiver_of(4, 4), work = work_of(4, 4), source[3], repair[3];
+  const uint8_t adus[3][3] = {{0x41}, {1, 2, 3}, {0x43}};
+  open_with(rlc_sender_open, sender, 4, "\1\2");
+  open_with(rlc_receiver_open, receiver, 4, "\1");
+  for (size_t i = 0; i < 3; i++) {
+    const size_t length = i == 1 ? 3 : 1;
+    source[i] = room(length + 4), repair[i] = room(12);
+    SAYS(rlc_sender_add_adu(LENT(sender), i == 1 ? 2 : 1, adus[i], length, LENT(source[i])), (int64_t)length + 4);
+    SAYS(rlc_sender_make_repair(LENT(sender), 0, 15, 1, LENT(repair[i])), 12);
+  }
+  const uint8_t second[] = {0, 0, 0xf0, 1, 0, 0, 0, 2, 2, 3, 0, 0};
+  SAYS(rlc_receive_source(LENT(receiver), LENT(work), 1, LENT(source[0])), 1);
+  REFUSES(rlc_receive_source(LENT(receiver), LENT(work), 2, LENT(source[1])), receiver);
+  WITHHOLDS(receiver, 1, RLC_UNKNOWN);
+  SAYS(rlc_receive_repair(LENT(receiver), LENT(work), LENT(repair[1])), 0);
+  SAYS(rlc_receive_repair(LENT(receiver), LENT(work), second, sizeof second), 2);
+  SHOWS(receiver, 1, SOLVED, 2, 0, 3, 1);
+  SHOWS(receiver, 2, SOLVED, 2, 3, 0, 0);
+  WITHHOLDS(receiver, 1, RLC_UNANNOUNCED);
+  SAYS(rlc_adu(LENT(receiver), 1, source[0].bytes, 0), -RLC_UNANNOUNCED);
+  WITHHOLDS(receiver, 3, RLC_UNKNOWN);
+  SAYS(rlc_receive_repair(LENT(receiver), LENT(work), LENT(repair[2])), 1);
+  SHOWS(receiver, 3, SOLVED, 1, 0, 1, 0x43);
+  WITHHOLDS(receiver, 1, RLC_UNANNOUNCED);
+  WITHHOLDS(receiver, 2, RLC_NO_START);
+  HANDS(receiver, 0, 1, 0x41);
+  HANDS(receiver, 3, 1, 0x43);
+  REFUSES(rlc_receive_source(LENT(receiver), LENT(work), 2, LENT(source[1])), receiver);
+  SHOWS(receiver, 1, SOLVED, 2, 0, 3, 1);
+
+  const uint8_t padded[] = {0, 0, 0xf0, 1, 0, 0, 0, 1, 2, 0, 0, 7}, started[] = {0x41, 0, 0, 0, 0};
+  open_with(rlc_receiver_open, receiver, 4, "\1");
+  SAYS(rlc_receive_source(LENT(receiver), LENT(work), 1, started, sizeof started), 1);
+  SAYS(rlc_receive_repair(LENT(receiver), LENT(work), padded, sizeof padded), 1);
+  WITHHOLDS(receiver, 1, RLC_PADDING);
+  check(untouched(sender, sender.length) && untouched(receiver, receiver.length) && untouched(work, work.length), "all stay in their memory");
+}
+
 int main(int count, char **words) {
   unset = count == 2 && strcmp(words[1], "unset") == 0;
+  rlc_announce_all(all);
   sizes();
   windows();
   seven_and_eight();
@@ -457,6 +595,10 @@ int main(int count, char **words) {
   heard_or_solved();
   many_draws();
   thirteen_and_fourteen();
+  announcing();
+  strays_at_the_sender();
+  strays_at_the_receiver();
+  strays_that_are_solved();
   printf("%d passed, %d failed\n", passed, failed);
   return failed != 0;
 }
