@@ -3,9 +3,9 @@
 use crate::link::{self, Closing, Gate, Kind, HEAD, LARGEST};
 use crate::loss::Loss;
 use crate::options::Options;
-use crate::stream::{symbols_of, Adu, Stream};
+use crate::stream::{symbols_of, Adu, Stream, STRAY};
 use crate::tally::{Fate, Got, Packet, Run, Sent};
-use rlc8681::{Origin, Receiver, Refusal, Sender};
+use rlc8681::{Flows, Origin, Receiver, Refusal, Sender};
 use std::collections::VecDeque;
 use std::io;
 use std::net::UdpSocket;
@@ -94,8 +94,11 @@ pub fn run(options: &Options, mut watch: impl FnMut(&Progress)) -> Result<Run, F
         Some(path) => Stream::file(options.seed, size, width, path).map_err(|why| format!("{}: {why}", path.display()))?,
         None => Stream::made(options.seed, size, width, options.symbols),
     };
-    let sender = Sender::open(options.scheme, options.symbol_size, options.width).map_err(refused("opening the sender"))?;
-    let receiver = Receiver::open(options.scheme, options.symbol_size, options.width).map_err(refused("opening the receiver"))?;
+    let Options { scheme, symbol_size, width, .. } = *options;
+    let flows = stream.flows();
+    let heard_flows = if options.open_to_strays { Flows::all() } else { flows };
+    let sender = Sender::open(scheme, symbol_size, width, &flows).map_err(refused("opening the sender"))?;
+    let receiver = Receiver::open(scheme, symbol_size, width, &heard_flows).map_err(refused("opening the receiver"))?;
     let (sending, receiving) = link::sockets().map_err(failed("sockets on 127.0.0.1"))?;
     let shared = Shared { gate: Gate::new(), ledger: Mutex::default(), sender_done: AtomicBool::new(false), progress: Progress::default() };
     let start = Instant::now();
@@ -151,6 +154,9 @@ impl<'a> Sending<'a> {
         let _done = Done(&self.shared.sender_done);
         let mut since = 0;
         while let Some(adu) = stream.next().map_err(failed("reading the stream"))? {
+            if self.log.adus.checked_rem(self.options.stray) == Some(0) {
+                self.stray()?;
+            }
             self.source(adu)?;
             since += 1;
             if since == self.options.every {
@@ -189,6 +195,25 @@ impl<'a> Sending<'a> {
         }
         drop(ledger);
         self.send(packet, flow, written)
+    }
+
+    /// A stray comes: its ADU is given to the sender, which refuses it, and a packet of it, numbered a window ahead, to the link, which loses
+    /// none of these.
+    fn stray(&mut self) -> Result<(), Failure> {
+        const ADU: u8 = 0x5a;
+        match self.sender.add_adu(STRAY, &[ADU], &mut self.datagram[HEAD..]) {
+            Err(Refusal::Unannounced) => self.log.strays += 1,
+            answer => return Err(format!("adding a stray ADU was answered {answer:?}")),
+        }
+        if self.log.adus < self.options.join {
+            return Ok(());
+        }
+        self.log.stray_packets += 1;
+        let [a, b, c, d] = ((self.log.symbols + u64::from(self.options.width)) as u32).to_be_bytes();
+        let packet = [ADU, a, b, c, d];
+        link::write_head(&mut self.datagram, u32::MAX, Kind::Source, STRAY);
+        self.datagram[HEAD..HEAD + packet.len()].copy_from_slice(&packet);
+        self.datagram(HEAD + packet.len())
     }
 
     fn repair(&mut self) -> Result<(), Failure> {
@@ -287,6 +312,10 @@ impl<'a> Receiving<'a> {
                 self.leave(self.top);
                 return Ok(self.log);
             }
+            if kind == Kind::Source && flow == STRAY {
+                self.stray(packet);
+                continue;
+            }
             if self.options.corrupt == Some(self.log.arrived) {
                 let middle = packet.len() / 2;
                 if let Some(byte) = packet.get_mut(middle) {
@@ -316,6 +345,14 @@ impl<'a> Receiving<'a> {
         Some(first..first + symbols as u64)
     }
 
+    /// A stray came: the receiver refuses it because of its flow.
+    fn stray(&mut self, packet: &[u8]) {
+        match self.receiver.receive_source(STRAY, packet) {
+            Err(Refusal::Unannounced) => self.log.strays += 1,
+            answer => self.log.differs(|| format!("a stray packet, answered {answer:?}")),
+        }
+    }
+
     /// Takes a packet, and hands out what can be then.
     fn take(&mut self, number: u32, kind: Kind, flow: u8, packet: &[u8]) {
         self.packet(number, kind, flow, packet);
@@ -335,7 +372,7 @@ impl<'a> Receiving<'a> {
         let count = match answer {
             Ok(received) => received.known as u64,
             Err(why) => {
-                self.log.refused[usize::from(why.number()).min(15)] += 1;
+                self.log.refused[usize::from(why.number()).min(16)] += 1;
                 let early = why == Refusal::Behind && self.log.joined.is_some_and(|joined| named.start < joined);
                 self.log.early += u64::from(early);
                 return;

@@ -18,6 +18,7 @@ pub struct Options {
     pub burst: f64,
     pub mbit: Option<f64>,
     pub join: u64,
+    pub stray: u64,
     pub scheme: Scheme,
     pub symbol_size: u32,
     pub width: u32,
@@ -29,6 +30,8 @@ pub struct Options {
     pub corrupt: Option<u64>,
     /// The same of the one that comes late to the receiver: for the self-test.
     pub late: Option<u64>,
+    /// The receiver announces all flows, so that it takes strays: for the self-test.
+    pub open_to_strays: bool,
 }
 
 impl Default for Options {
@@ -41,6 +44,7 @@ impl Default for Options {
             burst: 2.0,
             mbit: None,
             join: 0,
+            stray: 50,
             scheme: Scheme::Gf256,
             symbol_size: 1400,
             width: 64,
@@ -50,6 +54,7 @@ impl Default for Options {
             svg: PathBuf::from(SVG),
             corrupt: None,
             late: None,
+            open_to_strays: false,
         }
     }
 }
@@ -105,6 +110,7 @@ pub fn read(words: impl IntoIterator<Item = OsString>) -> Result<Wish, String> {
             "--burst" => options.burst = number(name, &value()?, 1.0, 1_000_000.0)?,
             "--mbit" => options.mbit = Some(number(name, &value()?, 0.001, 1_000_000.0)?),
             "--join" => options.join = number(name, &value()?, 0, 100_000_000)?,
+            "--stray" => options.stray = number(name, &value()?, 0, 100_000_000)?,
             "--scheme" => {
                 options.scheme = match number(name, &value()?, 9, 10)? {
                     9u32 => Scheme::Gf2,
@@ -137,8 +143,10 @@ mod tests {
 
     #[test]
     fn options_are_read() {
-        let Ok(Wish::Run(o)) = words("--scheme 9 --loss=7.5 --width 255 --join 70 a-file --svg x.svg --svg y.svg") else { panic!() };
-        assert_eq!((o.scheme, o.loss, o.width, o.density, o.join), (Scheme::Gf2, 7.5, 255, 7, 70));
+        let Ok(Wish::Run(o)) = words("--scheme 9 --loss=7.5 --width 255 --join 70 --stray 0 a-file --svg x.svg --svg y.svg") else {
+            panic!()
+        };
+        assert_eq!((o.scheme, o.loss, o.width, o.density, o.join, o.stray), (Scheme::Gf2, 7.5, 255, 7, 70, 0));
         assert_eq!((o.file.unwrap().to_str(), o.svg.to_str()), (Some("a-file"), Some("y.svg")));
         let Ok(Wish::Run(o)) = words("-- --loss") else { panic!() };
         assert_eq!(o.file.unwrap().to_str(), Some("--loss"));
@@ -151,7 +159,9 @@ mod tests {
         for line in ["--loss", "--loss x", "--loss -1", "--loss 101", "--loss nan", "--width 0", "--width 256", "--symbol-size 3"] {
             assert!(words(line).is_err(), "{line}");
         }
-        for line in ["--scheme 8", "--density 16", "--every 0", "--repairs 17", "--seed -1", "--join -1", "a b", "--nothing 1", "-x"] {
+        for line in
+            ["--scheme 8", "--density 16", "--every 0", "--repairs 17", "--seed -1", "--join -1", "--stray -1", "a b", "--nothing 1", "-x"]
+        {
             assert!(words(line).is_err(), "{line}");
         }
     }

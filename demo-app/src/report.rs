@@ -2,6 +2,7 @@
 
 use crate::link::Kind;
 use crate::options::Options;
+use crate::stream::STRAY;
 use crate::tally::{Got, Run, Times};
 use rlc8681::Scheme;
 use std::fmt::Write;
@@ -121,6 +122,10 @@ pub fn result(options: &Options, run: &Run) -> String {
             unheard => format!(", {} before the receiver was on", grouped(unheard)),
         };
         line(name, all, format!("{what} sent: {} arrived, {} lost{unheard}", grouped(arrived), grouped(lost)));
+    }
+    if sent.strays > 0 {
+        let (by_sender, by_receiver) = (grouped(sent.strays), grouped(got.strays));
+        line("strays", sent.strays, format!("of flow {STRAY}, not announced: sender refused {by_sender}, receiver {by_receiver} (16)"));
     }
     let (heard, rebuilt, never) = run.symbols();
     // What lies before the position joined at is not held against repair.

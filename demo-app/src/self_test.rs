@@ -4,6 +4,7 @@ use crate::ends;
 use crate::link::Kind;
 use crate::options::{self, Options};
 use crate::picture;
+use crate::report;
 use crate::tally::{Fate, Packet, Run};
 use rlc8681::Scheme;
 use std::ffi::OsString;
@@ -12,7 +13,7 @@ type Check = fn() -> Result<(), String>;
 
 /// Prints what came out wrong, or that nothing did. True where nothing did.
 pub fn run() -> bool {
-    let checks: [(&str, Check); 15] = [
+    let checks: [(&str, Check); 19] = [
         ("scheme 10 rebuilds", || rebuilds(short())),
         ("scheme 9 rebuilds", || rebuilds(Options { scheme: Scheme::Gf2, density: 7, ..short() })),
         ("small symbols, odd width, many repairs", || {
@@ -25,6 +26,11 @@ pub fn run() -> bool {
         ("joining at a repair packet", || joins(Options { join: 300, ..short() }, Kind::Repair)),
         // Here the link loses the first packet, and the second arrives
         ("joining at the second packet", || joins(Options { loss: 30.0, seed: 48, ..short() }, Kind::Source)),
+        ("strays are refused, and change nothing", || strays(short())),
+        ("strays alone join nothing", || silent(Options { loss: 100.0, stray: 1, ..short() })),
+        // The first packet that the receiver hears is a stray
+        ("a stray, then joining", || joins(Options { join: 301, stray: 7, ..short() }, Kind::Source)),
+        ("a stray that is taken is noticed", || taken(Options { open_to_strays: true, ..short() })),
         ("the same seed, the same run", || repeats(short())),
         ("a symbol rebuilt first and heard later is heard", || heard_later(short())),
         ("a wrong origin is noticed", || misheard(short())),
@@ -78,7 +84,32 @@ fn right(options: &Options) -> Result<Run, String> {
     demand(behind == early, || format!("{behind} times refusal 8, {early} of them by joining"))?;
     let (_, arrived, _) = run.packets(Kind::Source);
     demand(run.got.adus >= arrived, || format!("{} ADUs of {arrived} source packets", run.got.adus))?;
+    let (strays, refused) = (run.sent.stray_packets, run.got.strays);
+    demand(strays == refused && (strays > 0) == (options.stray > 0), || format!("{refused} of {strays} strays refused"))?;
     Ok(run)
+}
+
+/// Strays, however many, are refused at both ends, and all else is as it is without them.
+fn strays(options: Options) -> Result<(), String> {
+    let without = right(&Options { stray: 0, ..options.clone() })?;
+    demand(without.sent.strays == 0 && !report::result(&options, &without).contains("strays"), || String::from("strays in a run without"))?;
+    for stray in [1, 7, 50] {
+        let options = Options { stray, ..options.clone() };
+        let run = right(&options)?;
+        let wanted = (run.sent.adus + stray - 1) / stray;
+        let (by_sender, by_receiver) = (run.sent.strays, run.got.strays);
+        demand(by_sender == wanted && by_receiver == wanted, || format!("{by_sender} and {by_receiver} of {wanted} strays refused"))?;
+        demand(report::result(&options, &run).contains("\nstrays"), || String::from("the report does not tell"))?;
+        let same = run.got.fates == without.got.fates && run.got.bytes == without.got.bytes && run.got.refused == without.got.refused;
+        demand(same, || String::from("strays changed the run"))?;
+    }
+    Ok(())
+}
+
+/// A receiver that announces every flow takes the strays.
+fn taken(options: Options) -> Result<(), String> {
+    let run = silently(&options)?;
+    demand(run.got.strays == 0 && run.got.differing > 0 && !run.faults().is_empty(), || String::from("nothing was noticed"))
 }
 
 /// A receiver that does not hear the beginning joins at a packet of this kind. After a source packet the repair that reaches back before it

@@ -1,6 +1,7 @@
 //! The stream: ADUs cut from a file, or made like video.
 
 use crate::random::Random;
+use rlc8681::Flows;
 use std::fs::File;
 use std::io::{self, BufReader, Read};
 use std::path::Path;
@@ -13,6 +14,8 @@ pub struct Adu {
 const VIDEO: u8 = 1;
 const AUDIO: u8 = 2;
 const CAPTION: u8 = 3;
+/// The flow of packets that are not of the stream: no stream has it, and no end announces it.
+pub const STRAY: u8 = 200;
 /// A key frame, then frames that build on it.
 const GROUP: usize = 25;
 /// The most symbols in an ADU, and the most bytes: a datagram takes 65,507.
@@ -75,6 +78,14 @@ impl Stream {
         Ok(Stream::new(seed, symbol_size, width, kind))
     }
 
+    /// The flows of its ADUs, which both ends announce.
+    pub fn flows(&self) -> Flows {
+        Flows::only(match self.kind {
+            Kind::Made { .. } => &[VIDEO, AUDIO, CAPTION],
+            Kind::File { .. } => &[VIDEO],
+        })
+    }
+
     /// How much of the stream is taken, from 0 to 1.
     pub fn share(&self) -> f64 {
         let (taken, all) = match &self.kind {
@@ -132,7 +143,7 @@ impl Stream {
 
 #[cfg(test)]
 mod tests {
-    use super::{symbols_of, Stream};
+    use super::{symbols_of, Stream, STRAY};
 
     #[test]
     fn made_adus_fit_the_width_and_end() {
@@ -144,7 +155,9 @@ mod tests {
                 assert!(n <= width && adu.bytes.len() <= 60_000);
                 symbols += n;
                 flows[usize::from(adu.flow)] += 1;
+                assert!(stream.flows().contains(adu.flow));
             }
+            assert!(!stream.flows().contains(STRAY));
             assert!((2000..2003).contains(&symbols) && flows[1..].iter().all(|&f| f > 0), "{symbols} {flows:?}");
             assert_eq!(stream.share(), 1.0);
         }

@@ -76,6 +76,9 @@ pub struct Sent {
     pub symbols: u64,
     pub link_bytes: u64,
     pub flows: BTreeSet<u8>,
+    /// Strays: ADUs of a flow that is not announced, which the sender refused, and packets of it on the link, which are in no other figure.
+    pub strays: u64,
+    pub stray_packets: u64,
     pub add: Times,
     pub make: Times,
 }
@@ -94,8 +97,10 @@ pub struct Got {
     pub accepted: Vec<u32>,
     pub later: u64,
     /// How often a packet call gave each refusal; of refusal 8, how often to a packet that begins before the position joined at.
-    pub refused: [u64; 16],
+    pub refused: [u64; 17],
     pub early: u64,
+    /// The strays that arrived and were refused because of their flow (16): these are in none of the counts above.
+    pub strays: u64,
     pub adus: u64,
     pub bytes: u64,
     /// ADUs and rebuilt symbols that are not what was sent: how many, and the first in words.
@@ -163,6 +168,9 @@ impl Run {
         }
         for (number, count) in got.refused.iter().enumerate().filter(|(number, count)| **count > 0 && ![8, 9].contains(number)) {
             faults.push(format!("{count} packets of the sender met refusal {number}"));
+        }
+        if self.sent.stray_packets != got.strays {
+            faults.push(format!("{} strays were on the link and {} were refused", self.sent.stray_packets, got.strays));
         }
         let through = self.sent.packets.iter().filter(|p| p.arrives()).count() as u64;
         if through != got.arrived {
