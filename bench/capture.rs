@@ -12,6 +12,9 @@ const CHARACTERS: usize = 8192;
 const PACKET_LINES: u64 = 1_000_000;
 const MEMORY: usize = 65_536;
 
+/// All flows are announced.
+const ALL: plain::Flows = [255; 32];
+
 // ---- Lines
 
 /// Reads the next line without its 0A, and tells whether there is one. Of a line with too many characters only one too many is kept.
@@ -118,7 +121,7 @@ fn opened(line: &[u8]) -> Option<Memory> {
         return None;
     }
     let mut memory = Memory { state: vec![0; state], work: vec![0; work] };
-    Receiver::open(&mut memory.state, scheme, size, width).ok()?;
+    Receiver::open(&mut memory.state, scheme, size, width, &ALL).ok()?;
     Some(memory)
 }
 
@@ -165,8 +168,8 @@ fn hexadecimal(bytes: &[u8]) -> String {
 /// Packet lines of a sender in scheme 10 whose ADUs fill one symbol each: of its source packets, or of its repair packets, one after each ADU.
 fn write_stream(output: &mut impl Write, count: usize, size: usize, width: usize, source: bool) -> io::Result<()> {
     let refused = |refusal| io::Error::new(io::ErrorKind::Other, format!("the sender refused: {refusal}"));
-    let (mut sender, mut packet) = (vec![0; 32 + width * size], vec![0; 8 + size]);
-    Sender::open(&mut sender, 10, size, width).map_err(refused)?;
+    let (mut sender, mut packet) = (vec![0; plain::SENDER_HEADER + width * size], vec![0; 8 + size]);
+    Sender::open(&mut sender, 10, size, width, &ALL).map_err(refused)?;
     writeln!(output, "scheme=10 e={size} width={width}")?;
     for k in 0..count {
         let adu: Vec<u8> = (0..size - 3).map(|i| (i * i + 13 * k) as u8).collect();

@@ -31,10 +31,10 @@ static size_t source_size(struct setting s) { return adu_size(s) + 4; }
 static size_t repair_size(struct setting s, size_t symbols) { return 8 + symbols * s.size; }
 static size_t row_size(struct setting s) { return s.width + s.size + 4; }
 // The bytes of a receiver, and of its working memory: past the rows a byte for each.
-static size_t memory_of(struct setting s) { return 64 + s.width * (row_size(s) + 1); }
-static size_t work_of(struct setting s) { return 64 + (s.width + 1) * (row_size(s) + 1); }
+static size_t memory_of(struct setting s) { return RECEIVER_HEADER + s.width * (row_size(s) + 1); }
+static size_t work_of(struct setting s) { return RECEIVER_HEADER + (s.width + 1) * (row_size(s) + 1); }
 static size_t compared(const struct receiver *r) { return sizeof(size_t) + r->memory_size + adu_size(r->setting); }
-static u8 *row_of(const struct receiver *r, size_t row) { return r->memory + 64 + row * row_size(r->setting); }
+static u8 *row_of(const struct receiver *r, size_t row) { return r->memory + RECEIVER_HEADER + row * row_size(r->setting); }
 static u8 *symbol_of(const struct receiver *r, size_t row) { return row_of(r, row) + r->setting.width; }
 
 static size_t take(struct receiver *r, int source, const u8 *packet, size_t n) {
@@ -133,11 +133,11 @@ struct sender {
   u8 *memory;
 };
 static struct sender sender_of(struct setting s) {
-  size_t size = 32 + s.width * s.size;
+  size_t size = SENDER_HEADER + s.width * s.size;
   return (struct sender){s, size, room(size)};
 }
 static void open_sender(struct sender *s) {
-  expect("sender_open", proved.sender_open(s->memory, s->size, s->setting.scheme, s->setting.size, s->setting.width) == 0);
+  expect("sender_open", proved.sender_open(s->memory, s->size, s->setting.scheme, s->setting.size, s->setting.width, all_flows) == 0);
 }
 // Writes the source packet of an ADU of so many symbols, the k-th. Gives its size.
 static size_t send(struct sender *s, size_t symbols, size_t k, u8 *packet) {
@@ -159,7 +159,7 @@ static size_t recovering_dt(struct setting s) { return s.scheme == 9 ? 7 : 15; }
 
 static void open_receiver(struct receiver *r) {
   struct setting s = r->setting;
-  expect("receiver_open", r->library->receiver_open(r->memory, r->memory_size, s.scheme, s.size, s.width) == 0);
+  expect("receiver_open", r->library->receiver_open(r->memory, r->memory_size, s.scheme, s.size, s.width, all_flows) == 0);
 }
 // The receivers of a line, of the proved code, of plain Rust and one for the limit or another way of the proved code.
 static void receivers_of(struct receiver *ends[3], struct setting s) {
@@ -362,7 +362,7 @@ static void check_joining(void) {
   u8 *memory[2] = {room(size), room(size)}, *work = room(work_size), adu;
   for (int k = 0; k < 2; k++) {
     const struct library *l = ways[k];
-    expect("receiver_open", l->receiver_open(memory[k], size, s.scheme, s.size, s.width) == 0);
+    expect("receiver_open", l->receiver_open(memory[k], size, s.scheme, s.size, s.width, all_flows) == 0);
     expect("receive_repair", l->receive_repair(memory[k], size, work, work_size, unlike, sizeof unlike) == refused);
     expect("symbol", l->symbol(memory[k], size, 256) == refused && l->symbol(memory[k], size, 0xfffffffe) == refused);
     for (uint32_t i = 0; i < 7; i++) {

@@ -29,7 +29,7 @@ static void run_repair(void *of, size_t key) {
 static void limit_adding(void *of, size_t key) {
   struct sender *s = of;
   size_t n = adu_size(s->setting);
-  memcpy(s->memory + 32 + s->slot * s->setting.size, s->adus + key * n, n);
+  memcpy(s->memory + SENDER_HEADER + s->slot * s->setting.size, s->adus + key * n, n);
   memcpy(s->packet, s->adus + key * n, n);
   s->slot = s->slot + 1 == s->setting.width ? 0 : s->slot + 1;
 }
@@ -37,20 +37,20 @@ static void limit_adding(void *of, size_t key) {
 static void limit_repair(void *of, size_t key) {
   struct sender *s = of;
   plain_coefficients(s->coefficients, s->setting.width, s->setting.scheme, key, DT);
-  limit_sum(s->packet + 8, s->setting.size, s->memory + 32, s->setting.size, s->rows, s->setting.width);
+  limit_sum(s->packet + 8, s->setting.size, s->memory + SENDER_HEADER, s->setting.size, s->rows, s->setting.width);
 }
 
 // A sender whose window is full and begins in the middle of its memory.
 static struct sender *sender_of(const struct library *library, struct setting setting) {
   struct sender *s = (struct sender *)room(sizeof *s);
-  size_t packet_size = 8 + setting.size, memory_size = 32 + setting.width * setting.size;
+  size_t packet_size = 8 + setting.size, memory_size = SENDER_HEADER + setting.width * setting.size;
   *s = (struct sender){library, setting, packet_size, memory_size, 0, room(KEYS * adu_size(setting)), room(packet_size + memory_size), 0,
     room(setting.width), room(setting.width)};
   s->memory = s->packet + packet_size;
   for (size_t k = 0; k < setting.width; k++) s->rows[k] = k;
   for (size_t key = 0; key < KEYS; key++)
     for (size_t i = 0; i < adu_size(setting); i++) s->adus[key * adu_size(setting) + i] = i * i + 13 * key;
-  expect("sender_open", library->sender_open(s->memory, memory_size, setting.scheme, setting.size, setting.width) == 0);
+  expect("sender_open", library->sender_open(s->memory, memory_size, setting.scheme, setting.size, setting.width, all_flows) == 0);
   for (size_t k = 0; k < setting.width + setting.width / 2; k++) run_add(s, k % KEYS);
   return s;
 }
@@ -73,7 +73,7 @@ static void fill_repair(struct table *t, struct setting s) {
   struct sender *other = sender_of(&plain, s);
   u8 *coefficients = room(KEYS * s.width), **rows = (u8 **)room(s.width * sizeof *rows);
   for (size_t key = 0; key < KEYS; key++) plain_coefficients(coefficients + key * s.width, s.width, s.scheme, key, DT);
-  for (size_t k = 0; k < s.width; k++) rows[k] = other->memory + 32 + (s.width / 2 + k) % s.width * s.size;
+  for (size_t k = 0; k < s.width; k++) rows[k] = other->memory + SENDER_HEADER + (s.width / 2 + k) % s.width * s.size;
   add_isal(l, 2, 0, s.size, s.width, s.width, coefficients, rows);
   for (int k = 2; k < 6; k++) l->ways[k].from = 8;
 }
