@@ -3,7 +3,7 @@
 --   adu-length
 --   formOf, flowOf, sizeOf, countOf, lastOf: the tests of form, flow and number of symbols, the symbols named, and what comes after the place
 --   in-order: the checks, one after the other
---   lent, well-formed, known-flow, few, near: what is left to check once some have passed
+--   lent, well-formed, of-announced, few, near: what is left to check once some have passed
 --   checked, reading-checked
 use Rattle.words.specs.Words.{_≡_, arith, ℕ, _≤_, _+_, List, length, _<_, refl, _∙_, _-_, true, _*_, false, Bool, _^_, leb, le-leb, lt-ltb, le-ltb, _&&_}
 use Rattle.words.specs.Words.{leb-true, eqb-true, eq-eqb, length-take, mul-le-mul-right, suc-mul, decLt}
@@ -18,7 +18,7 @@ use Rattle.wire.proofs.Adui.{room, least}
 use Rattle.coefficients.specs.Coefficients.{allOk}
 use Rattle.history.specs.History.{sideOf, Call, source-call, repair-call, esiOf, Reading, fails, located, check, fromSide, readSource, readRepair}
 use Rattle.history.specs.History.{reading, workingSize, halfway, farthest}
-use Rattle.history.specs.Checking.{distance, Lent, Formed, Known-flow, Few, fourOrSix, namedBy, keysIn, Drawn, saysAt, Checked, Reading-checked}
+use Rattle.history.specs.Checking.{distance, Lent, Formed, FlowAnnounced, Few, fourOrSix, namedBy, keysIn, Drawn, saysAt, Checked, Reading-checked}
 use Rattle.history.proofs.Readings.{check-stops, check-goes}
 
 -- An ADU fits so many symbols exactly where it takes no more.
@@ -69,12 +69,12 @@ module _ (s : Setting) (z : 0 < s .size) where
       let w = within-bounds 1 16 (repairCount E p) a in
       (repairCount E p, w .0, w .1, eqb-true (length p) (8 + repairCount E p * E) b)
 
-  flow-true : (flows : List ℕ) (c : Call) → Known-flow s flows c → flowOf flows c ≡ true
+  flow-true : (flows : List ℕ) (c : Call) → FlowAnnounced s flows c → flowOf flows c ≡ true
   unfolding flowOf
   flow-true flows (source-call flow p) h = announced-exactly flows flow .1 h
   flow-true flows (repair-call p) h = refl
 
-  flow-is : (flows : List ℕ) (c : Call) → flowOf flows c ≡ true → Known-flow s flows c
+  flow-is : (flows : List ℕ) (c : Call) → flowOf flows c ≡ true → FlowAnnounced s flows c
   unfolding flowOf
   flow-is flows (source-call flow p) h = announced-exactly flows flow .0 h
   flow-is flows (repair-call p) h = tt
@@ -152,13 +152,13 @@ module _ (s : Setting) (z : 0 < s .size) where
       well-formed : Lent s room → Formed s c → reading s flows b room c ≡ of-flow
       well-formed h f = lent h ∙ check-goes (formOf c) 5 of-flow (form-true c f)
 
-      known-flow : Lent s room → Formed s c → Known-flow s flows c → reading s flows b room c ≡ sized
-      known-flow h f a = well-formed h f ∙ check-goes (flowOf flows c) 16 sized (flow-true flows c a)
+      of-announced : Lent s room → Formed s c → FlowAnnounced s flows c → reading s flows b room c ≡ sized
+      of-announced h f a = well-formed h f ∙ check-goes (flowOf flows c) 16 sized (flow-true flows c a)
 
-      few : Lent s room → Formed s c → Known-flow s flows c → Few s c → reading s flows b room c ≡ placed
-      few h f a k = known-flow h f a ∙ check-goes (sizeOf c) (fourOrSix s c) placed (few-true c k)
+      few : Lent s room → Formed s c → FlowAnnounced s flows c → Few s c → reading s flows b room c ≡ placed
+      few h f a k = of-announced h f a ∙ check-goes (sizeOf c) (fourOrSix s c) placed (few-true c k)
 
-      near : Lent s room → Formed s c → Known-flow s flows c → Few s c → d < 2 ^ 31 → d + n ≤ 65536 → reading s flows b room c ≡ lastOf c d
+      near : Lent s room → Formed s c → FlowAnnounced s flows c → Few s c → d < 2 ^ 31 → d + n ≤ 65536 → reading s flows b room c ≡ lastOf c d
       near h f a k l g = few h f a k ∙ side-ahead l ∙ check-goes (leb (d + n) 65536) 9 (lastOf c d) (le-leb (d + n) 65536 g)
 
     last-stops : (c : Call) (d : ℕ) → ¬ Drawn s c → lastOf c d ≡ fails 10
@@ -176,7 +176,7 @@ module _ (s : Setting) (z : 0 < s .size) where
       short = λ n. in-order c ∙ check-stops (leb (workingSize s) room) 2 (formed c) (λ e. n (omega (arith, leb-true (workingSize s) room e)));
       form = λ h n. lent c h ∙ check-stops (formOf c) 5 (of-flow c) (λ e. n (form-is c e));
       stray = λ h f n. well-formed c h f ∙ check-stops (flowOf flows c) 16 (sized c) (λ e. n (flow-is flows c e));
-      many = λ h f a n. known-flow c h f a ∙ check-stops (sizeOf c) (fourOrSix s c) (placed c) (λ e. n (few-is c e));
+      many = λ h f a n. of-announced c h f a ∙ check-stops (sizeOf c) (fourOrSix s c) (placed c) (λ e. n (few-is c e));
       behind = λ h f a k l. few c h f a k ∙ side-behind c l;
       far = λ h f a k l g. few c h f a k ∙ side-ahead c l
           ∙ check-stops (leb (d c + n c) 65536) 9 (lastOf c (d c)) (λ e. omega (arith, g, leb-true (d c + n c) 65536 e));

@@ -26,9 +26,9 @@ module _ (s : Setting) where
   Formed (repair-call p) = (k : ℕ) × (1 ≤ k) × (k ≤ 16) × (length p ≡ 8 + k * E)
 
   -- The flow of a source packet is announced (else 16).
-  abbrev pub Known-flow : (flows : List ℕ) → Call → Type 0
-  Known-flow flows (source-call flow p) = Announced flows flow
-  Known-flow flows (repair-call p) = Unit {0}
+  abbrev pub FlowAnnounced : (flows : List ℕ) → Call → Type 0
+  FlowAnnounced flows (source-call flow p) = Announced flows flow
+  FlowAnnounced flows (repair-call p) = Unit {0}
 
   -- An ADU has no more than 65,535 bytes, and fits `width` symbols with F and L before it (else 4); a repair packet protects 1 to `width` (else 6).
   abbrev pub Few : Call → Type 0
@@ -65,13 +65,13 @@ module _ (s : Setting) where
   pub record Checked (flows : List ℕ) (b room : ℕ) (c : Call) (r : Reading) : Type 0 where
     pub short : ¬ Lent room → r ≡ fails 2
     pub form : Lent room → ¬ Formed c → r ≡ fails 5
-    pub stray : Lent room → Formed c → ¬ Known-flow flows c → r ≡ fails 16
-    pub many : Lent room → Formed c → Known-flow flows c → ¬ Few c → r ≡ fails (fourOrSix c)
-    pub behind : Lent room → Formed c → Known-flow flows c → Few c → 2 ^ 31 ≤ distance b c → r ≡ fails 8
-    pub far : Lent room → Formed c → Known-flow flows c → Few c → distance b c < 2 ^ 31 → 65536 < distance b c + namedBy c → r ≡ fails 9
-    pub zeros : Lent room → Formed c → Known-flow flows c → Few c → distance b c < 2 ^ 31 → distance b c + namedBy c ≤ 65536 → ¬ Drawn c → r ≡ fails 10
+    pub stray : Lent room → Formed c → ¬ FlowAnnounced flows c → r ≡ fails 16
+    pub many : Lent room → Formed c → FlowAnnounced flows c → ¬ Few c → r ≡ fails (fourOrSix c)
+    pub behind : Lent room → Formed c → FlowAnnounced flows c → Few c → 2 ^ 31 ≤ distance b c → r ≡ fails 8
+    pub far : Lent room → Formed c → FlowAnnounced flows c → Few c → distance b c < 2 ^ 31 → 65536 < distance b c + namedBy c → r ≡ fails 9
+    pub zeros : Lent room → Formed c → FlowAnnounced flows c → Few c → distance b c < 2 ^ 31 → distance b c + namedBy c ≤ 65536 → ¬ Drawn c → r ≡ fails 10
     -- Where none fails, the packet lies so far past the base.
-    pub passes : Lent room → Formed c → Known-flow flows c → Few c → distance b c < 2 ^ 31 → distance b c + namedBy c ≤ 65536 → Drawn c
+    pub passes : Lent room → Formed c → FlowAnnounced flows c → Few c → distance b c < 2 ^ 31 → distance b c + namedBy c ≤ 65536 → Drawn c
         → r ≡ located (saysAt (b + distance b c) c)
 
 -- Of every call, whatever its packet, with any flows and any base.
