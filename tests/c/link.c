@@ -500,9 +500,11 @@ static void open_with(opening *open, struct room end, uint32_t width, const char
 static void strays_at_the_sender(void) {
   struct room sender = room((size_t)rlc_sender_memory(4, 2)), unopened = room(sender.length), out = room(9);
   const uint8_t adu[6] = {1, 2, 3, 4, 5, 6};
+  static const uint8_t longer[65536];
   open_with(rlc_sender_open, sender, 2, "\1\2");
   SAYS(rlc_sender_add_adu(LENT(unopened), 3, adu, 6, LENT(out)), -RLC_UNOPENED);
   REFUSES(rlc_sender_add_adu(LENT(sender), 3, adu, 6, out.bytes, 0), sender);
+  REFUSES(rlc_sender_add_adu(LENT(sender), 3, longer, sizeof longer, LENT(out)), sender);
   REFUSES(rlc_sender_add_adu(LENT(sender), 0, adu, 5, out.bytes, 0), sender);
   REFUSES(rlc_sender_add_adu(LENT(sender), 255, adu, 1, LENT(out)), sender);
   SAYS(rlc_sender_make_repair(LENT(sender), 1, 15, 1, LENT(out)), -RLC_EMPTY);
@@ -519,6 +521,7 @@ static void strays_at_the_sender(void) {
 static void strays_at_the_receiver(void) {
   struct room receiver = receiver_of(4, 2), unopened = room(receiver.length), work = work_of(4, 2);
   uint8_t stray[] = {9, 9, 9, 9, 9, 9, 0, 0, 0, 0};
+  static const uint8_t longer[65540];
   open_with(rlc_receiver_open, receiver, 2, "\1");
   SAYS(rlc_receive_source(LENT(unopened), work.bytes, 0, 3, stray, 3), -RLC_UNOPENED);
   SAYS(rlc_receive_source(LENT(receiver), work.bytes, work.length - 1, 3, stray, 3), -RLC_SHORT);
@@ -526,6 +529,8 @@ static void strays_at_the_receiver(void) {
   number(stray + 6, 70000);
   for (size_t shorter = 0; shorter <= 6; shorter++)
     REFUSES(rlc_receive_source(LENT(receiver), LENT(work), 3, stray + shorter, sizeof stray - shorter), receiver);
+  REFUSES(rlc_receive_source(LENT(receiver), LENT(work), 3, longer, sizeof longer), receiver);
+  SAYS(rlc_receive_source(LENT(receiver), LENT(work), 1, longer, sizeof longer), -RLC_LONG);
   SAYS(rlc_receive_source(LENT(receiver), LENT(work), 1, stray, sizeof stray), -RLC_LONG);
   HIDES(receiver, 70000, RLC_UNKNOWN);
   WITHHOLDS(receiver, 70000, RLC_UNKNOWN);
