@@ -7,7 +7,7 @@ use Rattle.receiver.specs.declared.PacketAnswer.the-variants.{Accepted, NotAcce
 use Rattle.history.specs.History.{Call, source-call, repair-call}
 use Rattle.history.specs.Model.{State, Outcome, refused, done, saidOf, stateAfter, receiving}
 use Rattle.wire.specs.Answers.{said}
-use Rattle.flows.specs.Promises.{allFlows}
+use Rattle.wire.specs.Flows.{allFlows}
 use Rattle.receiver.specs.Promises.{answerOf, Draws, Follows, PacketAnswered}
 use Rattle.holding.specs.Layout.{HoldsWith}
 use Rattle.receiver.specs.Layout.{receiverLayout}

@@ -10,7 +10,7 @@ use Rattle.wire.specs.declared.Answer.{Answer}
 use Rattle.wire.specs.declared.Answer.the-variants.{Done, Refused}
 use Rattle.wire.specs.declared.Refusal.{Refusal}
 use Rattle.wire.specs.Answers.{value, refusal, said}
-use Rattle.flows.specs.Promises.{allFlows}
+use Rattle.wire.specs.Flows.{allFlows}
 use Rattle.history.specs.History.{memorySize, workingSize}
 use Rattle.history.specs.Model.{opened}
 use Rattle.receiver.specs.Promises.{opening}

@@ -1,7 +1,7 @@
 -- Contracts of inner functions.
 use Rattle.words.specs.Words.{_≡_, ℕ, _≤_, List, some, true, none, false, _++_, Bool, Option}
 use Rattle.wire.specs.declared.Setting.{Setting}
-use Rattle.flows.specs.Promises.{allFlows}
+use Rattle.wire.specs.Flows.{allFlows}
 use Rattle.history.specs.Model.{State, opened}
 use Rattle.holding.specs.Layout.{HoldsWith}
 use Rattle.lines.specs.Reading.{callIn}

@@ -9,9 +9,9 @@ use Rattle.words.specs.Words.{_&&_}
 use Rattle.words.specs.Words.{_||_, not-suc-le-zero, ℕ-discrete, eqb-true, eq-eqb, ne-eqb}
 use lib.Bits.{bitOr, or-step, or-shr}
 use lib.Seq.{getD-set-same, getD-set-other}
-use Rattle.wire.specs.Flows.{announced}
+use Rattle.wire.specs.Flows.{announced, allFlows}
 use Rattle.wire.proofs.Settings.{both}
-use Rattle.flows.specs.Promises.{Announces, allFlows}
+use Rattle.flows.specs.Promises.{Announces}
 
 -- ---- tests
 

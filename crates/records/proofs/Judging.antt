@@ -5,7 +5,7 @@ use Rattle.wire.specs.declared.Setting.{Setting}
 use Rattle.history.specs.History.{Call, source-call, repair-call, OfBytes, esiOf, Side, behind, ahead, Reading, fails, located, check, fromSide, readSource}
 use Rattle.history.specs.History.{readRepair, reading, Located, Log, readAfter, logged, Judged}
 use Rattle.wire.specs.Answers.{Said, value, refusal}
-use Rattle.flows.specs.Promises.{allFlows}
+use Rattle.wire.specs.Flows.{allFlows}
 use Rattle.history.specs.Model.{packetOf, Joined, State, foundBy, saidOf, stateAfter, added, responds, answering, receiving}
 use Rattle.history.proofs.Answers.{Tracks, Passes, base-found, judged}
 use Rattle.history.proofs.Counting.{judged-once}

@@ -3,8 +3,7 @@ use Rattle.words.specs.Words.{_≡_, ℕ, _≤_, _+_, List, length, _<_, [], so
 use Rattle.wire.specs.declared.Setting.{Setting}
 use Rattle.wire.specs.Settings.{schemeNumber, Valid}
 use Rattle.wire.specs.Answers.{Said, value, refusal}
-use Rattle.wire.specs.Flows.{announced}
-use Rattle.flows.specs.Promises.{allFlows}
+use Rattle.wire.specs.Flows.{announced, allFlows}
 use Rattle.history.specs.History.{Call, memorySize, workingSize, Log, fresh, readAfter, logged, Judged}
 use Rattle.printing.specs.Printed.{lastLine}
 use Rattle.lines.specs.Lines.{linesOf}

@@ -4,7 +4,7 @@ use Rattle.words.specs.Words.{ℕ, List, length, [], some, _∷_, none, _++_, O
 use Rattle.wire.specs.declared.Setting.{Setting}
 use Rattle.wire.specs.Settings.{settingOf}
 use Rattle.wire.specs.Answers.{Said, value, refusal}
-use Rattle.flows.specs.Promises.{allFlows}
+use Rattle.wire.specs.Flows.{allFlows}
 use Rattle.history.specs.History.{Call, memorySize, workingSize}
 use Rattle.history.specs.Model.{State, opened, saidOf, stateAfter, receiving}
 use Rattle.lines.specs.Lines.{linesOf}

@@ -1,7 +1,7 @@
 -- Where a capture stands after lines of it, and what is printed on the way. The claims need only that it is kept: a reader need not believe it.
 use Rattle.words.specs.Words.{_≡_, ℕ, _≤_, _+_, List, length, [], some, _∷_, none, _*_, _++_, Option, take, cond, ltb, min}
 use Rattle.wire.specs.declared.Setting.{Setting}
-use Rattle.flows.specs.Promises.{allFlows}
+use Rattle.wire.specs.Flows.{allFlows}
 use Rattle.history.specs.Model.{State, opened}
 use Rattle.holding.specs.Layout.{HoldsWith}
 use Rattle.printing.specs.Printed.{recordLine}

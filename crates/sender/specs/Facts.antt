@@ -1,13 +1,13 @@
 -- Computed from the definitions of the calls: refusals in their order, the limits of memory and of ADUs, flows that are announced and not, the keys and
 -- density thresholds that are written, and windows that have lost symbols: one table, one result.
-use Rattle.words.specs.Words.{_≡_, ℕ, List, length, refl, _-_, [], _∷_, getD, _++_, replicate, map}
+use Rattle.words.specs.Words.{_≡_, ℕ, List, length, refl, _-_, [], _∷_, getD, _++_, map}
 use Rattle.tinymt.specs.Computing.{computing}
 use Rattle.field.specs.Gf256.{product}
 use Rattle.memory.specs.Part.{part}
 use Rattle.rows.specs.Combination.{combination}
 use Rattle.wire.specs.declared.Scheme.the-variants.{Gf2}
 use Rattle.wire.specs.Settings.{inRange, settingOf}
-use Rattle.wire.specs.Flows.{announced}
+use Rattle.wire.specs.Flows.{announced, allFlows}
 use Rattle.wire.specs.Packets.{zeros, symbolCount, adui, sourceSymbols, sourcePacket, repairHeader, repairPacket, densityThreshold}
 use Rattle.coefficients.specs.Coefficients.{nonzeroFrom, bitOf, byteOf, extend, coefficientsOf}
 use Rattle.sender.specs.State.{Sender, fresh, headerSize}
@@ -33,16 +33,13 @@ abbrev after : Outcome → Sender
 after (refused n) = fresh (record { scheme = Gf2; size = 0; width = 0 }) []
 after (done p s) = s
 
--- all flows announced; and those of one byte, the i-th
-abbrev all : List ℕ
-all = replicate 32 255
-
+-- the flows of one byte announced, the i-th
 abbrev only : (i byte : ℕ) → List ℕ
 only i byte = zeros i ++ (byte ∷ zeros (31 - i))
 
 -- a fresh sender of a scheme, E 4 and width 2; and one that took the ADUs of a list, with F 1
 abbrev opened : (scheme : ℕ) → Sender
-opened scheme = after (opening scheme 4 2 all 72)
+opened scheme = after (opening scheme 4 2 allFlows 72)
 
 abbrev took : (scheme : ℕ) → List (List ℕ) → Sender
 took scheme [] = opened scheme
@@ -66,7 +63,7 @@ all-new = took 9 ((1 ∷ 2 ∷ []) ∷ (0x42 ∷ []) ∷ (0x41 ∷ []) ∷ [])
 
 -- E 1,500 and width 255, the largest
 abbrev largest : Sender
-largest = after (opening 10 1500 255 all 382564)
+largest = after (opening 10 1500 255 allFlows 382564)
 
 -- one that announces the flows of one byte; and the refusals, 0 for none, of an empty ADU of each flow of a list
 abbrev announces : (i byte : ℕ) → Sender
@@ -85,8 +82,8 @@ thresholds = 0 ∷ 1 ∷ 2 ∷ 3 ∷ 4 ∷ 5 ∷ 6 ∷ 7 ∷ 8 ∷ 9 ∷ 10 ∷ 
 
 pub calls :
     -- opening: 1 before 2; memory one byte short, and just enough, for the smallest sender and the largest
-    line (opening 8 4 1 all 0) ∷ line (opening 9 3 1 all 0) ∷ line (opening 9 4 256 all 0)
-    ∷ line (opening 9 4 1 all 67) ∷ line (opening 9 4 1 all 68) ∷ line (opening 10 1500 255 all 382563) ∷ line (opening 10 1500 255 all 382564)
+    line (opening 8 4 1 allFlows 0) ∷ line (opening 9 3 1 allFlows 0) ∷ line (opening 9 4 256 allFlows 0)
+    ∷ line (opening 9 4 1 allFlows 67) ∷ line (opening 9 4 1 allFlows 68) ∷ line (opening 10 1500 255 allFlows 382563) ∷ line (opening 10 1500 255 allFlows 382564)
     -- an ADU of a flow that is not announced, of a symbol too many, with no output: 16 before 4; with output one byte short: 16 before 2; and of one that is
     ∷ line (adding (announces 0 1) 1 (zeros 6) 0) ∷ line (adding (announces 0 1) 1 (zeros 5) 8) ∷ line (adding (announces 0 2) 1 (zeros 6) 0)
     ∷ line (adding (announces 0 2) 1 (zeros 5) 8)

@@ -11,10 +11,9 @@ use Rattle.wire.specs.declared.Scheme.the-variants.{Gf2, Gf256}
 use Rattle.wire.specs.declared.Setting.{Setting}
 use Rattle.wire.specs.Settings.{inRange, settingOf}
 use Rattle.wire.specs.Stored.{field, settingIn}
-use Rattle.wire.specs.Flows.{announced}
+use Rattle.wire.specs.Flows.{announced, allFlows}
 use Rattle.wire.specs.Packets.{zeros, symbolCount, adui, sourceSymbols, sourcePacket, sourceForm, sourceAdu, sourceEsi, repairHeader, repairPacket, repairCount}
 use Rattle.wire.specs.Packets.{repairForm, repairKey, densityThreshold, protectedCount, firstEsi, repairSymbols}
-use Rattle.flows.specs.Promises.{allFlows}
 use Rattle.coefficients.specs.Coefficients.{nonzeroFrom, bitOf, byteOf, extend, coefficientsOf, packetDraws}
 use Rattle.sender.specs.declared.Header.{Header}
 use Rattle.sender.specs.State.{Sender, fresh, headerSize, headerIn}

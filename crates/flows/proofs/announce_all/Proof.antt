@@ -1,6 +1,6 @@
 -- `flows::announce_all` meets its contract.
 use Rattle.words.specs.Words.{_≡_, arith, ℕ, length, refl, needs, _∙_, ap, replicate}
-use Rattle.flows.specs.Promises.{allFlows}
+use Rattle.wire.specs.Flows.{allFlows}
 use Rattle.flows.proofs.Bits.{all-announced}
 use Rattle.flows.proofs.announce_all.Statement.{statement}
 use Rattle.flows.proofs.announce_all.Tie as tie
