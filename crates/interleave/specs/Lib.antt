@@ -1,0 +1,5 @@
+pub mod Grid
+pub mod Inner
+pub mod Promises
+pub mod Claims
+pub mod Facts
