@@ -62,7 +62,8 @@ enum rlc_refusal {
     RLC_UNKNOWN = 12,       /* not known, past the window, or no window yet */
     RLC_NO_START = 13,      /* no start */
     RLC_PADDING = 14,       /* ADUI needs more than the width, or padding not zero */
-    RLC_UNANNOUNCED = 16    /* flow not announced */
+    RLC_UNANNOUNCED = 16,   /* flow not announced */
+    RLC_GRID = 17           /* rows or columns outside their values, or input that is not all of such a grid */
 };
 
 /* The value in an answer of these three, and the draws beside it: 0 where the answer is a refusal. */
@@ -103,6 +104,20 @@ int64_t rlc_working_memory(uint32_t symbol_size, uint32_t width);
  * Refusal: RLC_VALUES where budget, bitrate or symbol_size is outside its values; *remainder is then as it was.
  */
 int64_t rlc_dw_max_size(uint64_t budget, uint64_t bitrate, uint32_t symbol_size, uint64_t *remainder);
+
+/*
+ * Send order against bursts: a grid of rows x columns symbols, 1 to 255 each, of symbol_size (E) bytes. rlc_interleave takes them row by row from in and
+ * writes them column by column at the front of out: the symbol in row r and column c, both from 0, is number r x columns + c in in and number
+ * c x rows + r in out. rlc_deinterleave, with the same rows and columns, takes what the other wrote and writes what it was given. A link that loses up to
+ * rows neighbours in send order, wherever the loss begins, loses at most one symbol of each row. Nothing need be opened: these two have no memory.
+ * in and out are two buffers (see above: they may not overlap). Answers the bytes written, rows x columns x E, which is at most 97,537,500; out past them is
+ * as it was.
+ * Refusals: RLC_VALUES (E), RLC_GRID (rows or columns not 1 to 255, or in_length not rows x columns x E), RLC_SHORT (out).
+ */
+int64_t rlc_interleave(const uint8_t *in, size_t in_length, uint32_t symbol_size, uint32_t rows, uint32_t columns,
+                       uint8_t *out, size_t out_length);
+int64_t rlc_deinterleave(const uint8_t *in, size_t in_length, uint32_t symbol_size, uint32_t rows, uint32_t columns,
+                         uint8_t *out, size_t out_length);
 
 /*
  * Opens a sender in memory, whatever it held. Scheme is 9 or 10; flows are those that it announces. Answers 0.

@@ -1,8 +1,9 @@
-// The calls of sender and receiver, that for the window, and those that announce flows, under C names (include/rlc8681.h): each takes numbers, slices and
-// the 32 bytes of the flows, that for the window a number to write, and answers one signed number; those that announce flows answer nothing. What a
-// function promises is the promise of the call that it wraps, of the answer that its number codes.
+// The calls of sender and receiver, that for the window, those that rearrange a grid, and those that announce flows, under C names (include/rlc8681.h):
+// each takes numbers, slices and the 32 bytes of the flows, that for the window a number to write, and answers one signed number; those that announce flows
+// answer nothing. What a function promises is the promise of the call that it wraps, of the answer that its number codes.
 ghost use Rattle.words.specs.Words.{_≡_};
 ghost use Rattle.latency.specs.Promises.{WindowAnswered};
+ghost use Rattle.interleave.specs.Promises.{Interleaves, Deinterleaves};
 ghost use Rattle.flows.specs.Promises.{Announces, AnnouncesAll};
 ghost use Rattle.sender.specs.Promises.{Opens, Adds, RepairMade};
 ghost use Rattle.history.specs.History.{source-call, repair-call};
@@ -44,6 +45,46 @@ pub extern "C" fn rlc_dw_max_size(budget: u64, bitrate: u64, size: u32, remainde
         latency::dw_max_size(budget, bitrate, size as usize),
         remainder,
     )
+}
+
+#[no_mangle]
+pub extern "C" fn rlc_interleave(
+    src: &[u8],
+    size: u32,
+    rows: u32,
+    columns: u32,
+    out: &mut [u8],
+) -> i64
+    ensures { λ r. ⌜ Codes said
+        (λ a. Interleaves size rows columns (now (src .entry)) (now (out .entry)) a (now (out .exit))) r ⌝ }
+{
+    coding::coded_answer(interleave::interleave(
+        src,
+        size as usize,
+        rows as usize,
+        columns as usize,
+        out,
+    ))
+}
+
+#[no_mangle]
+pub extern "C" fn rlc_deinterleave(
+    src: &[u8],
+    size: u32,
+    rows: u32,
+    columns: u32,
+    out: &mut [u8],
+) -> i64
+    ensures { λ r. ⌜ Codes said
+        (λ a. Deinterleaves size rows columns (now (src .entry)) (now (out .entry)) a (now (out .exit))) r ⌝ }
+{
+    coding::coded_answer(interleave::deinterleave(
+        src,
+        size as usize,
+        rows as usize,
+        columns as usize,
+        out,
+    ))
 }
 
 #[no_mangle]
