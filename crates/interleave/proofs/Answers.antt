@@ -1,5 +1,5 @@
 -- The answer: by which tests it is which, and what one that is a number of bytes says of the grid.
-use Rattle.words.specs.Words.{_≡_, arith, ℕ, _≤_, _<_, refl, _∙_, sym, true, _*_, false, Bool, decLt, eqb, ltb, mul-le-mul, eqb-true, eq-eqb, lt-ltb, le-ltb}
+use Rattle.words.specs.Words.{_≡_, arith, ℕ, _≤_, _<_, refl, _∙_, sym, true, _*_, false, Bool, decLt, eqb, mul-le-mul, eqb-true, eq-eqb, lt-ltb, le-ltb}
 use Rattle.words.specs.Words.{true≢false, List, length, ap}
 use native.Mathlib.Nat.{mul-comm}
 use Rattle.wire.specs.Numbers.{within}
@@ -7,7 +7,7 @@ use Rattle.memory.specs.Part.{splice}
 use Rattle.wire.specs.declared.Refusal.{Refusal}
 use Rattle.wire.specs.declared.Answer.{Answer}
 use Rattle.wire.specs.declared.Answer.the-variants.{Done, Refused}
-use Rattle.wire.specs.Answers.{Said, value, refusal, said}
+use Rattle.wire.specs.Answers.{value, refusal, said}
 use Rattle.wire.proofs.Settings.{both, within-true, within-bounds}
 use Rattle.interleave.specs.Grid.{isGrid, answerTo}
 use Rattle.interleave.specs.Inner.{Fits}

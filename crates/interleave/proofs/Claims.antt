@@ -1,10 +1,10 @@
 -- The claims: what is promised is that each symbol goes to its place, and what can be concluded from that.
-use Rattle.words.specs.Words.{_≡_, arith, ℕ, _≤_, _+_, List, length, _<_, refl, _∙_, sym, ap, _%_, _*_, drop, take, _/_, length-take-le, take-append-drop, zero-add, ap₂}
+use Rattle.words.specs.Words.{_≡_, arith, ℕ, _≤_, _+_, List, length, _<_, refl, _∙_, sym, ap, _*_, take, length-take-le, take-append-drop, zero-add, ap₂}
 use Rattle.memory.specs.Part.{part, splice}
 use Rattle.memory.proofs.Parts.{length-splice, past-splice, part-within, part-part, whole, row-fits}
 use Rattle.wire.specs.declared.Answer.{Answer}
 use Rattle.wire.specs.Answers.{Said, value, refusal, said}
-use Rattle.interleave.specs.Grid.{takenAt, sentAt, symbolsFrom, answerTo, outputAfter}
+use Rattle.interleave.specs.Grid.{symbolsFrom, answerTo, outputAfter}
 use Rattle.interleave.specs.Promises.{Rearranges}
 use Rattle.interleave.specs.Claims.{SizeAllowed, IsGrid, Refuses, Moves, Judged, Sent, Put-back, Undone}
 use Rattle.interleave.proofs.Symbols.{symbols-same, symbols-length, symbols-part}

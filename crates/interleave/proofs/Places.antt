@@ -1,6 +1,6 @@
 -- Places of a grid: every place is that of one row and one column, in the order taken and in send order.
-use Rattle.words.specs.Words.{_≡_, arith, ℕ, _≤_, _+_, _<_, _∙_, sym, ap, _%_, suc, zero, _*_, _/_, mod-lt, add-zero, mod-eq-of-lt, decLt}
-use native.Mathlib.Nat.{mul-add-div-right, mul-add-mod-self-right, div-eq-of-lt, div-add-mod', div-lt-iff-lt-mul, mul-comm, mul-le-mul-left, mul-suc}
+use Rattle.words.specs.Words.{_≡_, arith, ℕ, _≤_, _+_, _<_, _%_, suc, zero, _*_, _/_, mod-lt, add-zero, mod-eq-of-lt, decLt}
+use native.Mathlib.Nat.{mul-add-div-right, mul-add-mod-self-right, div-eq-of-lt, div-add-mod', div-lt-iff-lt-mul, mul-comm}
 use Rattle.memory.proofs.Parts.{row-fits}
 use Rattle.interleave.specs.Grid.{takenAt, sentAt}
 use Rattle.interleave.specs.Claims.{Spread}

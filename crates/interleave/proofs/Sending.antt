@@ -1,5 +1,5 @@
 -- A turn of the loop that sends a grid: at place p, the symbol in a row and a column.
-use Rattle.words.specs.Words.{_≡_, arith, ℕ, _≤_, _+_, List, length, _<_, refl, _∙_, sym, ap, _%_, zero, _*_, _/_, add-one, suc-mul}
+use Rattle.words.specs.Words.{_≡_, arith, ℕ, _≤_, _+_, List, length, _<_, refl, _∙_, _%_, _*_, _/_, add-one, suc-mul}
 use Rattle.memory.specs.Part.{part, splice}
 use Rattle.memory.proofs.Parts.{row-fits, length-splice, length-part}
 use Rattle.interleave.specs.Grid.{takenAt, sentAt, symbolsFrom}

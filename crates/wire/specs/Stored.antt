@@ -1,6 +1,6 @@
 -- How a setting is stored at the front of an end's memory: four numbers of two bytes, the kind of end (1 a sender, 2 a receiver), scheme, E and width.
 -- Both ends find refusal 3 by these definitions.
-use Rattle.words.specs.Words.{ℕ, _+_, List, length, some, none, _*_, _++_, Option, cond, leb, eqb, _&&_}
+use Rattle.words.specs.Words.{ℕ, List, length, some, none, _*_, _++_, Option, cond, leb, eqb, _&&_}
 use Rattle.memory.specs.Part.{part}
 use Rattle.memory.specs.Number.{number, bytes}
 use Rattle.wire.specs.declared.Setting.{Setting}

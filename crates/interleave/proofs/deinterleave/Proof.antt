@@ -1,5 +1,5 @@
 -- `interleave::deinterleave` meets its contract.
-use Rattle.words.specs.Words.{needs, _∙_, ap}
+use Rattle.words.specs.Words.{needs}
 use native.Mathlib.Nat.{mul-comm}
 use Rattle.interleave.proofs.Answers.{done-fits, turned-fits, done, refused}
 use Rattle.interleave.proofs.deinterleave.Statement.{statement}

@@ -1,6 +1,5 @@
 -- `interleave::send` meets its contract: at each place a turn of `Sending`.
-use Rattle.words.specs.Words.{_≡_, arith, ℕ, _≤_, _<_, needs, _-_, _*_, length, ⊎-elim}
-use Rattle.memory.specs.Part.{splice}
+use Rattle.words.specs.Words.{_≡_, arith, _≤_, needs, _-_, _*_, length, ⊎-elim}
 use Rattle.interleave.proofs.Answers.{products}
 use Rattle.interleave.proofs.Sending.{Sending, begun, Turn, turn, next-row, next-column}
 use Rattle.interleave.proofs.send.Statement.{statement}
