@@ -1,6 +1,6 @@
 // Document 01's table of refusals ("Why a call says no"), line by line: what each small example answers. None is known for 10. Then cases of joining,
-// of the ADU call (flow, length and output, or the refusal), and of flows that are not announced (document 02, No. 7). The examples are a table on
-// standard input, and a line of it is a step: its first character says which, and the bytes after it are hexadecimal.
+// of the ADU call (flow, length and output, or the refusal), of flows that are not announced (document 02, No. 7), and of grids (No. 8). The examples are a
+// table on standard input, and a line of it is a step: its first character says which, and the bytes after it are hexadecimal.
 //
 // =  prints the rest of the line           .  ends a printed line
 // m  lends so many bytes of the memory     z  makes all its bytes zero
@@ -12,6 +12,8 @@
 // y  shows the symbol with an ESI          h  hands out the ADU that begins at an ESI
 // f  announces a flow, and no other, from the next opening on
 // F  announces all flows from the next opening on, as at the beginning
+// g  puts a grid into send order: E, rows, columns, and its bytes
+// G  puts it back
 ghost use Rattle.words.specs.Words.{_≡_, _≤_, length};
 use libc::STDIN_FILENO;
 use report::print;
@@ -139,6 +141,18 @@ fn asks(step: u8, dt: u8, count: u8, esi: u32, mem: &[u8], out: &mut [u8]) {
     }
 }
 
+// A call that takes E, rows and columns, and a grid.
+fn rearranges(step: u8, size: u8, rows: u8, columns: u8, grid: &[u8], out: &mut [u8]) {
+    let size = size as usize;
+    let rows = rows as usize;
+    let columns = columns as usize;
+    match step {
+        b'g' => report::print_answer(interleave::interleave(grid, size, rows, columns, out)),
+        b'G' => report::print_answer(interleave::deinterleave(grid, size, rows, columns, out)),
+        _ => {}
+    }
+}
+
 // The call that a step names, if it names one.
 fn call(
     step: u8,
@@ -154,6 +168,16 @@ fn call(
     opens(step, args[0], args[1], args[2], announced, mem);
     takes(step, args, n, mem, work, out);
     asks(step, args[0], args[1], esi_of(args), mem, out);
+    if 3 <= n {
+        rearranges(
+            step,
+            args[0],
+            args[1],
+            args[2],
+            memory::part(args, 3, n - 3),
+            out,
+        );
+    }
 }
 
 // The same on so much of the memories as is lent.
