@@ -9,6 +9,25 @@ extern "C" {
 
     pub fn rlc_dw_max_size(budget: u64, bitrate: u64, symbol_size: u32, remainder: *mut u64) -> i64;
 
+    pub fn rlc_interleave(
+        taken: *const u8,
+        taken_len: usize,
+        symbol_size: u32,
+        rows: u32,
+        columns: u32,
+        out: *mut u8,
+        out_len: usize,
+    ) -> i64;
+    pub fn rlc_deinterleave(
+        sent: *const u8,
+        sent_len: usize,
+        symbol_size: u32,
+        rows: u32,
+        columns: u32,
+        out: *mut u8,
+        out_len: usize,
+    ) -> i64;
+
     pub fn rlc_announce(flows: *mut u8, flow: u8);
     pub fn rlc_announce_all(flows: *mut u8);
 

@@ -6,7 +6,7 @@
 //! its window that the packets determine, and which of them it heard and which it solved ([`Origin`]); it can join a running stream, at the
 //! first packet that it accepts. All working is exact: what it shows is what the packets imply, and a packet that contradicts them is
 //! refused. Each end announces the flows that it is for ([`Flows`]), and refuses ADUs and source packets of others. [`dw_max_size`] tells how
-//! wide a window may be under a latency budget.
+//! wide a window may be under a latency budget; a [`Grid`] puts symbols into another order for a link that loses neighbours together.
 //!
 //! ```
 //! use rlc8681::{Flows, Receiver, Scheme, Sender};
@@ -33,12 +33,14 @@
 
 mod ffi;
 mod flows;
+mod grid;
 mod latency;
 mod receiver;
 mod refusal;
 mod sender;
 
 pub use flows::Flows;
+pub use grid::Grid;
 pub use latency::{dw_max_size, WindowSize};
 pub use receiver::{Adu, Origin, Received, Receiver};
 pub use refusal::Refusal;

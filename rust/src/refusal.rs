@@ -36,10 +36,12 @@ pub enum Refusal {
     Padding = 14,
     /// 16: the flow is not announced.
     Unannounced = 16,
+    /// 17: rows or columns outside their values, or symbols that are not all of such a grid.
+    Grid = 17,
 }
 
 impl Refusal {
-    /// The refusal's number, 1 to 14 or 16.
+    /// The refusal's number: 1 to 14, 16 or 17.
     ///
     /// ```
     /// assert_eq!(rlc8681::Refusal::Contradiction.number(), 11);
@@ -49,7 +51,7 @@ impl Refusal {
         self as u8
     }
 
-    /// The refusal of a number; none for a number other than 1 to 14 and 16.
+    /// The refusal of a number; none for a number other than 1 to 14, 16 and 17.
     ///
     /// ```
     /// use rlc8681::Refusal;
@@ -74,6 +76,7 @@ impl Refusal {
             13 => Refusal::NoStart,
             14 => Refusal::Padding,
             16 => Refusal::Unannounced,
+            17 => Refusal::Grid,
             _ => return None,
         })
     }
@@ -97,6 +100,7 @@ impl fmt::Display for Refusal {
             Refusal::NoStart => "no start",
             Refusal::Padding => "ADUI needs more than the width, or padding not zero",
             Refusal::Unannounced => "flow not announced",
+            Refusal::Grid => "rows or columns outside their values, or input that is not all of such a grid",
         })
     }
 }

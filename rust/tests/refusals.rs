@@ -1,10 +1,10 @@
-//! Every refusal of document 01's table, and 16 of document 02, by a small example, and the order of refusals in each call.
+//! Every refusal of document 01's table, and 16 and 17 of document 02, by a small example, and the order of refusals in each call.
 
 mod library;
 mod reference;
 
 use reference::{repair_packet, source_packet};
-use rlc8681::{Adu, Flows, Received, Receiver, Refusal, Repair, Scheme, Sender};
+use rlc8681::{Adu, Flows, Grid, Received, Receiver, Refusal, Repair, Scheme, Sender};
 
 fn sender(symbol_size: u32, width: u32) -> Sender {
     Sender::open(Scheme::Gf2, symbol_size, width, &Flows::all()).unwrap()
@@ -64,15 +64,16 @@ fn table_of_examples() {
     assert_eq!(narrow.receive_repair(&all_ones(1, 1, &[[1, 0, 2, 0]])), known(1));
     assert_eq!(narrow.adu(1, &mut [0; 9]), Err(Refusal::Padding));
     assert_eq!(joined_with(2, &Flows::only(&[9])).receive_source(1, &source_packet(&[], 1)), Err(Refusal::Unannounced));
+    assert_eq!(Grid { symbol_size: 4, rows: 2, columns: 3 }.interleave(&[0; 23], &mut [0; 24]), Err(Refusal::Grid));
 }
 
 #[test]
 fn numbers_and_words() {
     let all: Vec<Refusal> = (0..=255).filter_map(Refusal::from_number).collect();
     let numbers: Vec<u8> = all.iter().map(|refusal| refusal.number()).collect();
-    assert_eq!(numbers, (1..=14).chain([16]).collect::<Vec<u8>>());
+    assert_eq!(numbers, (1..=14).chain([16, 17]).collect::<Vec<u8>>());
     let words: Vec<String> = all.iter().map(Refusal::to_string).collect();
-    // Document 01's words; to 1, document 02's No. 3 adds budget and bitrate, and No. 7 adds 16
+    // Document 01's words; to 1, document 02's No. 3 adds budget and bitrate, and No. 7 and 8 add 16 and 17
     let expected = [
         "scheme, E, width, latency budget or bitrate outside its values",
         "memory for opening, working memory or output too short",
@@ -89,6 +90,7 @@ fn numbers_and_words() {
         "no start",
         "ADUI needs more than the width, or padding not zero",
         "flow not announced",
+        "rows or columns outside their values, or input that is not all of such a grid",
     ];
     assert_eq!(words, expected);
 }

@@ -16,6 +16,17 @@ mod raw {
         pub fn rlc_receiver_memory(symbol_size: u32, width: u32) -> i64;
         pub fn rlc_working_memory(symbol_size: u32, width: u32) -> i64;
         pub fn rlc_dw_max_size(budget: u64, bitrate: u64, symbol_size: u32, remainder: *mut u64) -> i64;
+        pub fn rlc_interleave(taken: *const u8, len: usize, symbol_size: u32, rows: u32, columns: u32, out: *mut u8, out_len: usize)
+            -> i64;
+        pub fn rlc_deinterleave(
+            sent: *const u8,
+            len: usize,
+            symbol_size: u32,
+            rows: u32,
+            columns: u32,
+            out: *mut u8,
+            out_len: usize,
+        ) -> i64;
         pub fn rlc_announce(flows: *mut u8, flow: u8);
         pub fn rlc_announce_all(flows: *mut u8);
         pub fn rlc_sender_open(memory: *mut u8, len: usize, scheme: u32, symbol_size: u32, width: u32, flows: *const u8) -> i64;
@@ -63,6 +74,14 @@ pub fn working_memory(symbol_size: u32, width: u32) -> i64 {
 
 pub fn dw_max_size(budget: u64, bitrate: u64, symbol_size: u32, remainder: &mut u64) -> i64 {
     unsafe { raw::rlc_dw_max_size(budget, bitrate, symbol_size, remainder) }
+}
+
+pub fn interleave(taken: &[u8], symbol_size: u32, rows: u32, columns: u32, out: &mut [u8]) -> i64 {
+    unsafe { raw::rlc_interleave(taken.as_ptr(), taken.len(), symbol_size, rows, columns, out.as_mut_ptr(), out.len()) }
+}
+
+pub fn deinterleave(sent: &[u8], symbol_size: u32, rows: u32, columns: u32, out: &mut [u8]) -> i64 {
+    unsafe { raw::rlc_deinterleave(sent.as_ptr(), sent.len(), symbol_size, rows, columns, out.as_mut_ptr(), out.len()) }
 }
 
 /// The bytes that announce every flow.

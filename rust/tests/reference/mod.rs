@@ -1,5 +1,5 @@
-//! A second sender and a second receiver, written from documents 01 and 02 and RFC 8681 alone, for the tests to hold the library against, and
-//! what the program that works through a capture prints over that receiver.
+//! A second sender and a second receiver, written from documents 01 and 02 and RFC 8681 alone, for the tests to hold the library against,
+//! what the program that works through a capture prints over that receiver, and a second send order for grids of symbols.
 //!
 //! Nothing here is fast or small. Positions are whole numbers that never wrap, products are computed by shifting and adding, and the
 //! receiver keeps every equation that it ever accepted.
@@ -13,6 +13,7 @@ pub mod field;
 pub mod figures;
 pub mod flows;
 pub mod generator;
+pub mod grid;
 pub mod random;
 pub mod receiver;
 pub mod sender;
