@@ -142,7 +142,7 @@ static void print(const struct table *t) {
 }
 
 // A new line of the table, named after its setting.
-static struct line *add_line(struct table *t, struct setting s) {
+static inline struct line *add_line(struct table *t, struct setting s) {
   struct line *l = &t->lines[t->count++];
   sprintf(l->name, "scheme %zu, width %zu, E %s", s.scheme, s.width, with_comma(s.size));
   l->operations = l->symbols = 1;
@@ -151,7 +151,7 @@ static struct line *add_line(struct table *t, struct setting s) {
 }
 
 // Makes a table: a line for each scheme, width and E; then checks, measures and prints it.
-static void make(struct table *t, void (*fill)(struct table *, struct setting)) {
+static inline void make(struct table *t, void (*fill)(struct table *, struct setting)) {
   static const size_t schemes[] = {9, 10}, widths[] = {16, 64, 255}, sizes[] = {64, 1400};
   for (int s = 0; s < 2; s++)
     for (int w = 0; w < 3; w++)

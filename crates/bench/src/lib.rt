@@ -1,4 +1,5 @@
-// The row operations and the calls of sender and receiver under C names, for the drivers of bench/. A row operation whose lengths do not fit does nothing.
+// The row operations, the send order of a grid and the calls of sender and receiver under C names, for the drivers of bench/. A row operation whose lengths
+// do not fit does nothing.
 ghost use Rattle.words.specs.Words.{_≡_, length, _<_};
 ghost use Rattle.rows.specs.Rows.{addScaled};
 ghost use Rattle.table.specs.Window.{Fits};
@@ -95,7 +96,7 @@ pub extern "C" fn bench_add_combination(dst: &mut [u8], cs: &[u8], mem: &[u8]) {
     rows::combination::add_combination(dst, cs, mem, 0, s);
 }
 
-// The number that a call answers; where it is refused, one that no call answers.
+// The number that a call answers; where it is refused, one that no call of the drivers answers.
 fn answered(answer: Answer) -> usize {
     match answer {
         Answer::Done(n) => n,
@@ -109,6 +110,17 @@ fn with_draws(n: usize, draws: u32) -> usize {
         return 1000000;
     }
     n + 4294967296 * draws as usize
+}
+
+#[no_mangle]
+pub extern "C" fn bench_interleave(
+    src: &[u8],
+    size: usize,
+    rows: usize,
+    columns: usize,
+    out: &mut [u8],
+) -> usize {
+    answered(interleave::interleave(src, size, rows, columns, out))
 }
 
 #[no_mangle]
