@@ -1,5 +1,5 @@
 // The library as a C program links it: the bench sheet's cases C7 to C10 and C12, joining, the draws, the window of a latency budget, symbols heard and
-// solved, the ADU call's refusals, and flows that are announced or not, through the header alone; each answer and each byte is compared. With the argument
+// solved, the ADU call's refusals, flows that are announced or not, and grids, through the header alone; each answer and each byte is compared. With the argument
 // `unset` the memory that is lent for a sender, a receiver or their work is left as malloc gives it, so that valgrind tells if a call depends on a byte that
 // nobody has set.
 #include "rlc8681.h"
@@ -402,7 +402,7 @@ static void heard_in_part(void) {
 static void heard_or_solved(void) {
   check(rlc_heard(HEARD) == 1 && rlc_value(HEARD) == 0, "heard, and the value is 0");
   check(rlc_heard(SOLVED) == 0 && rlc_value(SOLVED) == 0, "solved, and the value is 0");
-  for (int number = RLC_VALUES; number <= RLC_UNANNOUNCED; number++) check(rlc_heard(-number) == 0, "a refusal is not heard");
+  for (int number = RLC_VALUES; number <= RLC_GRID; number++) check(rlc_heard(-number) == 0, "a refusal is not heard");
   const uint32_t widths[] = {1, 2, 3, 8};
   for (size_t i = 0; i < sizeof widths / sizeof *widths; i++) {
     heard_later(widths[i]);
@@ -587,11 +587,86 @@ static void strays_that_are_solved(void) {
   check(untouched(sender, sender.length) && untouched(receiver, receiver.length) && untouched(work, work.length), "all stay in their memory");
 }
 
+// A grid, as one of the two calls takes it.
+typedef int64_t rearranging(const uint8_t *, size_t, uint32_t, uint32_t, uint32_t, uint8_t *, size_t);
+
+// The call rearranges the input, whose symbols have 4 bytes, into these; output that is as long, or longer, is as it was past them, and the input stays.
+static void rearranges(rearranging *call, uint32_t rows, uint32_t columns, const char *in, const char *expected) {
+  const size_t length = strlen(in);
+  for (size_t more = 0; more < 3; more++) {
+    struct room input = room(length), out = room(length + more);
+    memcpy(input.bytes, in, length);
+    SAYS(call(LENT(input), 4, rows, columns, LENT(out)), (int64_t)length);
+    check(memcmp(out.bytes, expected, length) == 0, "each symbol at its place");
+    check(untouched(out, length), "output past the grid is as it was");
+    check(memcmp(input.bytes, in, length) == 0 && untouched(input, length), "the input is as it was");
+    free(input.bytes), free(out.bytes);
+  }
+}
+
+// The call refuses so many bytes of input, with room for so many bytes of output, which are as they were.
+static void refuses(rearranging *call, uint32_t symbol_size, uint32_t rows, uint32_t columns, size_t length, size_t space, int64_t refusal) {
+  struct room input = room(length), out = room(space);
+  SAYS(call(LENT(input), symbol_size, rows, columns, LENT(out)), -refusal);
+  check(untouched(out, 0), "a refusal leaves the output");
+  free(input.bytes), free(out.bytes);
+}
+
+// Grids: row by row in, column by column out, and back; E, rows, columns and lengths at their limits and past them; refusals in their order: 1, 17, 2.
+static void grids(void) {
+  rearranges(rlc_interleave, 2, 3, "1aaa2bbb3ccc4ddd5eee6fff", "1aaa4ddd2bbb5eee3ccc6fff");
+  rearranges(rlc_deinterleave, 2, 3, "1aaa4ddd2bbb5eee3ccc6fff", "1aaa2bbb3ccc4ddd5eee6fff");
+  rearranges(rlc_interleave, 3, 2, "1aaa2bbb3ccc4ddd5eee6fff", "1aaa3ccc5eee2bbb4ddd6fff");
+  rearranges(rlc_deinterleave, 3, 2, "1aaa3ccc5eee2bbb4ddd6fff", "1aaa2bbb3ccc4ddd5eee6fff");
+  rearranging *calls[] = {rlc_interleave, rlc_deinterleave};
+  for (size_t i = 0; i < 2; i++) {
+    rearranges(calls[i], 1, 1, "1aaa", "1aaa");
+    rearranges(calls[i], 1, 3, "1aaa2bbb3ccc", "1aaa2bbb3ccc");
+    rearranges(calls[i], 3, 1, "1aaa2bbb3ccc", "1aaa2bbb3ccc");
+    const uint32_t sizes[] = {0, 3, 1501, 65536 + 4, 0xffffffff}, wrong[] = {0, 256, 257, 65536 + 2, 0xffffffff};
+    for (size_t k = 0; k < sizeof sizes / sizeof *sizes; k++) {
+      refuses(calls[i], sizes[k], 2, 3, 24, 24, RLC_VALUES);
+      refuses(calls[i], sizes[k], 0, 256, 0, 0, RLC_VALUES);
+    }
+    for (size_t k = 0; k < sizeof wrong / sizeof *wrong; k++) {
+      refuses(calls[i], 4, wrong[k], 3, 24, 24, RLC_GRID);
+      refuses(calls[i], 4, 2, wrong[k], 24, 0, RLC_GRID);
+    }
+    refuses(calls[i], 4, 256, 1, 1024, 1024, RLC_GRID);
+    refuses(calls[i], 4, 1, 256, 1024, 1024, RLC_GRID);
+    refuses(calls[i], 4, 2, 3, 23, 24, RLC_GRID);
+    refuses(calls[i], 4, 2, 3, 25, 24, RLC_GRID);
+    refuses(calls[i], 4, 2, 3, 24, 23, RLC_SHORT);
+    refuses(calls[i], 4, 2, 3, 24, 0, RLC_SHORT);
+  }
+}
+
+// The largest grid of symbols of 4 bytes, and one of the longest symbols: each symbol at its place, and back.
+static void large_grids(void) {
+  const struct { uint32_t size, rows, columns; } grids[] = {{4, 255, 255}, {1500, 255, 2}, {1500, 2, 255}};
+  for (size_t i = 0; i < sizeof grids / sizeof *grids; i++) {
+    const size_t e = grids[i].size, d = grids[i].rows, l = grids[i].columns;
+    struct room in = room(d * l * e), out = room(d * l * e), back = room(d * l * e);
+    for (size_t k = 0; k < in.length; k++) in.bytes[k] = (uint8_t)(k * 151 ^ k >> 8);
+    SAYS(rlc_interleave(LENT(in), grids[i].size, grids[i].rows, grids[i].columns, LENT(out)), (int64_t)in.length);
+    size_t right = 0;
+    for (size_t r = 0; r < d; r++)
+      for (size_t c = 0; c < l; c++) right += memcmp(out.bytes + (c * d + r) * e, in.bytes + (r * l + c) * e, e) == 0;
+    check(right == d * l, "each symbol of a large grid at its place");
+    SAYS(rlc_deinterleave(LENT(out), grids[i].size, grids[i].rows, grids[i].columns, LENT(back)), (int64_t)in.length);
+    check(memcmp(back.bytes, in.bytes, in.length) == 0, "a large grid is put back");
+    check(untouched(out, out.length) && untouched(back, back.length), "nothing past the output is written");
+    free(in.bytes), free(out.bytes), free(back.bytes);
+  }
+}
+
 int main(int count, char **words) {
   unset = count == 2 && strcmp(words[1], "unset") == 0;
   rlc_announce_all(all);
   sizes();
   windows();
+  grids();
+  large_grids();
   seven_and_eight();
   nine();
   ten();
