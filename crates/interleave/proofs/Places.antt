@@ -2,7 +2,7 @@
 use Rattle.words.specs.Words.{_≡_, arith, ℕ, _≤_, _+_, _<_, _%_, suc, zero, _*_, _/_, mod-lt, add-zero, mod-eq-of-lt, decLt}
 use native.Mathlib.Nat.{mul-add-div-right, mul-add-mod-self-right, div-eq-of-lt, div-add-mod', div-lt-iff-lt-mul, mul-comm}
 use Rattle.memory.proofs.Parts.{row-fits}
-use Rattle.interleave.specs.Grid.{takenAt, sentAt}
+use Rattle.interleave.specs.Places.{takenAt, sentAt}
 use Rattle.interleave.specs.Claims.{Spread}
 
 -- An order of a grid's symbols: the place `at r c` of each, and of each place the row and the column.

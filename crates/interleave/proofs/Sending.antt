@@ -2,7 +2,8 @@
 use Rattle.words.specs.Words.{_≡_, arith, ℕ, _≤_, _+_, List, length, _<_, refl, _∙_, _%_, _*_, _/_, add-one, suc-mul}
 use Rattle.memory.specs.Part.{part, splice}
 use Rattle.memory.proofs.Parts.{row-fits, length-splice, length-part}
-use Rattle.interleave.specs.Grid.{takenAt, sentAt, symbolsFrom}
+use Rattle.interleave.specs.Places.{takenAt, sentAt}
+use Rattle.interleave.specs.Grid.{symbolsFrom}
 use Rattle.interleave.specs.Inner.{Fits}
 use Rattle.interleave.proofs.Symbols.{symbols-more}
 use Rattle.interleave.proofs.Places.{taken-places, sent-places, quotient, rest}

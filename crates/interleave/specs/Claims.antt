@@ -1,11 +1,11 @@
--- What is claimed of the two calls, over all E, D and L (document 02, No. 8). `src` is the input, `out` the output before the call and `out′` after it, and
--- `a` the answer.
+-- What is claimed of the two calls, over all E, D and L (document 02, No. 8). `src` is the input, `out` the output before
+-- the call and `out′` after it, and `a` the answer.
 use Rattle.words.specs.Words.{_≡_, ℕ, _≤_, _+_, List, length, _<_, _*_, take, _↔_}
 use Rattle.memory.specs.Part.{part}
 use Rattle.memory.specs.Contained.{Contained}
 use Rattle.wire.specs.declared.Answer.{Answer}
 use Rattle.wire.specs.Answers.{Said, value, refusal, said}
-use Rattle.interleave.specs.Grid.{takenAt, sentAt}
+use Rattle.interleave.specs.Places.{takenAt, sentAt}
 use Rattle.interleave.specs.Promises.{Interleaves, Deinterleaves}
 
 -- E has its values
@@ -21,8 +21,8 @@ pub record Refuses (n : ℕ) (out : List ℕ) (a : Said) (out′ : List ℕ) : T
   pub answer : a ≡ refusal n
   pub output : out′ ≡ out
 
--- The call answers the number of bytes of the grid, and past so many bytes the output is as it was. The symbol in row r and column c, at place `from r c` of
--- the input, is at place `to r c` of the output.
+-- The call answers the bytes of the grid, and past so many the output is as it was. The symbol in row r and column c is
+-- at place `from r c` of the input and at place `to r c` of the output.
 pub record Moves (E D L : ℕ) (from to : (r c : ℕ) → ℕ) (src out : List ℕ) (a : Said) (out′ : List ℕ) : Type 0 where
   pub answer : a ≡ value (D * L * E)
   pub past : Contained (D * L * E) out out′
@@ -33,9 +33,10 @@ pub record Judged (E D L : ℕ) (from to : (r c : ℕ) → ℕ) (src out : List 
   pub size : ¬ SizeAllowed E → Refuses 1 out a out′
   pub grid : SizeAllowed E → ¬ IsGrid E D L (length src) → Refuses 17 out a out′
   pub short : SizeAllowed E → IsGrid E D L (length src) → length out < length src → Refuses 2 out a out′
-  pub moves : SizeAllowed E → IsGrid E D L (length src) → length src ≤ length out → Moves E D L from to src out a out′
+  pub moves : SizeAllowed E → IsGrid E D L (length src) → length src ≤ length out
+      → Moves E D L from to src out a out′
 
--- Taken row by row, sent column by column; and back. Exactly this is promised: it leaves no choice.
+-- Taken row by row, sent column by column; and back. Exactly this is promised, so it leaves no choice.
 abbrev pub Sent : Type 0
 Sent = (E D L : ℕ) (src out : List ℕ) (a : Answer) (out′ : List ℕ)
     → Interleaves E D L src out a out′ ↔ Judged E D L (takenAt L) (sentAt D) src out (said a) out′
@@ -44,20 +45,23 @@ abbrev pub Put-back : Type 0
 Put-back = (E D L : ℕ) (src out : List ℕ) (a : Answer) (out′ : List ℕ)
     → Deinterleaves E D L src out a out′ ↔ Judged E D L (sentAt D) (takenAt L) src out (said a) out′
 
--- Each undoes the other: where the first call has answered n, the second, on the n bytes that it wrote and with room for as many, answers n and writes the
--- first one's input.
+-- One call undoes the other: where the first has answered n, the second, on the n bytes that it wrote and with room for
+-- as many, answers n and writes the first one's input.
 abbrev pub Undoes : (First Second : (src out : List ℕ) → Answer → (out′ : List ℕ) → Type 0) → Type 0
 Undoes First Second =
     (n : ℕ) (src out out′ back back′ : List ℕ) (a b : Answer) → First src out a out′ → said a ≡ value n
     → Second (take n out′) back b back′ → n ≤ length back → (said b ≡ value n) × (take n back′ ≡ src)
 
+-- Each undoes the other.
 abbrev pub Undone : Type 0
-Undone = (E D L : ℕ) → Undoes (Interleaves E D L) (Deinterleaves E D L) × Undoes (Deinterleaves E D L) (Interleaves E D L)
+Undone = (E D L : ℕ)
+    → Undoes (Interleaves E D L) (Deinterleaves E D L) × Undoes (Deinterleaves E D L) (Interleaves E D L)
 
 -- p is one of the n consecutive places from `start` on
 abbrev pub Among : (start n p : ℕ) → Type 0
 Among start n p = (start ≤ p) × (p < start + n)
 
--- Any D or fewer consecutive places in send order hold at most one symbol of each row: two of row r, in columns c and c′, are one.
+-- Any D or fewer consecutive places in send order hold at most one symbol of each row: two of row r, in columns c and
+-- c′, are one.
 abbrev pub Spread : Type 0
 Spread = (D start n r c c′ : ℕ) → n ≤ D → Among start n (sentAt D r c) → Among start n (sentAt D r c′) → c ≡ c′

@@ -1,15 +1,9 @@
--- A grid of D rows by L columns of symbols of E bytes, which is taken row by row and sent column by column (document 02, No. 8).
-use Rattle.words.specs.Words.{ℕ, _+_, List, [], _%_, suc, zero, _*_, _++_, Bool, cond, _/_, _&&_, ltb, eqb}
+-- A grid of D rows by L columns of symbols of E bytes as the two calls write it, and what they answer, outright.
+use Rattle.words.specs.Words.{ℕ, List, [], _%_, suc, zero, _*_, _++_, Bool, cond, _/_, _&&_, ltb, eqb}
 use Rattle.memory.specs.Part.{part, splice}
 use Rattle.wire.specs.Numbers.{within}
 use Rattle.wire.specs.Answers.{Said, value, refusal}
-
--- the place, from 0, of the symbol in row r and column c: in the order taken, and in send order
-abbrev pub takenAt : (L r c : ℕ) → ℕ
-takenAt L r c = r * L + c
-
-abbrev pub sentAt : (D r c : ℕ) → ℕ
-sentAt D r c = c * D + r
+use Rattle.interleave.specs.Places.{takenAt, sentAt}
 
 -- n symbols: at each place p the symbol at place `from p` of m
 unfoldable pub symbolsFrom : (E : ℕ) (m : List ℕ) (from : ℕ → ℕ) (n : ℕ) → List ℕ

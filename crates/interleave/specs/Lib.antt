@@ -1,3 +1,4 @@
+pub mod Places
 pub mod Grid
 pub mod Inner
 pub mod Promises
