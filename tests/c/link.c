@@ -607,6 +607,7 @@ static void rearranges(rearranging *call, uint32_t rows, uint32_t columns, const
 // The call refuses so many bytes of input, with room for so many bytes of output, which are as they were.
 static void refuses(rearranging *call, uint32_t symbol_size, uint32_t rows, uint32_t columns, size_t length, size_t space, int64_t refusal) {
   struct room input = room(length), out = room(space);
+  memset(input.bytes, 0x11, length);
   SAYS(call(LENT(input), symbol_size, rows, columns, LENT(out)), -refusal);
   check(untouched(out, 0), "a refusal leaves the output");
   free(input.bytes), free(out.bytes);
@@ -632,6 +633,8 @@ static void grids(void) {
       refuses(calls[i], 4, wrong[k], 3, 24, 24, RLC_GRID);
       refuses(calls[i], 4, 2, wrong[k], 24, 0, RLC_GRID);
     }
+    refuses(calls[i], 3, 2, 3, 18, 18, RLC_VALUES);
+    refuses(calls[i], 1501, 1, 1, 1501, 1501, RLC_VALUES);
     refuses(calls[i], 4, 256, 1, 1024, 1024, RLC_GRID);
     refuses(calls[i], 4, 1, 256, 1024, 1024, RLC_GRID);
     refuses(calls[i], 4, 2, 3, 23, 24, RLC_GRID);
