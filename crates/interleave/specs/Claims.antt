@@ -1,5 +1,5 @@
--- What is claimed of the two calls, over all E, D and L (document 02, No. 8). `src` is the input, `out` the output before
--- the call and `out′` after it, and `a` the answer.
+-- What is claimed of the two calls, over all E, D and L (document 02, No. 8). `src` is the input, `out` the output
+-- before the call and `out′` after it, and `a` the answer.
 use Rattle.words.specs.Words.{_≡_, ℕ, _≤_, _+_, List, length, _<_, _*_, take, _↔_}
 use Rattle.memory.specs.Part.{part}
 use Rattle.memory.specs.Contained.{Contained}
@@ -21,8 +21,8 @@ pub record Refuses (n : ℕ) (out : List ℕ) (a : Said) (out′ : List ℕ) : T
   pub answer : a ≡ refusal n
   pub output : out′ ≡ out
 
--- The call answers the bytes of the grid, and past so many the output is as it was. The symbol in row r and column c is
--- at place `from r c` of the input and at place `to r c` of the output.
+-- The call answers the bytes of the grid, and past so many the output is as it was. The symbol in row r and column c
+-- is at place `from r c` of the input and at place `to r c` of the output.
 pub record Moves (E D L : ℕ) (from to : (r c : ℕ) → ℕ) (src out : List ℕ) (a : Said) (out′ : List ℕ) : Type 0 where
   pub answer : a ≡ value (D * L * E)
   pub past : Contained (D * L * E) out out′
@@ -45,8 +45,8 @@ abbrev pub Put-back : Type 0
 Put-back = (E D L : ℕ) (src out : List ℕ) (a : Answer) (out′ : List ℕ)
     → Deinterleaves E D L src out a out′ ↔ Judged E D L (sentAt D) (takenAt L) src out (said a) out′
 
--- One call undoes the other: where the first has answered n, the second, on the n bytes that it wrote and with room for
--- as many, answers n and writes the first one's input.
+-- One call undoes the other: where the first has answered n, the second, on the n bytes that it wrote and with room
+-- for as many, answers n and writes the first one's input.
 abbrev pub Undoes : (First Second : (src out : List ℕ) → Answer → (out′ : List ℕ) → Type 0) → Type 0
 Undoes First Second =
     (n : ℕ) (src out out′ back back′ : List ℕ) (a b : Answer) → First src out a out′ → said a ≡ value n

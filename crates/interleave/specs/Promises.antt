@@ -1,4 +1,5 @@
--- What the two calls promise, outright. `src` is the input, `out` the output before the call and `out′` after it, and `a` the answer.
+-- What the two calls promise, outright. `src` is the input, `out` the output before the call and `out′` after it, and
+-- `a` the answer.
 use Rattle.words.specs.Words.{_≡_, ℕ, List, length}
 use Rattle.wire.specs.declared.Answer.{Answer}
 use Rattle.wire.specs.Answers.{said}
