@@ -1,6 +1,6 @@
 -- The answer: by which tests it is which, and what one that is a number of bytes says of the grid.
 use Rattle.words.specs.Words.{_≡_, arith, ℕ, _≤_, _<_, refl, _∙_, sym, true, _*_, false, Bool, decLt, eqb, mul-le-mul, eqb-true, eq-eqb, lt-ltb, le-ltb}
-use Rattle.words.specs.Words.{true≢false, List, length, ap}
+use Rattle.words.specs.Words.{true≢false, List, length}
 use native.Mathlib.Nat.{mul-comm}
 use Rattle.wire.specs.Numbers.{within}
 use Rattle.memory.specs.Part.{splice}
@@ -9,8 +9,8 @@ use Rattle.wire.specs.declared.Answer.{Answer}
 use Rattle.wire.specs.declared.Answer.the-variants.{Done, Refused}
 use Rattle.wire.specs.Answers.{value, refusal, said}
 use Rattle.wire.proofs.Settings.{both, within-true, within-bounds}
-use Rattle.interleave.specs.Grid.{isGrid, answerTo}
-use Rattle.interleave.specs.Inner.{Fits}
+use Rattle.interleave.specs.Grid.{isGrid, answerTo, outputAfter}
+use Rattle.interleave.specs.Inner.{Fits, FitsWhere}
 use Rattle.interleave.specs.Promises.{Rearranges}
 use Rattle.interleave.specs.Claims.{SizeAllowed, IsGrid}
 
@@ -100,9 +100,13 @@ module _ (E D L given room : ℕ) where
       let ((s, s′), (d, d′, l, l′, w), h) = passed n e in
       record { size-most = s′; rows-least = d; rows-most = d′; columns-least = l; columns-most = l′; whole = w; fits = h }
 
+  pub fits-where : (a : Answer) → said a ≡ answerTo E D L given room → FitsWhere a E D L given room
+  fits-where (Done n) e = fitting n e
+  fits-where (Refused r) e = tt
+
 -- the same bytes as a grid of L rows by D columns
-pub turned-fits : (E D L given room : ℕ) → Fits E D L given room → Fits E L D given room
-turned-fits E D L given room f = record {
+pub turned-fits : (E D L given room : ℕ) (a : Answer) → FitsWhere a E D L given room → FitsWhere a E L D given room
+turned-fits E D L given room (Done n) f = record {
   size-most = f .size-most;
   rows-least = f .columns-least;
   rows-most = f .columns-most;
@@ -111,15 +115,21 @@ turned-fits E D L given room f = record {
   whole = rw (mul-comm L D) (f .whole);
   fits = f .fits;
 }
+turned-fits E D L given room (Refused r) f = tt
 
--- ---- the promise, where the answer's case is known
+-- ---- an answer whose case is known
 
-module _ (E D L : ℕ) (src out : List ℕ) {r : Answer} (e : said r ≡ answerTo E D L (length src) (length out)) where
-  pub done-fits : {n : ℕ} → r ≡ Done n → Fits E D L (length src) (length out)
-  done-fits {n} d = fitting E D L (length src) (length out) n (sym (ap said d) ∙ e)
+module _ {a : Answer} where
+  pub fits-done : {E D L given room n : ℕ} → a ≡ Done n → FitsWhere a E D L given room → Fits E D L given room
+  fits-done e f = rw e at f
 
-  pub done : (x : List ℕ) {n : ℕ} {out′ : List ℕ} → r ≡ Done n → out′ ≡ splice 0 x out → Rearranges E D L x src out (Done n) out′
-  done x d w = record { answer = sym (ap said d) ∙ e; output = w }
+  pub written : (x out : List ℕ) {out′ : List ℕ} {n : ℕ} → a ≡ Done n → out′ ≡ splice 0 x out → out′ ≡ outputAfter (said a) x out
+  written x out e w = rw e w
 
-  pub refused : (x : List ℕ) {why : Refusal} → r ≡ Refused why → Rearranges E D L x src out (Refused why) out
-  refused x d = record { answer = sym (ap said d) ∙ e; output = refl }
+  pub left : (x out : List ℕ) {why : Refusal} → a ≡ Refused why → out ≡ outputAfter (said a) x out
+  left x out e = rw e
+
+-- the answer of the tests, handed on, with the output after it
+pub rearranged : (E D L : ℕ) (x src out : List ℕ) {a b : Answer} {out′ : List ℕ} → said a ≡ answerTo E D L (length src) (length out)
+    → b ≡ a → out′ ≡ outputAfter (said a) x out → Rearranges E D L x src out b out′
+rearranged E D L x src out e h o = rw h (record { answer = e; output = o })

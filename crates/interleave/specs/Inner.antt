@@ -1,5 +1,7 @@
--- The contract of an inner function; it need not be believed.
+-- The contracts of inner functions; they need not be believed.
 use Rattle.words.specs.Words.{_≡_, ℕ, _≤_, _*_}
+use Rattle.wire.specs.declared.Answer.{Answer}
+use Rattle.wire.specs.declared.Answer.the-variants.{Done, Refused}
 
 -- a grid within its limits, all of it given, with room for it
 pub record Fits (E D L given room : ℕ) : Type 0 where
@@ -10,3 +12,8 @@ pub record Fits (E D L given room : ℕ) : Type 0 where
   pub columns-most : L ≤ 255
   pub whole : given ≡ D * L * E
   pub fits : given ≤ room
+
+-- the same where the answer is a number of bytes
+abbrev pub FitsWhere : Answer → (E D L given room : ℕ) → Type 0
+FitsWhere (Done n) E D L given room = Fits E D L given room
+FitsWhere (Refused r) E D L given room = Unit {0}

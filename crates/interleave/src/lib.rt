@@ -1,28 +1,14 @@
 // Send order against bursts (document 02, No. 8): a grid of symbols, taken row by row and sent column by column; and back.
-ghost use Rattle.words.specs.Words.{_≡_, _≤_, length};
+ghost use Rattle.words.specs.Words.{_≡_, length};
 ghost use Rattle.memory.specs.Part.{splice};
 ghost use Rattle.wire.specs.Answers.{said};
-ghost use Rattle.interleave.specs.Grid.{isGrid, interleaved, answerTo};
-ghost use Rattle.interleave.specs.Inner.{Fits};
+ghost use Rattle.interleave.specs.Grid.{interleaved, answerTo, outputAfter};
+ghost use Rattle.interleave.specs.Inner.{Fits, FitsWhere};
 ghost use Rattle.interleave.specs.Promises.{Interleaves, Deinterleaves};
 use memory::copy_part;
 use wire::Answer;
 use wire::Refusal;
 use wire::between;
-
-// Whether rows and columns have their values, and so many bytes are those of such a grid.
-fn is_grid(size: usize, rows: usize, columns: usize, given: usize) -> bool
-    requires { ⌜ size ≤ 1500 ⌝ }
-    ensures { λ r. ⌜ r ≡ isGrid size rows columns given ⌝ }
-{
-    if !between(1, 255, rows) {
-        return false;
-    }
-    if !between(1, 255, columns) {
-        return false;
-    }
-    given == rows * columns * size
-}
 
 // The answer to so many bytes of input, where there is room for so many bytes of output.
 fn answer_to(size: usize, rows: usize, columns: usize, given: usize, room: usize) -> Answer
@@ -31,7 +17,13 @@ fn answer_to(size: usize, rows: usize, columns: usize, given: usize, room: usize
     if !between(4, 1500, size) {
         return Answer::Refused(Refusal::Values);
     }
-    if !is_grid(size, rows, columns, given) {
+    if !between(1, 255, rows) {
+        return Answer::Refused(Refusal::Grid);
+    }
+    if !between(1, 255, columns) {
+        return Answer::Refused(Refusal::Grid);
+    }
+    if given != rows * columns * size {
         return Answer::Refused(Refusal::Grid);
     }
     if room < given {
@@ -57,11 +49,18 @@ fn send(src: &[u8], size: usize, rows: usize, columns: usize, out: &mut [u8])
     }
 }
 
-// A grid of symbols of `size` bytes, taken row by row, is written to `out` column by column.
-pub fn interleave(src: &[u8], size: usize, rows: usize, columns: usize, out: &mut [u8]) -> Answer
-    ensures { λ r. ⌜ Interleaves size rows columns (now (src .entry)) (now (out .entry)) r (now (out .exit)) ⌝ }
+// The same where the answer is a number of bytes; a refusal leaves the output.
+fn send_where(
+    answer: Answer,
+    src: &[u8],
+    size: usize,
+    rows: usize,
+    columns: usize,
+    out: &mut [u8],
+) -> Answer
+    requires { ⌜ FitsWhere answer size rows columns (length (now src)) (length (now out)) ⌝ }
+    ensures { λ r. ⌜ (r ≡ answer) × (now (out .exit) ≡ outputAfter (said answer) (interleaved size rows columns (now (src .entry))) (now (out .entry))) ⌝ }
 {
-    let answer = answer_to(size, rows, columns, src.len(), out.len());
     match answer {
         Answer::Done(n) => {
             send(src, size, rows, columns, out);
@@ -71,16 +70,18 @@ pub fn interleave(src: &[u8], size: usize, rows: usize, columns: usize, out: &mu
     }
 }
 
+// A grid of symbols of `size` bytes, taken row by row, is written to `out` column by column.
+pub fn interleave(src: &[u8], size: usize, rows: usize, columns: usize, out: &mut [u8]) -> Answer
+    ensures { λ r. ⌜ Interleaves size rows columns (now (src .entry)) (now (out .entry)) r (now (out .exit)) ⌝ }
+{
+    let answer = answer_to(size, rows, columns, src.len(), out.len());
+    send_where(answer, src, size, rows, columns, out)
+}
+
 // A grid that came column by column is written to `out` row by row, as it was taken: the send order of `columns` rows by `rows` columns.
 pub fn deinterleave(src: &[u8], size: usize, rows: usize, columns: usize, out: &mut [u8]) -> Answer
     ensures { λ r. ⌜ Deinterleaves size rows columns (now (src .entry)) (now (out .entry)) r (now (out .exit)) ⌝ }
 {
     let answer = answer_to(size, rows, columns, src.len(), out.len());
-    match answer {
-        Answer::Done(n) => {
-            send(src, size, columns, rows, out);
-            Answer::Done(n)
-        }
-        Answer::Refused(why) => Answer::Refused(why),
-    }
+    send_where(answer, src, size, columns, rows, out)
 }

@@ -1,25 +1,16 @@
 -- `interleave::interleave` meets its contract.
 use Rattle.words.specs.Words.{needs}
-use Rattle.interleave.proofs.Answers.{done-fits, done, refused}
+use Rattle.interleave.proofs.Answers.{fits-where, rearranged}
 use Rattle.interleave.proofs.interleave.Statement.{statement}
 use Rattle.interleave.proofs.interleave.Tie as tie
 
-send-requires : tie.Need-send-requires
-send-requires c κs =
-    let d = c .before .before in
-    let a = d .before .before .before .before .before .args in
-    done-fits _ _ _ (a .src .now) (a .out .now) (d .before .before .answer-to .ensures) (d .answer .given .1)
+send-where-requires : tie.Need-send-where-requires
+send-where-requires c κs = let t = c .before .answer-to in fits-where _ _ _ _ _ (t .result) (t .ensures)
 
 returns : tie.Need-returns
 returns c =
     let s = c .before .before in
-    let d = s .before .before .before in
-    done _ _ _ _ _ (d .before .before .answer-to .ensures) _ (d .answer .given .1) (s .send .ensures)
-
-returns-2 : tie.Need-returns-2
-returns-2 c = let d = c .before in refused _ _ _ _ _ (d .before .before .answer-to .ensures) _ (d .answer2 .given .1)
+    rearranged _ _ _ _ _ _ (s .before .before .answer-to .ensures) (s .send-where .ensures .0) (s .send-where .ensures .1)
 
 pub interleave-spec : {M : Type 1} → statement M
-interleave-spec =
-    tie.close
-    (tie.spec (λ c κs. search needs) (λ c. search needs) send-requires (λ c. search needs) (λ c. search needs) returns returns-2)
+interleave-spec = tie.close (tie.spec (λ c κs. search needs) send-where-requires (λ c. search needs) returns)
