@@ -1,5 +1,6 @@
 //! The two ends of the link, each in its thread.
 
+use crate::grid::{self, Cells, Collecting, Filling, COLUMNS};
 use crate::link::{self, Closing, Gate, Kind, HEAD, LARGEST};
 use crate::loss::Loss;
 use crate::options::Options;
@@ -89,10 +90,10 @@ fn failed(call: &'static str) -> impl Fn(io::Error) -> Failure {
 
 /// The whole run; `watch` is called now and then while the threads work.
 pub fn run(options: &Options, mut watch: impl FnMut(&Progress)) -> Result<Run, Failure> {
-    let (size, width) = (options.symbol_size as usize, options.width as usize);
+    let (size, most) = (options.symbol_size as usize, options.most_symbols());
     let stream = match &options.file {
-        Some(path) => Stream::file(options.seed, size, width, path).map_err(|why| format!("{}: {why}", path.display()))?,
-        None => Stream::made(options.seed, size, width, options.symbols),
+        Some(path) => Stream::file(options.seed, size, most, path).map_err(|why| format!("{}: {why}", path.display()))?,
+        None => Stream::made(options.seed, size, most, options.symbols),
     };
     let Options { scheme, symbol_size, width, .. } = *options;
     let flows = stream.flows();
@@ -135,10 +136,14 @@ struct Sending<'a> {
     shared: &'a Shared,
     socket: UdpSocket,
     sender: Sender,
+    filling: Option<Filling>,
     loss: Loss,
     start: Instant,
     datagram: Vec<u8>,
     key: u16,
+    /// The datagrams that the link was given, and the ADUs in them: fewer than were made while a grid is filled.
+    datagrams: u32,
+    adus: u64,
     log: Sent,
 }
 
@@ -146,8 +151,9 @@ impl<'a> Sending<'a> {
     fn new(options: &'a Options, shared: &'a Shared, socket: UdpSocket, sender: Sender) -> Sending<'a> {
         // The losses are drawn from a seed of their own, so that a file and a made stream meet the same ones.
         let loss = Loss::new(!options.seed, options.loss, options.burst);
-        let datagram = vec![0; LARGEST];
-        Sending { options, shared, socket, sender, loss, start: Instant::now(), datagram, key: 0, log: Sent::default() }
+        let (filling, datagram, log) = (Filling::new(options), vec![0; LARGEST], Sent::default());
+        let start = Instant::now();
+        Sending { options, shared, socket, sender, filling, loss, start, datagram, key: 0, datagrams: 0, adus: 0, log }
     }
 
     fn run(mut self, mut stream: Stream) -> Result<Sent, Failure> {
@@ -170,18 +176,25 @@ impl<'a> Sending<'a> {
         for _ in 0..between.map_or(0, |symbols| u64::from(self.options.width) / symbols.max(1) + 1) {
             self.repair()?;
         }
+        if self.filling.as_ref().is_some_and(|filling| !filling.is_empty()) {
+            self.grid()?;
+        }
         self.shared.progress.thousandths.store(1000, Relaxed);
         link::write_head(&mut self.datagram, 0, Kind::End, 0);
         self.datagram(HEAD)?;
         Ok(self.log)
     }
 
+    /// Whether the receiver is not switched on yet.
+    fn unheard(&self) -> bool {
+        self.adus < self.options.join
+    }
+
     fn source(&mut self, adu: Adu) -> Result<(), Failure> {
         let (sender, out) = (&mut self.sender, &mut self.datagram[HEAD..]);
         let written = self.log.add.of(|| sender.add_adu(adu.flow, &adu.bytes, out)).map_err(refused("adding an ADU"))?;
         let symbols = symbols_of(adu.bytes.len(), self.options.symbol_size as usize);
-        let unheard = self.log.adus < self.options.join;
-        let packet = Packet { kind: Kind::Source, lost: false, unheard, first: self.log.symbols, symbols: symbols as u32 };
+        let packet = Packet { kind: Kind::Source, lost: false, unheard: false, first: self.log.symbols, symbols: symbols as u32 };
         let flow = adu.flow;
         self.log.adus += 1;
         self.log.bytes += adu.bytes.len() as u64;
@@ -189,9 +202,10 @@ impl<'a> Sending<'a> {
         self.log.flows.insert(flow);
         let mut ledger = self.shared.ledger();
         ledger.0.push_back((packet.first, adu));
-        if unheard {
-            // No packet to come reaches further back.
-            ledger.pass(self.log.symbols.saturating_sub(u64::from(self.options.width)), self.options.symbol_size as usize);
+        if self.unheard() {
+            // No packet to come, nor any in the grid, reaches further back.
+            let Options { width, interleave, symbol_size, .. } = *self.options;
+            ledger.pass(self.log.symbols.saturating_sub(u64::from(width + interleave * COLUMNS)), symbol_size as usize);
         }
         drop(ledger);
         self.send(packet, flow, written)
@@ -205,7 +219,7 @@ impl<'a> Sending<'a> {
             Err(Refusal::Unannounced) => self.log.strays += 1,
             answer => return Err(format!("adding a stray ADU was answered {answer:?}")),
         }
-        if self.log.adus < self.options.join {
+        if self.unheard() {
             return Ok(());
         }
         self.log.stray_packets += 1;
@@ -222,24 +236,53 @@ impl<'a> Sending<'a> {
         let repair = self.log.make.of(|| sender.make_repair(key, density, repairs, out)).map_err(refused("making repair"))?;
         self.key = key.wrapping_add(repairs as u16);
         let symbols = self.log.symbols.min(u64::from(width));
-        let (unheard, first) = (self.log.adus < self.options.join, self.log.symbols - symbols);
-        let packet = Packet { kind: Kind::Repair, lost: false, unheard, first, symbols: symbols as u32 };
+        let first = self.log.symbols - symbols;
+        let packet = Packet { kind: Kind::Repair, lost: false, unheard: false, first, symbols: symbols as u32 };
         self.send(packet, 0, repair.bytes)
     }
 
-    /// Gives the packet at hand to the link, which may lose it.
-    fn send(&mut self, mut packet: Packet, flow: u8, length: usize) -> Result<(), Failure> {
+    /// Gives the packet at hand to the link, or to the grid where there is one.
+    fn send(&mut self, packet: Packet, flow: u8, length: usize) -> Result<(), Failure> {
         let number = self.log.packets.len() as u32;
-        packet.lost = self.loss.loses() && !packet.unheard;
         self.log.packets.push(packet);
-        self.log.link_bytes += (HEAD + length) as u64;
-        self.shared.progress.packets.fetch_add(1, Relaxed);
-        if packet.lost {
-            self.shared.progress.lost.fetch_add(1, Relaxed);
+        link::write_head(&mut self.datagram, number, packet.kind, flow);
+        let Some(filling) = &mut self.filling else { return self.give(Some(number), HEAD + length) };
+        filling.put(&self.datagram[..HEAD + length]);
+        if filling.is_full() {
+            self.grid()?;
         }
-        if packet.arrives() {
-            link::write_head(&mut self.datagram, number, packet.kind, flow);
-            self.datagram(HEAD + length)?;
+        Ok(())
+    }
+
+    /// Gives the cells of the grid to the link, each in a datagram, in send order.
+    fn grid(&mut self) -> Result<(), Failure> {
+        let Some(filling) = &mut self.filling else { return Ok(()) };
+        let mut cells = filling.send().map_err(refused("interleaving"))?;
+        for cell in cells.iter_mut() {
+            link::write_head(&mut self.datagram, self.datagrams, Kind::Cell, 0);
+            self.datagram[HEAD..HEAD + cell.len()].copy_from_slice(cell);
+            let length = HEAD + cell.len();
+            self.give(grid::read(cell).map(|(number, ..)| number), length)?;
+        }
+        Ok(())
+    }
+
+    /// Gives the datagram at hand to the link, which may lose it, with the packet of this number; none in an empty cell.
+    fn give(&mut self, number: Option<u32>, length: usize) -> Result<(), Failure> {
+        let unheard = self.unheard();
+        let lost = (self.loss.loses() | self.options.lose.contains(&u64::from(self.datagrams))) && !unheard;
+        self.datagrams += 1;
+        self.log.link_bytes += length as u64;
+        if let Some(number) = number {
+            let packet = &mut self.log.packets[number as usize];
+            (packet.lost, packet.unheard) = (lost, unheard);
+            self.adus += u64::from(packet.kind == Kind::Source);
+            self.log.order.push(number);
+            self.shared.progress.packets.fetch_add(1, Relaxed);
+            self.shared.progress.lost.fetch_add(u64::from(lost), Relaxed);
+        }
+        if !lost && !unheard {
+            self.datagram(length)?;
         }
         if let Some(mbit) = self.options.mbit {
             let due = Duration::try_from_secs_f64(self.log.link_bytes as f64 * 8.0 / (mbit * 1e6)).unwrap_or(Duration::MAX);
@@ -270,6 +313,9 @@ struct Receiving<'a> {
     shared: &'a Shared,
     socket: UdpSocket,
     receiver: Receiver,
+    collecting: Option<Collecting>,
+    /// The packet that is late, until its turn comes.
+    held: Option<(u32, Kind, u8, Vec<u8>)>,
     /// The position after the last that a packet told of.
     top: u64,
     /// The position of the next start.
@@ -280,15 +326,13 @@ struct Receiving<'a> {
 
 impl<'a> Receiving<'a> {
     fn new(options: &'a Options, shared: &'a Shared, socket: UdpSocket, receiver: Receiver) -> Receiving<'a> {
-        let (adu, log) = (vec![0; 65_535], Got::default());
-        Receiving { options, shared, socket, receiver, top: 0, next: 0, adu, log }
+        let (collecting, adu, log) = (Collecting::new(options), vec![0; 65_535], Got::default());
+        Receiving { options, shared, socket, receiver, collecting, held: None, top: 0, next: 0, adu, log }
     }
 
     fn run(mut self) -> Result<Got, Failure> {
         let _closing = Closing(&self.shared.gate);
         let mut datagram = vec![0; LARGEST];
-        // The datagram that is late, until its turn comes
-        let mut held: Option<Vec<u8>> = None;
         loop {
             let length = match self.socket.recv(&mut datagram) {
                 Ok(length) => length,
@@ -303,32 +347,57 @@ impl<'a> Receiving<'a> {
             };
             self.shared.gate.leave(length);
             let Some((number, kind, flow, packet)) = link::read(&mut datagram[..length]) else { continue };
-            if kind == Kind::End || self.options.late.is_some_and(|late| self.log.arrived > late + LATE) {
-                if let Some((number, kind, flow, packet)) = held.take().as_deref_mut().and_then(link::read) {
-                    self.take(number, kind, flow, packet);
+            match (kind, &mut self.collecting) {
+                (Kind::Source, _) if flow == STRAY => self.stray(packet),
+                (Kind::Source | Kind::Repair, _) => self.arrive(number, kind, flow, packet),
+                (Kind::Cell, Some(collecting)) => {
+                    let before = collecting.put(number, packet).map_err(refused("putting a grid back"))?;
+                    self.grid(before);
+                }
+                (Kind::Cell, None) => {}
+                (Kind::End, collecting) => {
+                    let last = collecting.as_mut().map(Collecting::put_back).transpose().map_err(refused("putting a grid back"))?;
+                    self.grid(last);
+                    self.late();
+                    self.leave(self.top);
+                    return Ok(self.log);
                 }
             }
-            if kind == Kind::End {
-                self.leave(self.top);
-                return Ok(self.log);
+        }
+    }
+
+    /// The packets of a grid that was put back arrive, in the order in which they were made.
+    fn grid(&mut self, cells: Option<Cells>) {
+        let Some(mut cells) = cells else { return };
+        for (number, kind, flow, packet) in cells.iter_mut().filter_map(grid::read) {
+            self.arrive(number, kind, flow, packet);
+        }
+    }
+
+    /// A packet of the stream arrives, from the link or out of a grid.
+    fn arrive(&mut self, number: u32, kind: Kind, flow: u8, packet: &mut [u8]) {
+        if self.options.late.is_some_and(|late| self.log.arrived > late + LATE) {
+            self.late();
+        }
+        if self.options.corrupt == Some(self.log.arrived) {
+            let middle = packet.len() / 2;
+            if let Some(byte) = packet.get_mut(middle) {
+                *byte ^= 1;
             }
-            if kind == Kind::Source && flow == STRAY {
-                self.stray(packet);
-                continue;
-            }
-            if self.options.corrupt == Some(self.log.arrived) {
-                let middle = packet.len() / 2;
-                if let Some(byte) = packet.get_mut(middle) {
-                    *byte ^= 1;
-                }
-            }
-            let late = self.options.late == Some(self.log.arrived);
-            self.log.arrived += 1;
-            if late {
-                held = Some(datagram[..length].to_vec());
-            } else {
-                self.take(number, kind, flow, packet);
-            }
+        }
+        let late = self.options.late == Some(self.log.arrived);
+        self.log.arrived += 1;
+        if late {
+            self.held = Some((number, kind, flow, packet.to_vec()));
+        } else {
+            self.take(number, kind, flow, packet);
+        }
+    }
+
+    /// The turn of the packet that is late has come.
+    fn late(&mut self) {
+        if let Some((number, kind, flow, packet)) = self.held.take() {
+            self.take(number, kind, flow, &packet);
         }
     }
 

@@ -12,9 +12,11 @@ pub enum Kind {
     Repair,
     /// The end of the stream: no packet.
     End,
+    /// A cell of a grid, whose number is the one in send order: a packet stands in it after a head of its own.
+    Cell,
 }
 
-/// What stands before the packet in a datagram: its number on the link, 4 bytes, its kind and its flow.
+/// What stands before the packet in a datagram: its number in the stream, 4 bytes, its kind and its flow.
 pub const HEAD: usize = 6;
 pub const LARGEST: usize = 65_507;
 
@@ -35,6 +37,7 @@ pub fn read(datagram: &mut [u8]) -> Option<(u32, Kind, u8, &mut [u8])> {
         0 => Kind::Source,
         1 => Kind::Repair,
         2 => Kind::End,
+        3 => Kind::Cell,
         _ => return None,
     };
     Some((number, kind, head[5], packet))

@@ -1,6 +1,7 @@
 //! A stream through sender, a lossy link and receiver of RFC 8681. Everything handed out is compared with what was sent.
 
 mod ends;
+mod grid;
 mod link;
 mod loss;
 mod options;

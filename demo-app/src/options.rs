@@ -1,8 +1,10 @@
 //! The settings of a run, as options.
 
+use crate::grid::{self, LARGEST_CELL};
 use rlc8681::Scheme;
 use std::ffi::OsString;
 use std::fmt::Display;
+use std::ops::Range;
 use std::path::PathBuf;
 use std::str::FromStr;
 
@@ -19,6 +21,8 @@ pub struct Options {
     pub mbit: Option<f64>,
     pub join: u64,
     pub stray: u64,
+    /// The rows of a grid; 0 for no grid.
+    pub interleave: u32,
     pub scheme: Scheme,
     pub symbol_size: u32,
     pub width: u32,
@@ -32,6 +36,21 @@ pub struct Options {
     pub late: Option<u64>,
     /// The receiver announces all flows, so that it takes strays: for the self-test.
     pub open_to_strays: bool,
+    /// Datagrams that the link loses besides, by their numbers in send order: for the self-test.
+    pub lose: Range<u64>,
+    /// ADUs have one symbol each without a grid too: for the self-test.
+    pub one_symbol: bool,
+}
+
+impl Options {
+    /// The most symbols in an ADU: its packet must fit a cell, where there is a grid.
+    pub fn most_symbols(&self) -> usize {
+        if self.interleave > 0 || self.one_symbol {
+            1
+        } else {
+            self.width as usize
+        }
+    }
 }
 
 impl Default for Options {
@@ -45,6 +64,7 @@ impl Default for Options {
             mbit: None,
             join: 0,
             stray: 50,
+            interleave: 0,
             scheme: Scheme::Gf256,
             symbol_size: 1400,
             width: 64,
@@ -55,6 +75,8 @@ impl Default for Options {
             corrupt: None,
             late: None,
             open_to_strays: false,
+            lose: 0..0,
+            one_symbol: false,
         }
     }
 }
@@ -111,6 +133,7 @@ pub fn read(words: impl IntoIterator<Item = OsString>) -> Result<Wish, String> {
             "--mbit" => options.mbit = Some(number(name, &value()?, 0.001, 1_000_000.0)?),
             "--join" => options.join = number(name, &value()?, 0, 100_000_000)?,
             "--stray" => options.stray = number(name, &value()?, 0, 100_000_000)?,
+            "--interleave" => options.interleave = number(name, &value()?, 0, 255)?,
             "--scheme" => {
                 options.scheme = match number(name, &value()?, 9, 10)? {
                     9u32 => Scheme::Gf2,
@@ -129,6 +152,11 @@ pub fn read(words: impl IntoIterator<Item = OsString>) -> Result<Wish, String> {
     }
     // In GF(2) a full density gives every repair symbol the same sum.
     options.density = density.unwrap_or(if options.scheme == Scheme::Gf2 { 7 } else { 15 });
+    let (cell, Options { interleave, symbol_size, repairs, .. }) = (grid::cell_size(&options), &options);
+    if *interleave > 0 && cell > LARGEST_CELL {
+        let told = format!("--interleave {interleave} with --symbol-size {symbol_size} and --repairs {repairs}");
+        return Err(format!("{told}: repair packets need cells of {cell} bytes, and {LARGEST_CELL} is the most"));
+    }
     Ok(if self_test { Wish::SelfTest } else { Wish::Run(Box::new(options)) })
 }
 
@@ -143,10 +171,13 @@ mod tests {
 
     #[test]
     fn options_are_read() {
-        let Ok(Wish::Run(o)) = words("--scheme 9 --loss=7.5 --width 255 --join 70 --stray 0 a-file --svg x.svg --svg y.svg") else {
+        let Ok(Wish::Run(o)) =
+            words("--scheme 9 --loss=7.5 --width 255 --join 70 --stray 0 --interleave 255 a-file --svg x.svg --svg y.svg")
+        else {
             panic!()
         };
-        assert_eq!((o.scheme, o.loss, o.width, o.density, o.join, o.stray), (Scheme::Gf2, 7.5, 255, 7, 70, 0));
+        assert_eq!((o.scheme, o.loss, o.width, o.density), (Scheme::Gf2, 7.5, 255, 7));
+        assert_eq!((o.join, o.stray, o.interleave), (70, 0, 255));
         assert_eq!((o.file.unwrap().to_str(), o.svg.to_str()), (Some("a-file"), Some("y.svg")));
         let Ok(Wish::Run(o)) = words("-- --loss") else { panic!() };
         assert_eq!(o.file.unwrap().to_str(), Some("--loss"));
@@ -164,5 +195,10 @@ mod tests {
         {
             assert!(words(line).is_err(), "{line}");
         }
+        // With a grid a repair packet must fit a cell.
+        for line in ["--interleave 256", "--interleave -1", "--interleave 1 --symbol-size 1485", "--repairs 2 --interleave 255"] {
+            assert!(words(line).is_err(), "{line}");
+        }
+        assert!(words("--interleave 1 --symbol-size 1484").is_ok() && words("--interleave 0 --symbol-size 1500").is_ok());
     }
 }

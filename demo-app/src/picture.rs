@@ -1,10 +1,12 @@
-//! The run as a picture: every source symbol with its fate, one burst packet by packet, and how long rebuilding took.
+//! The run as a picture: every source symbol with its fate, a burst on the link and in the stream, one burst packet by packet, the delays.
 
+use crate::grid::COLUMNS;
 use crate::link::Kind;
 use crate::options::Options;
-use crate::report::{counted, each, field, grouped, losses, percent, switched_on};
+use crate::report::{counted, each, field, grids, grouped, losses, percent, switched_on};
 use crate::stream::ceiling;
-use crate::tally::{Fate, Packet, Run};
+use crate::tally::{longest, Fate, Packet, Run};
+use std::cmp::Reverse;
 use std::fmt::Write;
 use std::ops::Range;
 
@@ -70,6 +72,13 @@ impl Svg {
         }
     }
 
+    /// A path of lines of this width, half transparent.
+    fn faint(&mut self, class: &str, width: f64, path: &str) {
+        if !path.is_empty() {
+            let _ = write!(self.0, "<path class=\"{class}\" opacity=\".5\" style=\"stroke-width:{}\" d=\"{path}\"/>", n(width));
+        }
+    }
+
     fn text(&mut self, class: &str, x: f64, y: f64, text: &str) {
         self.anchored(class, "start", x, y, text);
     }
@@ -117,6 +126,8 @@ fn runs<T: PartialEq>(list: &[T]) -> Vec<Range<usize>> {
 /// What the picture shows of the run: by position, the number of the source packet and the class of the colour.
 struct Seen<'a> {
     run: &'a Run,
+    /// Whether packets are sent in another order than they are made in.
+    spread: bool,
     sent_at: Vec<u32>,
     delays: Vec<u64>,
 }
@@ -144,13 +155,16 @@ pub fn draw(options: &Options, run: &Run) -> String {
     for (number, packet) in (0u32..).zip(&run.sent.packets).filter(|(_, p)| p.kind == Kind::Source) {
         sent_at.extend((0..packet.symbols).map(|_| number));
     }
-    let mut seen = Seen { run, sent_at, delays: Vec::new() };
+    let mut seen = Seen { run, spread: options.interleave > 0, sent_at, delays: Vec::new() };
     seen.delays = (0..run.sent.symbols).filter_map(|p| seen.delay(p)).collect();
     seen.delays.sort_unstable();
 
     let mut svg = Svg(String::new());
     let mut y = heading(&mut svg, options, run);
     y = map(&mut svg, &seen, y + 44.0);
+    if seen.spread {
+        y = spread(&mut svg, run, options.interleave, y + 44.0);
+    }
     let below = y + 44.0;
     let left = burst(&mut svg, &seen, below, MARGIN, 760.0);
     let right = delays(&mut svg, &seen, below, 850.0, WIDE - MARGIN - 850.0);
@@ -212,7 +226,8 @@ fn map(svg: &mut Svg, seen: &Seen, y: f64) -> f64 {
     let what = if in_cell == 1 { String::from("a cell is a symbol") } else { format!("a cell is the worst of {in_cell} symbols") };
     svg.text("h", MARGIN, y, "Every source symbol");
     let before = classes.contains(&BEFORE);
-    svg.text("m", MARGIN + 184.0, y, &format!("{what}{}", if before { "" } else { ", in the order sent" }));
+    let order = if seen.spread { ", in the order made" } else { ", in the order sent" };
+    svg.text("m", MARGIN + 184.0, y, &format!("{what}{}", if before { "" } else { order }));
     legend(svg, y, before);
 
     let (left, step) = (MARGIN + 56.0, 7.0);
@@ -251,12 +266,74 @@ fn legend(svg: &mut Svg, y: f64, before: bool) {
     if before {
         names.push((String::from("before joining"), BEFORE));
     }
+    keys(svg, y, &names.iter().map(|(name, class)| (name.as_str(), colour(*class))).collect::<Vec<_>>());
+}
+
+/// Names with the classes of their colours, up to the right margin.
+fn keys(svg: &mut Svg, y: f64, names: &[(&str, String)]) {
     let mut x = WIDE - MARGIN + 18.0 - names.iter().map(|(name, _)| width(name) + 35.0).sum::<f64>();
     for (name, class) in names {
-        svg.rect(&colour(class), x, y - 10.0, 11.0, 11.0);
-        svg.text("m", x + 17.0, y, &name);
-        x += width(&name) + 35.0;
+        svg.rect(class, x, y - 10.0, 11.0, 11.0);
+        svg.text("m", x + 17.0, y, name);
+        x += width(name) + 35.0;
     }
+}
+
+/// The grid with the longest run of losses: its packets in send order, and below them in the order made, row by row. Gives where it ends.
+fn spread(svg: &mut Svg, run: &Run, rows: u32, y: f64) -> f64 {
+    svg.text("h", MARGIN, y, "A burst, spread");
+    let columns = COLUMNS as usize;
+    let cells = rows as usize * columns;
+    let lost_of = |grid: &[u32]| longest(grid.iter().map(|&number| run.lost(number)));
+    // Only the last grid can have fewer packets than cells.
+    let grids_sent = run.sent.order.chunks(cells).enumerate();
+    let Some((at, grid)) = grids_sent.max_by_key(|(at, grid)| (lost_of(grid), Reverse(*at))).filter(|(_, grid)| lost_of(grid) > 0) else {
+        svg.text("m", MARGIN, y + 30.0, "No packet was lost.");
+        return y + 40.0;
+    };
+    let first = at * cells;
+    let of_row = |row: &[Packet]| row.iter().filter(|p| p.lost).count();
+    let worst = run.sent.packets[first..first + grid.len()].chunks(columns).map(of_row).max().unwrap_or(0);
+    let burst = counted(lost_of(grid) as u32, "packet");
+    svg.text("m", MARGIN + 138.0, y, &format!("{}: {burst} lost in a row on the link, {worst} of a grid's row at most", grids(rows)));
+
+    let (wide, tall, apart) = (WIDE - 2.0 * MARGIN, 18.0, 72.0);
+    let above = wide / cells as f64;
+    let (gap, between) = ((above * 1.2).min(10.0), (above * 0.12).min(1.5));
+    let row = (wide + gap) / f64::from(rows);
+    let below = (row - gap) / columns as f64;
+    let (upper, lower) = (y + 36.0, y + 36.0 + tall + apart);
+    let (mut arrived, mut unheard, mut lost, mut lines) = <(String, String, String, String)>::default();
+    for (place, &number) in grid.iter().enumerate() {
+        let (packet, made) = (&run.sent.packets[number as usize], number as usize - first);
+        let x = MARGIN + place as f64 * above;
+        let to = MARGIN + (made / columns) as f64 * row + (made % columns) as f64 * below;
+        let path = match (packet.lost, packet.unheard) {
+            (true, _) => &mut lost,
+            (_, true) => &mut unheard,
+            _ => &mut arrived,
+        };
+        // What is lost stays visible where cells are narrow.
+        let least = if packet.lost { 1.2 } else { 0.0 };
+        bar(path, x, upper, (above - between).max(least), tall);
+        bar(path, to, lower, (below - between).max(least), tall);
+        if packet.lost {
+            let _ = write!(lines, "M{} {}L{} {}", n(x + above / 2.0), n(upper + tall), n(to + below / 2.0), n(lower));
+        }
+    }
+    svg.faint("o", (above / 6.0).clamp(0.2, 1.0), &lines);
+    svg.path("c", &arrived);
+    svg.path(&colour(HEARD), &unheard);
+    svg.path(&colour(NEVER), &lost);
+    svg.text("s", MARGIN, upper - 8.0, "on the link, in send order");
+    let (from, to) = (grouped(first as u64), grouped((first + grid.len() - 1) as u64));
+    svg.text("s", MARGIN, lower + tall + 16.0, &format!("in the order made, row by row: packets {from} to {to}"));
+    let mut names = vec![("arrived", String::from("c")), ("lost", colour(NEVER))];
+    if !unheard.is_empty() {
+        names.push(("receiver off", colour(HEARD)));
+    }
+    keys(svg, y, &names);
+    lower + tall + 16.0
 }
 
 /// The burst worth a look: of the runs of lost packets that were rebuilt whole, within a time that can be drawn, the one with the
@@ -289,7 +366,13 @@ fn burst(svg: &mut Svg, seen: &Seen, y: f64, left: f64, wide: f64) -> f64 {
     let sources = || packets[shown.clone()].iter().filter(|p| p.kind == Kind::Source);
     let (Some(low), Some(high)) = (sources().map(|p| p.first).min(), sources().map(Packet::end).max()) else { return y };
     let symbols: u64 = packets[lost.clone()].iter().filter(|p| p.kind == Kind::Source).map(|p| u64::from(p.symbols)).sum();
-    let told = format!("{} packets lost in a row, {symbols} symbols: known again {} packets later", lost.len(), last - lost.start);
+    let (count, later) = (lost.len(), last - lost.start);
+    let told = if seen.spread {
+        let (lost, later) = (counted(count as u32, "packet"), counted(later as u32, "packet"));
+        format!("{lost} lost in a row in the order made, {}: known again {later} later", counted(symbols as u32, "symbol"))
+    } else {
+        format!("{count} packets lost in a row, {symbols} symbols: known again {later} packets later")
+    };
     svg.text("m", left + 90.0, y, &told);
 
     let (axis, top, tall) = (left + 56.0, y + 44.0, 380.0);
@@ -352,7 +435,8 @@ fn burst(svg: &mut Svg, seen: &Seen, y: f64, left: f64, wide: f64) -> f64 {
     for number in shown.clone().filter(|number| number % 10 == 0) {
         svg.anchored("s", "middle", x_of(number) + column / 2.0, top + tall + 16.0, &grouped(number as u64));
     }
-    svg.text("s", axis, top + tall + 34.0, "packets on the link, left to right; positions of source symbols, downward");
+    let order = if seen.spread { "in the order made" } else { "on the link" };
+    svg.text("s", axis, top + tall + 34.0, &format!("packets {order}, left to right; positions of source symbols, downward"));
     top + tall + 34.0
 }
 
@@ -386,6 +470,7 @@ fn delays(svg: &mut Svg, seen: &Seen, y: f64, left: f64, wide: f64) -> f64 {
         svg.anchored("s", "middle", x, top + tall + 16.0, &grouped(delay));
     }
     svg.anchored("s", "end", left + wide - 6.0, top + 16.0, &format!("tallest: {} symbols", grouped(most)));
-    svg.text("s", left, top + tall + 34.0, "packets on the link after its own");
+    let after = if seen.spread { "packets made after its own" } else { "packets on the link after its own" };
+    svg.text("s", left, top + tall + 34.0, after);
     top + tall + 34.0
 }

@@ -1,5 +1,6 @@
 //! The run in words and numbers.
 
+use crate::grid::COLUMNS;
 use crate::link::Kind;
 use crate::options::Options;
 use crate::stream::STRAY;
@@ -55,6 +56,11 @@ pub fn switched_on(options: &Options) -> String {
     }
 }
 
+/// The grids of a run: "grids of 16 rows by 8 columns".
+pub fn grids(rows: u32) -> String {
+    format!("grids of {} by {COLUMNS} columns", counted(rows, "row"))
+}
+
 pub fn field(scheme: Scheme) -> &'static str {
     match scheme {
         Scheme::Gf2 => "GF(2)",
@@ -96,6 +102,9 @@ pub fn settings(options: &Options) -> String {
     let _ = writeln!(text, "RFC 8681 over a lossy link: scheme {scheme}, {field}; symbols of {bytes} bytes, window of {width}");
     let _ = writeln!(text, "  stream  {stream}; seed {}", options.seed);
     let _ = writeln!(text, "  repair  a packet of {of} after every {}, DT {density}", each(*every, "ADU"));
+    if options.interleave > 0 {
+        let _ = writeln!(text, "  order   {}, sent column by column", grids(options.interleave));
+    }
     let _ = writeln!(text, "  link    UDP on 127.0.0.1, {}, {pace}{}", losses(options), switched_on(options));
     text
 }
@@ -123,6 +132,12 @@ pub fn result(options: &Options, run: &Run) -> String {
         };
         line(name, all, format!("{what} sent: {} arrived, {} lost{unheard}", grouped(arrived), grouped(lost)));
     }
+    if options.interleave > 0 {
+        let (on_link, in_stream, of_row) = run.lost_at_most();
+        let packets = if on_link == 1 { "packet" } else { "packets" };
+        let told = format!("{} in the stream's order; of a grid's row of {COLUMNS} at most {of_row}", grouped(in_stream));
+        line("order", on_link, format!("{packets} lost in a row on the link at most; {told}"));
+    }
     if sent.strays > 0 {
         let (by_sender, by_receiver) = (grouped(sent.strays), grouped(got.strays));
         line("strays", sent.strays, format!("of flow {STRAY}, not announced: sender refused {by_sender}, receiver {by_receiver} (16)"));
@@ -142,7 +157,8 @@ pub fn result(options: &Options, run: &Run) -> String {
     line("bytes", sent.bytes, format!("sent: {} handed out, each compared with what was sent", grouped(got.bytes)));
     let seconds = run.time.as_secs_f64();
     let rate = sent.link_bytes as f64 * 8.0 / 1e6 / seconds.max(1e-9);
-    line("", sent.link_bytes, format!("with repair and heads, in {seconds:.2} s: {rate:.0} Mbit/s"));
+    let beside = if options.interleave > 0 { "repair, heads and padding" } else { "repair and heads" };
+    line("", sent.link_bytes, format!("with {beside}, in {seconds:.2} s: {rate:.0} Mbit/s"));
 
     let symbol = symbol_time(options);
     let _ = writeln!(

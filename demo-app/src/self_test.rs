@@ -1,6 +1,7 @@
 //! Short runs of known outcome. The damaged ones show that the comparison can fail.
 
 use crate::ends;
+use crate::grid::COLUMNS;
 use crate::link::Kind;
 use crate::options::{self, Options};
 use crate::picture;
@@ -13,7 +14,7 @@ type Check = fn() -> Result<(), String>;
 
 /// Prints what came out wrong, or that nothing did. True where nothing did.
 pub fn run() -> bool {
-    let checks: [(&str, Check); 19] = [
+    let checks: [(&str, Check); 31] = [
         ("scheme 10 rebuilds", || rebuilds(short())),
         ("scheme 9 rebuilds", || rebuilds(Options { scheme: Scheme::Gf2, density: 7, ..short() })),
         ("small symbols, odd width, many repairs", || {
@@ -34,9 +35,26 @@ pub fn run() -> bool {
         ("the same seed, the same run", || repeats(short())),
         ("a symbol rebuilt first and heard later is heard", || heard_later(short())),
         ("a wrong origin is noticed", || misheard(short())),
-        ("a damaged source packet is noticed", || noticed(Damage::Source)),
-        ("a damaged repair packet that solves is noticed", || noticed(Damage::Solving)),
-        ("a damaged repair packet over known symbols is refused", || noticed(Damage::Implied)),
+        ("a damaged source packet is noticed", || noticed(short(), Damage::Source)),
+        ("a damaged repair packet that solves is noticed", || noticed(short(), Damage::Solving)),
+        ("a damaged repair packet over known symbols is refused", || noticed(short(), Damage::Implied)),
+        ("long bursts, a grid: more symbols known", || {
+            [2, 5, 8681].iter().try_for_each(|&seed| spreads(Options { loss: 8.0, burst: 10.0, seed, ..grid(16) }))
+        }),
+        ("as many lost in a row as a grid has rows: of each row at most one", spread_apart),
+        ("a grid of one row changes nothing", || same_order(grid(1))),
+        ("no loss, a last grid that is not full: nothing missing", || not_full(Options { loss: 0.0, ..grid(16) })),
+        ("a grid, all lost, nothing handed out", || silent(Options { loss: 100.0, ..grid(5) })),
+        ("a grid, scheme 9, small symbols, many repairs", || {
+            rebuilds(Options { scheme: Scheme::Gf2, density: 7, symbol_size: 7, width: 255, repairs: 16, every: 40, ..grid(255) })
+        }),
+        // The receiver is switched on while a grid is sent, and hears the last cells of its rows
+        ("a grid, joining at a source packet", || joins(Options { join: 312, ..grid(16) }, Kind::Source)),
+        ("a grid, joining at a repair packet", || joins(Options { join: 306, ..grid(16) }, Kind::Repair)),
+        ("a grid, strays are refused, and change nothing", || strays(grid(16))),
+        ("a grid, a symbol rebuilt first and heard later is heard", || heard_later(grid(16))),
+        ("a grid, a damaged source packet is noticed", || noticed(grid(16), Damage::Source)),
+        ("a grid, a damaged repair packet is noticed", || noticed(grid(16), Damage::Solving)),
     ];
     let mut failed = 0;
     for (name, check) in checks {
@@ -45,11 +63,11 @@ pub fn run() -> bool {
             crate::complain(&format!("self-test: {name}: {why}"));
         }
     }
-    let usage = ["--loss=x", "--width=0", "--what", "--seed"];
-    for word in usage {
-        if options::read([OsString::from(word)]).is_ok() {
+    let usage = ["--loss=x", "--width=0", "--what", "--seed", "--interleave=256", "--interleave=1 --symbol-size=1485"];
+    for line in usage {
+        if options::read(line.split(' ').map(OsString::from)).is_ok() {
             failed += 1;
-            crate::complain(&format!("self-test: {word} was taken"));
+            crate::complain(&format!("self-test: {line} was taken"));
         }
     }
     crate::say(&format!("self-test: {} passed, {failed} failed\n", checks.len() + usage.len() - failed));
@@ -58,6 +76,15 @@ pub fn run() -> bool {
 
 fn short() -> Options {
     Options { symbols: 1500, seed: 1, ..Options::default() }
+}
+
+fn grid(rows: u32) -> Options {
+    Options { interleave: rows, ..short() }
+}
+
+/// The same stream without a grid.
+fn plain(options: &Options) -> Options {
+    Options { interleave: 0, one_symbol: true, ..options.clone() }
 }
 
 fn silently(options: &Options) -> Result<Run, String> {
@@ -148,7 +175,7 @@ fn repeats(options: Options) -> Result<(), String> {
     demand(one.got.fates == two.got.fates && one.got.bytes == two.got.bytes, || String::from("the runs differ"))
 }
 
-/// The place, among the packets that arrive, of the twenty-first that fits, by its number on the link and itself.
+/// The place, among the packets that arrive, of the twenty-first that fits, by its number and itself.
 fn twenty_first(run: &Run, fits: impl Fn(u32, &Packet) -> bool) -> Result<u64, String> {
     let arriving = (0..).zip(&run.sent.packets).filter(|(_, p)| p.arrives());
     let mut fitting = (0..).zip(arriving).filter(|(_, (number, p))| fits(*number, p));
@@ -195,8 +222,7 @@ enum Damage {
 }
 
 /// A bit of one packet changes after the link: the comparison sees it, or the receiver refuses (11).
-fn noticed(damage: Damage) -> Result<(), String> {
-    let options = short();
+fn noticed(options: Options, damage: Damage) -> Result<(), String> {
     let whole = right(&options)?;
     let known_before = |number: u32, p: &Packet| {
         (p.first..p.end()).all(|position| match whole.fate(position) {
@@ -213,4 +239,59 @@ fn noticed(damage: Damage) -> Result<(), String> {
     let run = silently(&Options { corrupt: Some(twenty_first(&whole, fits)?), ..options })?;
     let seen = if damage == Damage::Implied { run.got.refused[11] } else { run.got.differing };
     demand(seen > 0 && !run.faults().is_empty(), || String::from("nothing was noticed"))
+}
+
+/// Bursts take fewer symbols for good where a grid spreads them; report and picture tell of it.
+fn spreads(options: Options) -> Result<(), String> {
+    let plain = plain(&options);
+    let (with, without) = (right(&options)?, right(&plain)?);
+    let (never, otherwise) = (with.symbols().2, without.symbols().2);
+    demand(with.sent.symbols == without.sent.symbols && never < otherwise, || format!("{never} never known, without a grid {otherwise}"))?;
+    let ((on_link, in_stream, _), (longest, ..)) = (with.lost_at_most(), without.lost_at_most());
+    demand(on_link == longest && in_stream < on_link, || {
+        format!("{on_link} and {longest} lost in a row, {in_stream} in the stream's order")
+    })?;
+    for (options, run, told) in [(&options, &with, true), (&plain, &without, false)] {
+        demand(report::settings(options).contains("\n  order") == told, || String::from("the settings tell something else"))?;
+        demand(report::result(options, run).contains("\norder") == told, || String::from("the report tells something else"))?;
+        demand(picture::draw(options, run).contains("A burst, spread") == told, || String::from("the picture shows something else"))?;
+    }
+    Ok(())
+}
+
+/// As many neighbours on the link as a grid has rows, in one grid or in two, are all of other rows. One more, or no grid, and they are not.
+fn spread_apart() -> Result<(), String> {
+    for rows in [2, 16, 255] {
+        let options = Options { symbols: 3000, symbol_size: 64, loss: 0.0, ..grid(rows) };
+        let (rows, cells) = (u64::from(rows), u64::from(rows * COLUMNS));
+        let lost_of = |options: Options, first: u64, count: u64| {
+            let run = right(&Options { lose: first..first + count, ..options })?;
+            let (on_link, _, of_row) = run.lost_at_most();
+            let lost = run.sent.packets.iter().filter(|p| p.lost).count() as u64;
+            demand(lost == count && on_link == count, || format!("{lost} lost, {on_link} in a row, and not {count}"))?;
+            Ok::<u64, String>(of_row)
+        };
+        for first in [0, 3, 5 * rows - 1, cells - rows / 2 - 1] {
+            let of_row = lost_of(options.clone(), first, rows)?;
+            demand(of_row == 1, || format!("{rows} rows: {of_row} lost of a row, from {first} on"))?;
+        }
+        let (more, plain) = (lost_of(options.clone(), 3, rows + 1)?, lost_of(plain(&options), 0, rows)?);
+        demand(more == 2 && plain > 1, || format!("{rows} rows: {more} lost of a row by one more, {plain} without a grid"))?;
+    }
+    Ok(())
+}
+
+/// The cells of a grid of one row are sent in the order in which they are filled, so that all is as it is without a grid.
+fn same_order(options: Options) -> Result<(), String> {
+    let (one, two) = (right(&options)?, right(&plain(&options))?);
+    let same = one.got.fates == two.got.fates && one.got.bytes == two.got.bytes && one.got.refused == two.got.refused;
+    demand(same && one.symbols().1 > 0, || String::from("a grid of one row changed the run"))
+}
+
+/// All that a last grid holds arrives, though it is not full.
+fn not_full(options: Options) -> Result<(), String> {
+    let run = right(&options)?;
+    let (packets, cells) = (run.sent.packets.len(), (options.interleave * COLUMNS) as usize);
+    demand(packets > cells && packets % cells > 0, || format!("{packets} packets in grids of {cells} cells"))?;
+    lossless(options)
 }

@@ -60,22 +60,23 @@ enum Kind {
 }
 
 impl Stream {
-    fn new(seed: u64, symbol_size: usize, width: usize, kind: Kind) -> Stream {
-        let most_symbols = MOST_SYMBOLS.min(width).min(MOST_BYTES / symbol_size).max(1);
+    /// A stream whose ADUs have at most `most` symbols; the limits above hold too.
+    fn new(seed: u64, symbol_size: usize, most: usize, kind: Kind) -> Stream {
+        let most_symbols = MOST_SYMBOLS.min(most).min(MOST_BYTES / symbol_size).max(1);
         Stream { random: Random::new(seed), symbol_size, most_symbols, kind }
     }
 
     /// Video-like data of about so many symbols.
-    pub fn made(seed: u64, symbol_size: usize, width: usize, wanted: u64) -> Stream {
-        Stream::new(seed, symbol_size, width, Kind::Made { wanted, taken: 0, frame: 0, left: 0, ahead: Vec::new() })
+    pub fn made(seed: u64, symbol_size: usize, most: usize, wanted: u64) -> Stream {
+        Stream::new(seed, symbol_size, most, Kind::Made { wanted, taken: 0, frame: 0, left: 0, ahead: Vec::new() })
     }
 
     /// The bytes of a file, cut into ADUs of one flow.
-    pub fn file(seed: u64, symbol_size: usize, width: usize, path: &Path) -> io::Result<Stream> {
+    pub fn file(seed: u64, symbol_size: usize, most: usize, path: &Path) -> io::Result<Stream> {
         let file = File::open(path)?;
         let length = file.metadata()?.len();
         let kind = Kind::File { reader: BufReader::with_capacity(1 << 16, file), length, taken: 0 };
-        Ok(Stream::new(seed, symbol_size, width, kind))
+        Ok(Stream::new(seed, symbol_size, most, kind))
     }
 
     /// The flows of its ADUs, which both ends announce.

@@ -1,10 +1,11 @@
 //! What a run is told by: the packets on the link, the fate of each symbol, the times of the calls.
 
+use crate::grid::COLUMNS;
 use crate::link::Kind;
 use std::collections::BTreeSet;
 use std::time::{Duration, Instant};
 
-/// A packet that the sender gave to the link; its place in the list is its number on the link.
+/// A packet that the sender made; its place in the list is its number in the stream.
 #[derive(Clone, Copy)]
 pub struct Packet {
     pub kind: Kind,
@@ -33,7 +34,7 @@ pub enum Fate {
     Never,
     /// The receiver says that it heard it.
     Heard,
-    /// The receiver says that it solved it, and did so at the packet with this number on the link.
+    /// The receiver says that it solved it, and did so at the packet with this number.
     Rebuilt(u32),
 }
 
@@ -71,6 +72,8 @@ impl Times {
 #[derive(Default)]
 pub struct Sent {
     pub packets: Vec<Packet>,
+    /// The numbers of the packets in send order.
+    pub order: Vec<u32>,
     pub adus: u64,
     pub bytes: u64,
     pub symbols: u64,
@@ -93,7 +96,7 @@ pub struct Got {
     /// Packets that arrived, and the positions that their calls counted as newly known.
     pub arrived: u64,
     pub counted: u64,
-    /// The source packets that were accepted, by their numbers on the link, and the symbols that were rebuilt first and heard later.
+    /// The source packets that were accepted, by their numbers, and the symbols that were rebuilt first and heard later.
     pub accepted: Vec<u32>,
     pub later: u64,
     /// How often a packet call gave each refusal; of refusal 8, how often to a packet that begins before the position joined at.
@@ -119,6 +122,16 @@ impl Got {
     }
 }
 
+/// The longest run of losses.
+pub fn longest(lost: impl Iterator<Item = bool>) -> u64 {
+    let mut run = 0;
+    let runs = lost.map(|lost| {
+        run = if lost { run + 1 } else { 0 };
+        run
+    });
+    runs.max().unwrap_or(0)
+}
+
 /// A whole run.
 pub struct Run {
     pub sent: Sent,
@@ -131,6 +144,18 @@ impl Run {
     pub fn packets(&self, kind: Kind) -> (u64, u64, u64) {
         let count = |f: fn(&Packet) -> bool| self.sent.packets.iter().filter(|p| p.kind == kind && f(p)).count() as u64;
         (count(|_| true), count(Packet::arrives), count(|p| p.lost))
+    }
+
+    pub fn lost(&self, number: u32) -> bool {
+        self.sent.packets.get(number as usize).is_some_and(|p| p.lost)
+    }
+
+    /// The most packets lost one after another, in send order and in the stream's order, and the most lost of a row of a grid.
+    pub fn lost_at_most(&self) -> (u64, u64, u64) {
+        let on_link = longest(self.sent.order.iter().map(|&number| self.lost(number)));
+        let rows = self.sent.packets.chunks(COLUMNS as usize);
+        let of_row = rows.map(|row| row.iter().filter(|p| p.lost).count() as u64).max();
+        (on_link, longest(self.sent.packets.iter().map(|p| p.lost)), of_row.unwrap_or(0))
     }
 
     pub fn fate(&self, position: u64) -> Fate {
