@@ -1,9 +1,9 @@
 -- Places of a grid: every place is that of one row and one column, in the order taken and in send order.
-use Rattle.words.specs.Words.{_≡_, arith, ℕ, _≤_, _+_, _<_, _%_, suc, zero, _*_, _/_, mod-lt, add-zero, mod-eq-of-lt, decLt}
+use Rattle.words.specs.Words.{_≡_, arith, ℕ, _≤_, _+_, _<_, _%_, suc, zero, _*_, _/_, mod-lt, add-zero, mod-eq-of-lt, decLt, ℕ-discrete, _⊎_, inl, inr}
 use native.Mathlib.Nat.{mul-add-div-right, mul-add-mod-self-right, div-eq-of-lt, div-add-mod', div-lt-iff-lt-mul, mul-comm}
 use Rattle.memory.proofs.Parts.{row-fits}
 use Rattle.interleave.specs.Places.{takenAt, sentAt}
-use Rattle.interleave.specs.Claims.{Spread}
+use Rattle.interleave.specs.Claims.{By-rows, By-columns, Spread}
 
 -- An order of a grid's symbols: the place `at r c` of each, and of each place the row and the column.
 pub record Places (D L : ℕ) (at : (r c : ℕ) → ℕ) (row column : (p : ℕ) → ℕ) : Type 0 where
@@ -55,6 +55,23 @@ sent-places D L =
       column-within = λ p h. t .row-within p (turned p h);
       there = λ p h. t .there p (turned p h);
     }
+
+-- ---- which comes first
+
+pub by-rows : By-rows
+by-rows L r c r′ c′ h h′ = (first (decLt r r′) (ℕ-discrete r r′), before)
+  where
+    first : Dec (r < r′) → Dec (r ≡ r′) → takenAt L r c < takenAt L r′ c′ → (r < r′) ⊎ ((r ≡ r′) × (c < c′))
+    first (yes l) d k = inl l
+    first (no l) (yes e) k = inr (e, omega (arith, rw e at k))
+    first (no l) (no n) k = let g : r′ < r = omega arith in absurd (omega (arith, k, row-fits r L r′ g))
+
+    before : (r < r′) ⊎ ((r ≡ r′) × (c < c′)) → takenAt L r c < takenAt L r′ c′
+    before (inl l) = omega (arith, row-fits r′ L r l)
+    before (inr (e, k)) = rw e (omega arith)
+
+pub by-columns : By-columns
+by-columns D r c r′ c′ = by-rows D c r c′ r′
 
 -- ---- at most one symbol of each row
 

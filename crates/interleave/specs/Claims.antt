@@ -1,12 +1,22 @@
 -- What is claimed of the two calls, over all E, D and L (document 02, No. 8). `src` is the input, `out` the output
 -- before the call and `out′` after it, and `a` the answer.
-use Rattle.words.specs.Words.{_≡_, ℕ, _≤_, _+_, List, length, _<_, _*_, take, _↔_}
+use Rattle.words.specs.Words.{_≡_, ℕ, _≤_, _+_, List, length, _<_, _*_, take, _↔_, _⊎_}
 use Rattle.memory.specs.Part.{part}
 use Rattle.memory.specs.Contained.{Contained}
 use Rattle.wire.specs.declared.Answer.{Answer}
 use Rattle.wire.specs.Answers.{Said, value, refusal, said}
 use Rattle.interleave.specs.Places.{takenAt, sentAt}
 use Rattle.interleave.specs.Promises.{Interleaves, Deinterleaves}
+
+-- Taken row by row: a symbol comes before another where its row does, or in the same row its column.
+abbrev pub By-rows : Type 0
+By-rows = (L r c r′ c′ : ℕ) → c < L → c′ < L
+    → (takenAt L r c < takenAt L r′ c′) ↔ ((r < r′) ⊎ ((r ≡ r′) × (c < c′)))
+
+-- Sent column by column: where its column does, or in the same column its row.
+abbrev pub By-columns : Type 0
+By-columns = (D r c r′ c′ : ℕ) → r < D → r′ < D
+    → (sentAt D r c < sentAt D r′ c′) ↔ ((c < c′) ⊎ ((c ≡ c′) × (r < r′)))
 
 -- E has its values
 abbrev pub SizeAllowed : ℕ → Type 0
