@@ -111,6 +111,8 @@ fn at_the_limits() {
 
 #[test]
 fn random_grids() {
+    // How often a value or a length that may be off was answered with bytes, and refused with 1, 17 and 2
+    let mut answers = [0; 4];
     library::runs(300, |seed| {
         let mut random = Random::new(seed);
         let symbol_size = random.one_of(&[4, 5, 6, 7, 9, 16, 31, 33, 100]) as u32;
@@ -129,9 +131,15 @@ fn random_grids() {
         given.resize(length - usize::from(random.chance(30)), 9);
         let room = given.len() + random.between(0, 3) - 1;
         for direction in [0, 1] {
-            let _ = answered(direction, wrong, &given, room);
+            answers[match answered(direction, wrong, &given, room) {
+                Ok(_) => 0,
+                Err(1) => 1,
+                Err(17) => 2,
+                Err(_) => 3,
+            }] += 1;
         }
     });
+    assert!(answers.iter().all(|&count| count > 0) || std::env::var_os("RLC8681_SEED").is_some(), "{answers:?}");
 }
 
 /// Each value outside its limits, at 8, 16 and 32 bits, and the order of refusals: 1, 17, 2.
