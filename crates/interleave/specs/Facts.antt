@@ -1,8 +1,9 @@
--- Computed from the definitions: a grid of 2 rows by 3 columns of 4 bytes, and back; one row, one column; the answers at their limits, and their order.
-use Rattle.words.specs.Words.{_≡_, ℕ, List, refl, [], _∷_}
-use Rattle.memory.specs.Part.{part}
+-- Computed from the definitions: a grid of 2 rows by 3 columns of 4 bytes, and back; one row, one column; the answers at their limits, and their order;
+-- output past the grid.
+use Rattle.words.specs.Words.{_≡_, ℕ, List, refl, [], _∷_, _++_}
+use Rattle.memory.specs.Part.{part, splice}
 use Rattle.wire.specs.Answers.{value, refusal}
-use Rattle.interleave.specs.Grid.{symbolsFrom, interleaved, deinterleaved, answerTo}
+use Rattle.interleave.specs.Grid.{symbolsFrom, interleaved, deinterleaved, answerTo, outputAfter}
 
 -- the rows 1x 2x 3x and 4x 5x 6x
 abbrev taken : List ℕ
@@ -40,3 +41,16 @@ limits = refl
 -- 1 before 17 before 2, where each pair applies
 pub order : answerTo 3 0 3 18 0 ∷ answerTo 3 2 3 18 0 ∷ answerTo 4 2 3 25 0 ∷ answerTo 4 0 3 24 0 ∷ [] ≡ refusal 1 ∷ refusal 1 ∷ refusal 17 ∷ refusal 17 ∷ []
 order = refl
+
+-- two symbols into ten bytes of output, of which the last two are as they were; and into seven, all of which are
+abbrev two : List ℕ
+two = 11 ∷ 12 ∷ 13 ∷ 14 ∷ 21 ∷ 22 ∷ 23 ∷ 24 ∷ []
+
+abbrev seven : List ℕ
+seven = 91 ∷ 92 ∷ 93 ∷ 94 ∷ 95 ∷ 96 ∷ 97 ∷ []
+
+pub past :
+    outputAfter (answerTo 4 2 1 8 10) (interleaved 4 2 1 two) (seven ++ 98 ∷ 99 ∷ 100 ∷ []) ∷ outputAfter (answerTo 4 2 1 8 7) (interleaved 4 2 1 two) seven ∷ []
+    ≡ (two ++ 99 ∷ 100 ∷ []) ∷ seven ∷ []
+unfolding symbolsFrom part splice
+past = refl
