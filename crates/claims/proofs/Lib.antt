@@ -2,6 +2,7 @@
 pub mod Sending
 pub mod Adus
 pub mod Carrying
+pub mod Accepted
 pub mod Demand
 pub mod NoChoice
 pub mod Placing

@@ -1,6 +1,7 @@
 -- Heard or solved: beside its 0 the symbol call says what the history says, after every list of calls that the promises allow.
 use Rattle.words.specs.Words.{_≡_, arith, ℕ, _≤_, _+_, List, length, _<_, refl, _∙_, sym, ap, _-_, [], some, _∷_, none, true, getD, false, _++_, subst, Bool}
-use Rattle.words.specs.Words.{Option, ap₂, _≢_, _↔_, inl, inr, Option·some-injective, Option·none-ne-some, append-nil, append-assoc}
+use Rattle.words.specs.Words.{Option, ap₂, _≢_, _↔_, inl, inr, ⊎-elim, Option·some-injective, Option·none-ne-some}
+use mathlib.Core.List.{List·Memᴰ, List·Memᴰ·head, List·Memᴰ·tail, List·Memᴰ·not-nil, List·Memᴰ·cases-cons}
 use mathlib.Core.Bool.{false≢true}
 use mathlib.Core.Logic.{Iff·rfl, Iff·trans, Iff·and}
 use Rattle.wire.specs.declared.Setting.{Setting}
@@ -13,7 +14,7 @@ use Rattle.receiver.specs.declared.SymbolAnswer.the-variants.{Shown, Hidden}
 use Rattle.history.specs.Symbol.{Symbol, bytesOf, symbolOf}
 use Rattle.history.specs.History.{Filling, Located, source, repair, All, Known, Reading, fails, located, reading, Log, fresh, OfBytes, esiOf, IsValue, baseOf}
 use Rattle.history.specs.History.{logged}
-use Rattle.history.specs.Origins.{Brought}
+use Rattle.history.specs.Origins.{Brings, Brought}
 use Rattle.history.specs.Model.{State, opened, foundBy, stateAfter, responds, answering}
 use Rattle.receiver.specs.Promises.{Layout, Opened, Received, Finds, SymbolShown, shownOf}
 use Rattle.history.proofs.Answers.{TracksFrom, baseIn, fresh-tracks}
@@ -22,6 +23,7 @@ use Rattle.history.proofs.Origins.{brought, brought-after, brought-is}
 use Rattle.claims.specs.Run.{Step, Run, final, read, goes-on, history}
 use Rattle.claims.specs.Demand.{esi}
 use Rattle.claims.specs.Origins.{Told-origin, Origins, BroughtBy, Brought-by, Stays-heard}
+use Rattle.claims.proofs.Accepted.{AcceptedAs, keeps-on, accepted-as}
 use Rattle.claims.proofs.Demand.{some-bytes, Stands, read-found, called, From, symbol, found, here, exactly, had-setting}
 use Rattle.decoder.specs.Receiver as decoder
 
@@ -44,64 +46,58 @@ goes-append : (s : Setting) (flows : List ℕ) (ts us : List Step) (l : Log) →
 goes-append s flows [] us l = refl
 goes-append s flows (t ∷ ts) us l = goes-append s flows ts us _
 
+-- What was brought, one of the packets brings; so the order in which they were accepted is nothing to it.
+pub brings-one : (l : Log) (p : ℕ) → Brought l p → (q : Located) × List·Memᴰ q l × Brings q p
+brings-one [] p b = absurd b
+brings-one (q ∷ l) p (inl b) = (q, List·Memᴰ·head refl, b)
+brings-one (q ∷ l) p (inr b) = let (x, k, c) = brings-one l p b in (x, List·Memᴰ·tail k, c)
+
+pub one-brings : (l : Log) (p : ℕ) (q : Located) → List·Memᴰ q l → Brings q p → Brought l p
+one-brings [] p q k b = absurd (List·Memᴰ·not-nil k)
+one-brings (x ∷ l) p q k b =
+    let rest = one-brings l p q in
+    ⊎-elim (λ e. inl (subst (λ y. Brings y p) e b)) (λ n. inr (rest n b)) (List·Memᴰ·cases-cons k)
+
 module _ (s : Setting) (flows : List ℕ) (p : ℕ) where
   -- What was brought stays so.
-  kept : (l : Log) (r : Reading) (a : Said) → Brought l p → Brought (logged s l r a) p
-  kept l (located q) (value n) b = inr b
-  kept l (located q) (refusal n) b = b
-  kept l (fails m) a b = b
-
-  stays : (ts : List Step) (l : Log) → Brought l p → Brought (goes-on s flows l ts) p
-  stays [] l b = b
-  stays (t ∷ ts) l b = stays ts _ (kept l (read s flows l t) (said (t .answer)) b)
-
   stays-after : (ts us : List Step) → Brought (history s flows ts) p → Brought (history s flows (ts ++ us)) p
-  stays-after ts us b = subst (λ l. Brought l p) (sym (goes-append s flows ts us fresh)) (stays us (history s flows ts) b)
+  stays-after ts us b =
+      let (q, k, c) = brings-one (history s flows ts) p b in
+      subst (λ l. Brought l p) (sym (goes-append s flows ts us fresh))
+      (one-brings _ p q (keeps-on s flows (history s flows ts) us q k) c)
 
-  module _ (ts : List Step) where
-    -- What was brought after the calls `before` and one more of the list was brought by a call of the list, where that is so of what was brought before it.
-    by-one : (before : List Step) (t : Step) (after : List Step) → ts ≡ before ++ (t ∷ after) → (Brought (history s flows before) p → BroughtBy s flows ts p)
-        → (r : Reading) → read s flows (history s flows before) t ≡ r → (a : Said) → said (t .answer) ≡ a → Brought (logged s (history s flows before) r a) p
-        → BroughtBy s flows ts p
-    by-one before t after e k (located (source x symbols)) i (value n) h (inl (low, high)) = record {
-      before = before;
-      call = t;
-      after = after;
-      split = e;
-      accepted = subst IsValue (sym h) tt;
-      first = x;
-      symbols = symbols;
-      read-as = i;
-      low = low;
-      high = high;
-    }
-    by-one before t after e k (located (repair x n coefficients symbols)) i (value m) h (inl b) = absurd b
-    by-one before t after e k (located q) i (value n) h (inr b) = k b
-    by-one before t after e k (located q) i (refusal n) h b = k b
-    by-one before t after e k (fails m) i a h b = k b
-
-    -- And so is what was brought after all of them.
-    by-calls : (before after : List Step) → ts ≡ before ++ after → (Brought (history s flows before) p → BroughtBy s flows ts p)
-        → Brought (history s flows ts) p → BroughtBy s flows ts p
-    by-calls before [] e k b = k (subst (λ l. Brought (history s flows l) p) (e ∙ append-nil before) b)
-    by-calls before (t ∷ after) e k b =
-        by-calls (before ++ (t ∷ [])) after (e ∙ sym (append-assoc before (t ∷ []) after))
-        (λ h. by-one before t after e k _ refl _ refl (subst (λ l. Brought l p) (goes-append s flows before (t ∷ []) fresh) h)) b
-
-    -- And a call of the list that was accepted has brought what its packet brings.
-    by-accepted : BroughtBy s flows ts p → Brought (history s flows ts) p
-    by-accepted k =
-        let l = history s flows (k .before) in
-        subst (λ y. Brought y p) (sym (ap (history s flows) (k .split) ∙ goes-append s flows (k .before) (k .call ∷ k .after) fresh))
-        (stays (k .after) _
-        (subst (λ r. Brought (logged s l r (said (k .call .answer))) p) (sym (k .read-as)) (go l (said (k .call .answer)) (k .accepted))))
-      where
-        go : (l : Log) (a : Said) → IsValue a → Brought (logged s l (located (source (k .first) (k .symbols))) a) p
-        go l (value n) h = inl (k .low, k .high)
-        go l (refusal n) h = absurd h
+  by-call : (ts : List Step) (q : Located) → AcceptedAs s flows fresh ts q → Brings q p → BroughtBy s flows ts p
+  by-call ts (repair x n coefficients symbols) k b = absurd b
+  by-call ts (source x symbols) k (low, high) = record {
+    before = k .before;
+    call = k .step;
+    after = k .after;
+    split = k .split;
+    accepted = k .accepted;
+    first = x;
+    symbols = symbols;
+    read-as = k .read-as;
+    low = low;
+    high = high;
+  }
 
 pub brought-by : Brought-by
-brought-by s flows ts p = (by-calls s flows p ts [] ts refl (λ b. absurd b), by-accepted s flows p ts)
+brought-by s flows ts p = (
+  (λ b.
+      let (q, k, c) = brings-one (history s flows ts) p b in
+      by-call s flows p ts q (accepted-as s flows ts q .0 k) c),
+  (λ k.
+      let q = source (k .first) (k .symbols) in
+      let taken : AcceptedAs s flows fresh ts q = record {
+        before = k .before;
+        step = k .call;
+        after = k .after;
+        split = k .split;
+        accepted = k .accepted;
+        read-as = k .read-as;
+      } in
+      one-brings (history s flows ts) p q (accepted-as s flows ts q .1 taken) (k .low, k .high)),
+)
 
 -- ---- The calls
 
@@ -122,9 +118,9 @@ module _ (L : Layout) (s : Setting) (flows : List ℕ) (v : Valid s) where
   open Setting s using (size as E, width)
 
   -- The memory holds a state that follows the history, and says that what the history has brought is heard.
-  record Heard (m : List ℕ) (l : Log) : Type 0 where
-    stands : Stands L s flows v m l
-    hears : L .Hears m s (stands .state) (brought l)
+  pub record Heard (m : List ℕ) (l : Log) : Type 0 where
+    pub stands : Stands L s flows v m l
+    pub hears : L .Hears m s (stands .state) (brought l)
 
   -- A call keeps that.
   step : (m : List ℕ) (l : Log) (t : Step) → Heard m l → OfBytes (t .call) → Received L (t .call) m (t .memory) (t .working) (t .left) (t .answer)
@@ -143,11 +139,11 @@ module _ (L : Layout) (s : Setting) (flows : List ℕ) (v : Valid s) where
             (p .origins s flows x (brought l) (g .stands .held) (g .hears));
       }
 
-  heard-on : (ts : List Step) (m : List ℕ) (l : Log) → Heard m l → Run L m ts → Heard (final m ts) (goes-on s flows l ts)
+  pub heard-on : (ts : List Step) (m : List ℕ) (l : Log) → Heard m l → Run L m ts → Heard (final m ts) (goes-on s flows l ts)
   heard-on [] m l g p = g
   heard-on (t ∷ ts) m l g p = heard-on ts (t .memory) _ (step m l t g (p .0) (p .1)) (p .2)
 
-  opened-heard : (scheme size w : ℕ) (m₀ m : List ℕ) (a : Answer) → Opened L scheme size w flows m₀ m a → said a ≡ value 0
+  pub opened-heard : (scheme size w : ℕ) (m₀ m : List ℕ) (a : Answer) → Opened L scheme size w flows m₀ m a → said a ≡ value 0
       → settingOf scheme size w ≡ some s → Heard m fresh
   opened-heard scheme size w m₀ m a p e h = record {
     stands = record { state = opened s; held = p .holds s h e; tracks = fresh-tracks s (some-bytes L s flows v) };
