@@ -1,24 +1,16 @@
 -- Computed from the definitions, from the packets' bytes on: the sizes; the order of the checks, and their limits; every DT, and keys over 65,535; and where
 -- calls bring the base, the count, the marks and the origins in cases that are easy to take otherwise.
-use Rattle.words.specs.Words.{_≡_, ℕ, _+_, List, refl, [], some, _∷_, suc, true, zero, none, _*_, false, _++_, Bool, Option, cond, map, _&&_}
-use Rattle.tinymt.specs.Computing.{computing}
-use Rattle.field.specs.Gf256.{product}
-use Rattle.field.specs.Powers.{inverse, inverse-below}
-use Rattle.memory.specs.Part.{part}
+use Rattle.words.specs.Words.{_≡_, [], ℕ, _+_, List, refl, some, _∷_, suc, true, zero, none, _*_, false, _++_, Bool, Option, cond, map, _&&_}
+use Rattle.history.specs.Computing.{computing}
 use Rattle.wire.specs.declared.Scheme.the-variants.{Gf2, Gf256}
 use Rattle.wire.specs.declared.Setting.{Setting}
 use Rattle.wire.specs.Answers.{Said, value, refusal}
-use Rattle.wire.specs.Packets.{zeros, symbolCount, adui, sourceSymbols, sourceForm, sourceAdu, sourceEsi, repairCount, repairForm, repairKey, densityThreshold}
-use Rattle.wire.specs.Packets.{protectedCount, firstEsi, repairSymbols}
-use Rattle.wire.specs.Flows.{announced}
-use Rattle.coefficients.specs.Coefficients.{nonzeroFrom, bitOf, byteOf, extend, coefficientsOf}
-use Rattle.starts.specs.Starts.{Starts, nowhere, pass}
-use Rattle.history.specs.History.{source, repair, Call, source-call, repair-call, esiOf, sideOf, Reading, fails, located, check, fromSide}
-use Rattle.history.specs.History.{readSource, readRepair, reading, memorySize, workingSize, halfway, farthest}
-use Rattle.history.specs.Model.{State, opened, foundBy, saidOf, stateAfter, answering, receiving, startsAfter, marking, Origins, unheard, originsAfter}
+use Rattle.wire.specs.Packets.{zeros}
+use Rattle.starts.specs.Starts.{Starts, nowhere}
+use Rattle.history.specs.History.{source, repair, Call, source-call, repair-call, esiOf, Reading, fails, located}
+use Rattle.history.specs.History.{reading, memorySize, workingSize}
+use Rattle.history.specs.Model.{State, opened, foundBy, saidOf, stateAfter, receiving, marking, Origins, unheard, originsAfter}
 use Rattle.decoder.specs.Model as model
-use Rattle.decoder.specs.Receiver as decoder
-use Rattle.decoder.specs.Packets as packets
 
 -- Flow 1 alone is announced.
 abbrev one : List ℕ
@@ -183,10 +175,7 @@ pub checks :
     ∷ (fails 16 ∷ fails 6 ∷ [])
     ∷ (located (repair 0 2 ((52 ∷ 199 ∷ []) ∷ (39 ∷ 42 ∷ []) ∷ []) (zeros 4 ∷ zeros 4 ∷ [])) ∷ [])
     ∷ []
-unfolding
-    computing nonzeroFrom bitOf byteOf extend coefficientsOf part
-    symbolCount adui sourceSymbols sourceForm sourceAdu sourceEsi repairCount repairForm repairKey densityThreshold protectedCount firstEsi repairSymbols
-    halfway sideOf check farthest fromSide announced readSource readRepair reading
+unfolding computing
 checks = refl
 
 -- How many symbols the key 17,283 takes of 15, at every DT: its draws compare DT with each number from 1 to 15 once.
@@ -194,9 +183,7 @@ pub densities :
     map (λ dt. total (coefficientsIn (reading (gf2 15) one 0 (workingSize (gf2 15)) (repair-call (0x43 ∷ 0x83 ∷ dt * 16 ∷ 15 ∷ zeros 8)))))
     (0 ∷ 1 ∷ 2 ∷ 3 ∷ 4 ∷ 5 ∷ 6 ∷ 7 ∷ 8 ∷ 9 ∷ 10 ∷ 11 ∷ 12 ∷ 13 ∷ 14 ∷ 15 ∷ [])
     ≡ 0 ∷ 1 ∷ 2 ∷ 3 ∷ 4 ∷ 5 ∷ 6 ∷ 7 ∷ 8 ∷ 9 ∷ 10 ∷ 11 ∷ 12 ∷ 13 ∷ 14 ∷ 15 ∷ []
-unfolding
-    computing nonzeroFrom bitOf byteOf extend coefficientsOf part repairCount repairForm repairKey densityThreshold protectedCount firstEsi repairSymbols
-    halfway sideOf check farthest fromSide readRepair reading
+unfolding computing
 densities = refl
 
 -- Where calls from a fresh receiver come to.
@@ -248,16 +235,7 @@ pub calls :
     ∷ stands (value 1 ∷ value 1 ∷ []) (some 0) (0 ∷ 1 ∷ []) (0 ∷ 1 ∷ [])
     ∷ stands (value 1 ∷ value 1 ∷ value 0 ∷ []) (some 1) (0 ∷ []) (0 ∷ 2 ∷ [])
     ∷ []
-unfolding
-    computing product inverse inverse-below nonzeroFrom bitOf byteOf extend coefficientsOf part
-    symbolCount adui sourceSymbols sourceForm sourceAdu sourceEsi repairCount repairForm repairKey densityThreshold protectedCount firstEsi repairSymbols
-    halfway sideOf check farthest fromSide announced readSource readRepair reading answering
-    packets.source packets.source-rows packets.row packets.only packets.repair
-    decoder.empty decoder.receive decoder.rise decoder.newly decoder.count-new decoder.is-new
-    decoder.embed decoder.advance-by decoder.insert-all
-    model.insert model.known model.settle model.settle-by model.reduce model.place model.place-free model.lead model.at
-    model.axpy model.scale model.symbol model.push model.extend model.advance
-    pass startsAfter
+unfolding computing
 calls = refl
 
 -- Heard or solved, of calls from a fresh receiver.
@@ -300,13 +278,5 @@ pub origins :
     ∷ told (value 1 ∷ value 1 ∷ []) (0 ∷ []) []
     ∷ told (value 1 ∷ value 1 ∷ []) (0 ∷ []) (0 ∷ [])
     ∷ []
-unfolding
-    computing product inverse inverse-below nonzeroFrom bitOf byteOf extend coefficientsOf part
-    symbolCount adui sourceSymbols sourceForm sourceAdu sourceEsi repairCount repairForm repairKey densityThreshold protectedCount firstEsi repairSymbols
-    halfway sideOf check farthest fromSide announced readSource readRepair reading answering
-    packets.source packets.source-rows packets.row packets.only packets.repair
-    decoder.empty decoder.receive decoder.rise decoder.newly decoder.count-new decoder.is-new
-    decoder.embed decoder.advance-by decoder.insert-all
-    model.insert model.known model.settle model.settle-by model.reduce model.place model.place-free model.lead model.at
-    model.axpy model.scale model.symbol model.push model.extend model.advance
+unfolding computing
 origins = refl

@@ -5,4 +5,5 @@ pub mod Model
 pub mod Checking
 pub mod Rising
 pub mod Laws
+pub mod Computing
 pub mod Facts

@@ -1,20 +1,11 @@
 -- Computed from the definitions: document 02's sample, answers of each kind, inputs that end without 0A, bad first lines, and
 -- what is taken of a piece.
-use Rattle.words.specs.Words.{_≡_, ℕ, List, refl, [], some, _∷_, none, map}
+use Rattle.words.specs.Words.{_≡_, [], ℕ, List, refl, some, _∷_, none, map}
 use Prim.Native.String.{String}
-use Rattle.tinymt.specs.Computing.{computing}
-use Rattle.field.specs.Gf256.{product}
-use Rattle.field.specs.Powers.{inverse, inverse-below}
-use Rattle.memory.specs.Part.{part}
+use Rattle.history.specs.Computing.{computing}
 use Rattle.rows.specs.Combination.{combination}
 use Rattle.wire.specs.declared.Scheme.the-variants.{Gf2, Gf256}
 use Rattle.wire.specs.Settings.{inRange, settingOf}
-use Rattle.wire.specs.Packets.{symbolCount, adui, sourceSymbols, sourceForm, sourceAdu, sourceEsi, repairCount, repairForm, repairKey, densityThreshold}
-use Rattle.wire.specs.Packets.{protectedCount, firstEsi, repairSymbols}
-use Rattle.wire.specs.Flows.{announced}
-use Rattle.coefficients.specs.Coefficients.{nonzeroFrom, bitOf, byteOf, extend, coefficientsOf}
-use Rattle.history.specs.History.{halfway, sideOf, check, farthest, fromSide, readSource, readRepair, reading}
-use Rattle.history.specs.Model.{answering}
 use Rattle.text.specs.Text.{ascii, digit, decimalWithin, decimal}
 use Rattle.printing.specs.Printed.{recordLine, lastLine}
 use Rattle.lines.specs.Lines.{linesFrom}
@@ -23,9 +14,6 @@ use Rattle.records.specs.Records.{total, recordLines, summary}
 use Rattle.records.specs.Replay.{recordsFrom, settingNamed, printedWith, printedLines, printed}
 use Rattle.records.specs.Standing.{opening, afterLine, printedLine}
 use Rattle.records.specs.Taking.{takenOf, takenFrom}
-use Rattle.decoder.specs.Model as model
-use Rattle.decoder.specs.Receiver as decoder
-use Rattle.decoder.specs.Packets as packets
 
 -- what is printed of a text
 abbrev of : String → List ℕ
@@ -44,16 +32,7 @@ pub printings : of "scheme=9 e=4 width=2\nkind=source flow=1 packet=4100000000\n
     ∷ ascii "n=1 answer=0 known=1\nn=2 answer=11 known=0\nn=3 answer=0 known=1\nlines=3 accepted=2 refused=1 known=2\n"
     ∷ []
 unfolding
-    computing product inverse inverse-below nonzeroFrom bitOf byteOf extend coefficientsOf combination
-    symbolCount adui sourceSymbols sourceForm sourceAdu sourceEsi
-    repairCount repairForm repairKey densityThreshold protectedCount firstEsi repairSymbols
-    inRange settingOf part
-    halfway sideOf check farthest fromSide announced readSource readRepair reading answering
-    packets.source packets.source-rows packets.row packets.only packets.repair
-    decoder.empty decoder.receive decoder.rise decoder.newly decoder.count-new decoder.is-new
-    decoder.embed decoder.advance-by decoder.insert-all
-    model.insert model.known model.settle model.settle-by model.reduce model.place model.place-free model.lead model.at
-    model.axpy model.scale model.symbol model.push model.extend model.advance
+    computing combination inRange settingOf
     digit decimalWithin decimal recordLine lastLine
     linesFrom after numberFrom numberIn valueOf bytesIn valuesIn repairIn sourceIn callIn
     total recordLines summary recordsFrom settingNamed printedWith printedLines

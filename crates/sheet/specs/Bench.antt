@@ -1,35 +1,29 @@
 -- The bench sheet of document 01 (C1 to C12, C10 as document 02 has it), the small examples of its refusals, cases at the limits of place and density,
 -- of joining, of starts and of the ADU call, computed from the definitions that the promises use, from the packets' bytes on: one table, one result. All
 -- flows are announced throughout (document 02, No. 7).
-use Rattle.words.specs.Words.{_≡_, ℕ, List, refl, [], some, _∷_, none, _*_, Option, map}
-use Rattle.tinymt.specs.Computing.{computing}
+use Rattle.words.specs.Words.{_≡_, [], ℕ, List, refl, some, _∷_, none, _*_, Option, map}
+use Rattle.history.specs.Computing.{computing}
 use Rattle.field.specs.Gf256.{product}
-use Rattle.field.specs.Powers.{inverse, inverse-below}
-use Rattle.memory.specs.Part.{part}
+use Rattle.field.specs.Powers.{inverse}
 use Rattle.rows.specs.Combination.{combination}
 use Rattle.wire.specs.declared.Scheme.the-variants.{Gf2, Gf256}
 use Rattle.wire.specs.declared.Setting.{Setting}
 use Rattle.wire.specs.Settings.{inRange, settingOf}
 use Rattle.wire.specs.Stored.{field, settingIn}
-use Rattle.wire.specs.Flows.{announced, allFlows}
-use Rattle.wire.specs.Packets.{zeros, symbolCount, adui, sourceSymbols, sourcePacket, sourceForm, sourceAdu, sourceEsi, repairHeader, repairPacket, repairCount}
-use Rattle.wire.specs.Packets.{repairForm, repairKey, densityThreshold, protectedCount, firstEsi, repairSymbols}
-use Rattle.coefficients.specs.Coefficients.{nonzeroFrom, bitOf, byteOf, extend, coefficientsOf, packetDraws}
+use Rattle.wire.specs.Flows.{allFlows}
+use Rattle.wire.specs.Packets.{zeros, sourcePacket, repairHeader, repairPacket}
+use Rattle.coefficients.specs.Coefficients.{coefficientsOf, packetDraws}
 use Rattle.sender.specs.declared.Header.{Header}
 use Rattle.sender.specs.State.{Sender, fresh, headerSize, headerIn}
 use Rattle.sender.specs.Repair.{repairSymbol}
 use Rattle.sender.specs.Calls.{Outcome, refused, done, opening, adding, repairing}
-use Rattle.starts.specs.Adu.{joint, Handing, hands, withholds, need, handing}
-use Rattle.starts.specs.Starts.{pass}
+use Rattle.starts.specs.Adu.{Handing, hands, withholds}
 use Rattle.history.specs.Symbol.{bytesOf}
-use Rattle.history.specs.History.{Call, source-call, repair-call, sideOf, check, fromSide, readSource, readRepair, reading, halfway, farthest}
+use Rattle.history.specs.History.{Call, source-call, repair-call}
 use Rattle.wire.specs.Answers.{Said, value, refusal as refuses}
 use Rattle.receiver.specs.Promises.{drawsFor, opening as opens}
-use Rattle.history.specs.Model.{answering, Finding, shows, hides, finding, startsAfter, aduAt}
+use Rattle.history.specs.Model.{Finding, shows, hides, finding, aduAt}
 use Rattle.history.specs.Facts.{begun, called}
-use Rattle.decoder.specs.Model as model
-use Rattle.decoder.specs.Receiver as decoder
-use Rattle.decoder.specs.Packets as packets
 
 -- what the symbol call and the part show for an ESI: an answer, and bytes
 pub record Sight : Type 0 where
@@ -96,7 +90,7 @@ module _ (s : Setting) where
       handed (a .answers) (map (λ (q : Ask). aduAt s allFlows (a .state) (a .marks) (q .room) (q .esi)) asks)
 
 -- scheme 9 and scheme 10, E 4
-abbrev gf2 : ℕ → Setting
+abbrev pub gf2 : ℕ → Setting
 gf2 w = record { scheme = Gf2; size = 4; width = w }
 
 abbrev gf256 : ℕ → Setting
@@ -109,7 +103,7 @@ empty-at a b c d = source-call 1 (a ∷ b ∷ c ∷ d ∷ [])
 abbrev two-at : (a b c d : ℕ) → Call
 two-at a b c d = source-call 1 (7 ∷ 7 ∷ a ∷ b ∷ c ∷ d ∷ [])
 
-abbrev adu : (byte esi : ℕ) → Call
+abbrev pub adu : (byte esi : ℕ) → Call
 adu b e = source-call 1 (b ∷ 0 ∷ 0 ∷ 0 ∷ e ∷ [])
 
 -- the source packet of an ADU of no byte at ESI 0, which as the first packet sets base 0 and marks the positions 0 and 1; and at ESI 305419896
@@ -120,7 +114,7 @@ abbrev far : Call
 far = empty-at 0x12 0x34 0x56 0x78
 
 -- a repair packet of key 0 and DT 15 over n symbols from ESI 0 on, whose one repair symbol ends in a byte
-abbrev repair-of : (n byte : ℕ) → Call
+abbrev pub repair-of : (n byte : ℕ) → Call
 repair-of n b = repair-call (0 ∷ 0 ∷ 0xF0 ∷ n ∷ 0 ∷ 0 ∷ 0 ∷ 0 ∷ 0 ∷ 0 ∷ 0 ∷ b ∷ [])
 
 -- a repair packet of the key of these bytes and DT 4 over five symbols from ESI 0 on, whose `count` repair symbols are zero
@@ -132,7 +126,7 @@ abbrev zero-at : (dt : ℕ) → Call
 zero-at dt = repair-call (0 ∷ 1 ∷ dt * 16 ∷ 1 ∷ 0 ∷ 0 ∷ 0 ∷ 0 ∷ 0 ∷ 0 ∷ 0 ∷ 0 ∷ [])
 
 -- a repair packet over the one symbol at a small ESI, which is these bytes
-abbrev symbol-at : (esi a b c d : ℕ) → Call
+abbrev pub symbol-at : (esi a b c d : ℕ) → Call
 symbol-at e a b c d = repair-call (0 ∷ 0 ∷ 0xF0 ∷ 1 ∷ 0 ∷ 0 ∷ 0 ∷ e ∷ a ∷ b ∷ c ∷ d ∷ [])
 
 -- the same in scheme 10, with key 1: its coefficient is 37 (C4)
@@ -314,15 +308,6 @@ pub bench :
     ∷ handed (value 2 ∷ value 0 ∷ []) (hands 1 (0x11 ∷ 1 ∷ 0 ∷ 1 ∷ 0x55 ∷ []) ∷ hands 1 (0x55 ∷ []) ∷ [])
     ∷ []
 unfolding
-    computing product inverse inverse-below nonzeroFrom bitOf byteOf extend coefficientsOf packetDraws combination
-    symbolCount adui sourceSymbols sourcePacket sourceForm sourceAdu sourceEsi
-    repairHeader repairPacket repairCount repairForm repairKey densityThreshold protectedCount firstEsi repairSymbols
-    inRange settingOf field part settingIn headerSize headerIn repairSymbol opening adding repairing
-    halfway sideOf check farthest fromSide announced readSource readRepair reading answering finding
-    packets.source packets.source-rows packets.row packets.only packets.repair
-    decoder.empty decoder.receive decoder.rise decoder.newly decoder.count-new decoder.is-new
-    decoder.embed decoder.advance-by decoder.insert-all
-    model.insert model.known model.settle model.settle-by model.reduce model.place model.place-free model.lead model.at
-    model.axpy model.scale model.symbol model.push model.extend model.advance
-    joint need handing pass startsAfter aduAt
+    computing packetDraws combination sourcePacket repairHeader repairPacket
+    inRange settingOf field settingIn headerSize headerIn repairSymbol opening adding repairing
 bench = refl
