@@ -107,13 +107,13 @@ module _ (L : Layout) (s : Setting) (flows : List ℕ) (v : Valid s) where
   open Setting s using (size as E, width)
 
   -- The memory holds a state and marks that follow the history.
-  record Marked (m : List ℕ) (l : Log) : Type 0 where
-    state : State s
-    held : L .Holds m s flows state
-    tracks : Tracks s (some-bytes L s flows v) l state
-    starts : Starts
-    marks : L .Marks m s state starts
-    begun : MarksTrack s (some-bytes L s flows v) l starts
+  pub record Marked (m : List ℕ) (l : Log) : Type 0 where
+    pub state : State s
+    pub held : L .Holds m s flows state
+    pub tracks : Tracks s (some-bytes L s flows v) l state
+    pub starts : Starts
+    pub marks : L .Marks m s state starts
+    pub begun : MarksTrack s (some-bytes L s flows v) l starts
 
   step : (m : List ℕ) (l : Log) (t : Step) → Marked m l → OfBytes (t .call) → Received L (t .call) m (t .memory) (t .working) (t .left) (t .answer)
       → Marked (t .memory) (logged s l (read s flows l t) (said (t .answer)))
@@ -135,11 +135,11 @@ module _ (L : Layout) (s : Setting) (flows : List ℕ) (v : Valid s) where
             (ap₂ (logged s l) (read-found L s flows v l t x (g .tracks)) (sym e)) k;
       }
 
-  marked-on : (ts : List Step) (m : List ℕ) (l : Log) → Marked m l → Run L m ts → Marked (final m ts) (goes-on s flows l ts)
+  pub marked-on : (ts : List Step) (m : List ℕ) (l : Log) → Marked m l → Run L m ts → Marked (final m ts) (goes-on s flows l ts)
   marked-on [] m l g p = g
   marked-on (t ∷ ts) m l g p = marked-on ts (t .memory) _ (step m l t g (p .0) (p .1)) (p .2)
 
-  opened-marked : (scheme size w : ℕ) (m₀ m : List ℕ) (a : Answer) → Opened L scheme size w flows m₀ m a → said a ≡ value 0
+  pub opened-marked : (scheme size w : ℕ) (m₀ m : List ℕ) (a : Answer) → Opened L scheme size w flows m₀ m a → said a ≡ value 0
       → settingOf scheme size w ≡ some s → Marked m fresh
   opened-marked scheme size w m₀ m a p e h = record {
     state = opened s;

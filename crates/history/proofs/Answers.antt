@@ -1,7 +1,7 @@
 -- The model's answers are the history's.
 -- Index
 --   Fits: what a packet's form and place have passed
---   AllFormed
+--   AllFormed, all
 --   TracksFrom: the window says what the packets qs say of the positions from its base on
 --   baseIn: the base of a state
 --   Tracks: the model's base is the history's, and its window says what the accepted packets say
@@ -47,7 +47,7 @@ module _ (s : Setting) (some-bytes : 0 < s .size) where
   abbrev rules : Laws (Coded E)
   rules = laws E some-bytes
 
-  all : (A : List Located) → AllFormed E A → (f : Filling E) → decoder.Satisfies-all (Coded E) (map (packetOf E) A) f ↔ All E A f
+  pub all : (A : List Located) → AllFormed E A → (f : Filling E) → decoder.Satisfies-all (Coded E) (map (packetOf E) A) f ↔ All E A f
   all [] g f = Iff·rfl
   all (q ∷ A) g f = Iff·and (says E some-bytes q (g .0) f) (all A (g .1) f)
 

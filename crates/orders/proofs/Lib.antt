@@ -1,0 +1,4 @@
+-- The modules of the proofs.
+pub mod Windows
+pub mod Shown
+pub mod Orders
