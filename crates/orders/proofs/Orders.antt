@@ -16,7 +16,7 @@ use Rattle.claims.proofs.Accepted.{AcceptedAs, accepted-as}
 use Rattle.claims.proofs.Demand.{some-bytes, had-setting}
 use Rattle.claims.proofs.Origins.{Heard, heard-on, opened-heard, brings-one, one-brings}
 use Rattle.claims.proofs.Handing.{Marked, marked-on, opened-marked}
-use Rattle.orders.specs.Orders.{AcceptedAt, ShownAlike, One-picture, Two-paths, Two-orders}
+use Rattle.orders.specs.Orders.{AcceptedAt, ShownAlike, Two-paths, Two-orders}
 use Rattle.orders.proofs.Windows.{Among, all-among, Ahead, same-base, ahead-on}
 use Rattle.orders.proofs.Shown.{one-state, answers, parts, places, heard-too, adus}
 

@@ -1,4 +1,4 @@
--- Two paths, one picture (document 02, No. 10): what two receivers know and show depends on which packets they have accepted, and not on the order.
+-- Two paths (document 02, No. 10): what two receivers know and show depends on which packets they have accepted, and not on the order.
 use Rattle.words.specs.Words.{_≡_, ℕ, List, some, _∷_, true, _++_, _↔_, _⊎_, now, RefT}
 use mathlib.Core.List.{List·Memᴰ}
 use Rattle.memory.specs.Part.{part}
@@ -41,8 +41,8 @@ pub record ShownAlike (L : Layout) (E : ℕ) (m n : List ℕ) (e : ℕ) : Type 0
   pub adus : (out out′ out″ : List ℕ) (a b : Handed) → AduAnswered L m e out out′ a → AduAnswered L n e out out″ b
       → ((handedSaid a ≡ handedSaid b) × (out′ ≡ out″)) ⊎ ((handedSaid a ≡ refusal 13) ⊎ (handedSaid b ≡ refusal 13))
 
--- Two receivers, after the calls ts and us, which have left the memories m and n.
-pub record One-picture (L : Layout) (s : Setting) (flows : List ℕ) (ts us : List Step) (m n : List ℕ) : Type 0 where
+-- Two receivers agree, after the calls ts and us, which have left the memories m and n.
+pub record Agree (L : Layout) (s : Setting) (flows : List ℕ) (ts us : List Step) (m n : List ℕ) : Type 0 where
   -- Their windows end equal.
   pub windows : baseOf s (history s flows ts) ≡ baseOf s (history s flows us)
   -- They know the same positions of the whole stream.
@@ -51,13 +51,13 @@ pub record One-picture (L : Layout) (s : Setting) (flows : List ℕ) (ts us : Li
   pub shown : (e : ℕ) → ShownAlike L (s .size) m n e
 
 -- Two receivers that were opened alike, after every two lists of packet calls: where they have accepted alike, they
--- show one picture.
+-- agree.
 abbrev pub Of-two : Layout → (Alike : (s : Setting) (flows : List ℕ) (ts us : List Step) → Type 0) → Type 0
 Of-two L Alike =
     (scheme E w : ℕ) (flows m₀ m n₀ n : List ℕ) (a b : Answer) → Opened L scheme E w flows m₀ m a → said a ≡ value 0
     → Opened L scheme E w flows n₀ n b → said b ≡ value 0 → (ts us : List Step) → Run L m ts → Run L n us
     → (s : Setting) × (settingOf scheme E w ≡ some s)
-    × (Alike s flows ts us → One-picture L s flows ts us (final m ts) (final n us))
+    × (Alike s flows ts us → Agree L s flows ts us (final m ts) (final n us))
 
 -- They have accepted the same packets, each read at the same positions, in whatever order and however often. Document
 -- 02 asks besides that none is refused in either and that their windows end equal: what is refused leaves no trace,
