@@ -1,5 +1,6 @@
 //! The two ends of the link, each in its thread.
 
+use crate::bond::{Answer, Bond};
 use crate::grid::{self, Cells, Collecting, Filling, COLUMNS};
 use crate::link::{self, Closing, Gate, Kind, HEAD, LARGEST};
 use crate::loss::Loss;
@@ -99,13 +100,15 @@ pub fn run(options: &Options, mut watch: impl FnMut(&Progress)) -> Result<Run, F
     let flows = stream.flows();
     let heard_flows = if options.open_to_strays { Flows::all() } else { flows };
     let sender = Sender::open(scheme, symbol_size, width, &flows).map_err(refused("opening the sender"))?;
-    let receiver = Receiver::open(scheme, symbol_size, width, &heard_flows).map_err(refused("opening the receiver"))?;
+    let open = || Receiver::open(scheme, symbol_size, options.receiver_width(), &heard_flows).map_err(refused("opening the receiver"));
+    let (receiver, second) = (open()?, (options.bond > 0).then(open).transpose()?);
+    let bond = second.map(|second| Bond::new(options, second));
     let (sending, receiving) = link::sockets().map_err(failed("sockets on 127.0.0.1"))?;
     let shared = Shared { gate: Gate::new(), ledger: Mutex::default(), sender_done: AtomicBool::new(false), progress: Progress::default() };
     let start = Instant::now();
     let (sent, got) = thread::scope(|scope| {
         let sends = scope.spawn(|| Sending::new(options, &shared, sending, sender).run(stream));
-        let receives = scope.spawn(|| Receiving::new(options, &shared, receiving, receiver).run());
+        let receives = scope.spawn(|| Receiving::new(options, &shared, receiving, receiver, bond).run());
         while !(sends.is_finished() && receives.is_finished()) {
             watch(&shared.progress);
             thread::sleep(Duration::from_millis(5));
@@ -313,6 +316,8 @@ struct Receiving<'a> {
     shared: &'a Shared,
     socket: UdpSocket,
     receiver: Receiver,
+    /// The second receiver, where there are two links.
+    bond: Option<Bond>,
     collecting: Option<Collecting>,
     /// The packet that is late, until its turn comes.
     held: Option<(u32, Kind, u8, Vec<u8>)>,
@@ -325,9 +330,9 @@ struct Receiving<'a> {
 }
 
 impl<'a> Receiving<'a> {
-    fn new(options: &'a Options, shared: &'a Shared, socket: UdpSocket, receiver: Receiver) -> Receiving<'a> {
+    fn new(options: &'a Options, shared: &'a Shared, socket: UdpSocket, receiver: Receiver, bond: Option<Bond>) -> Receiving<'a> {
         let (collecting, adu, log) = (Collecting::new(options), vec![0; 65_535], Got::default());
-        Receiving { options, shared, socket, receiver, collecting, held: None, top: 0, next: 0, adu, log }
+        Receiving { options, shared, socket, receiver, bond, collecting, held: None, top: 0, next: 0, adu, log }
     }
 
     fn run(mut self) -> Result<Got, Failure> {
@@ -359,7 +364,9 @@ impl<'a> Receiving<'a> {
                     let last = collecting.as_mut().map(Collecting::put_back).transpose().map_err(refused("putting a grid back"))?;
                     self.grid(last);
                     self.late();
+                    self.meet();
                     self.leave(self.top);
+                    self.log.paths = self.bond.map(|bond| bond.paths).unwrap_or_default();
                     return Ok(self.log);
                 }
             }
@@ -414,24 +421,47 @@ impl<'a> Receiving<'a> {
         Some(first..first + symbols as u64)
     }
 
-    /// A stray came: the receiver refuses it because of its flow.
+    /// Where the window begins; there is none before a packet was accepted.
+    fn base(&self) -> Option<u64> {
+        Some(self.top.saturating_sub(u64::from(self.options.receiver_width())).max(self.log.joined?))
+    }
+
+    /// A stray came: the receiver refuses it because of its flow, and so does the second, where there is one.
     fn stray(&mut self, packet: &[u8]) {
         match self.receiver.receive_source(STRAY, packet) {
             Err(Refusal::Unannounced) => self.log.strays += 1,
-            answer => self.log.differs(|| format!("a stray packet, answered {answer:?}")),
+            answer => self.log.differences.add(|| format!("a stray packet, answered {answer:?}")),
+        }
+        if self.bond.as_mut().is_some_and(|bond| !bond.refuses(STRAY, packet)) {
+            self.log.differences.add(|| String::from("a stray packet, not refused for its flow by the second receiver"));
         }
     }
 
     /// Takes a packet, and hands out what can be then.
     fn take(&mut self, number: u32, kind: Kind, flow: u8, packet: &[u8]) {
-        self.packet(number, kind, flow, packet);
+        if self.bond.as_ref().is_some_and(|bond| bond.is_over(number)) {
+            self.meet();
+        }
+        let answer = self.packet(number, kind, flow, packet);
+        if let (Some(bond), Some(answer)) = (&mut self.bond, answer) {
+            bond.take(number, kind, flow, packet, answer);
+        }
         self.walk();
     }
 
-    fn packet(&mut self, number: u32, kind: Kind, flow: u8, packet: &[u8]) {
-        let Some(named) = self.named(kind, packet) else { return };
+    /// The second receiver, where there is one, gets all that the first has had, and is compared with it.
+    fn meet(&mut self) {
+        let base = self.base();
+        if let Some(bond) = &mut self.bond {
+            bond.meet(&self.receiver, base);
+        }
+    }
+
+    /// The answer to a packet; none where it names no positions.
+    fn packet(&mut self, number: u32, kind: Kind, flow: u8, packet: &[u8]) -> Option<Answer> {
+        let named = self.named(kind, packet)?;
         if self.log.joined.is_some() && named.end <= self.top + REACH {
-            self.leave(named.end.saturating_sub(u64::from(self.options.width)));
+            self.leave(named.end.saturating_sub(u64::from(self.options.receiver_width())));
         }
         let (receiver, log) = (&mut self.receiver, &mut self.log);
         let answer = match kind {
@@ -444,29 +474,29 @@ impl<'a> Receiving<'a> {
                 self.log.refused[usize::from(why.number()).min(16)] += 1;
                 let early = why == Refusal::Behind && self.log.joined.is_some_and(|joined| named.start < joined);
                 self.log.early += u64::from(early);
-                return;
+                return Some(answer);
             }
         };
         self.log.counted += count;
         if kind == Kind::Source {
             self.log.accepted.push(number);
         }
-        let joined = self.log.joined.unwrap_or(named.start);
         if self.log.joined.is_none() {
             // Nothing before the joining packet's first position will ever be shown.
-            self.log.joined = Some(joined);
-            (self.top, self.next) = (joined, joined);
+            self.log.joined = Some(named.start);
+            (self.top, self.next) = (named.start, named.start);
         }
         if named.end > self.top {
             self.log.fates.resize(usize::try_from(named.end).unwrap_or(usize::MAX), Fate::Never);
             self.top = named.end;
         }
         // What lies before the window can't be shown any more.
-        let base = self.top.saturating_sub(u64::from(self.options.width)).max(joined);
+        let base = self.base()?;
         self.shared.ledger().pass(base, self.options.symbol_size as usize);
         for position in base..self.top {
             self.ask(position, number);
         }
+        Some(answer)
     }
 
     /// Asks the receiver for a position of its window, after the packet with this number was accepted: it tells what it heard and what it
@@ -476,7 +506,7 @@ impl<'a> Receiving<'a> {
         let Ok(origin) = self.receiver.origin(esi) else { return };
         let before = self.log.fates[position as usize];
         if before == Fate::Never && !self.receiver.symbol(esi).is_ok_and(|symbol| self.shared.ledger().holds(position, symbol)) {
-            self.log.differs(|| format!("the symbol of ESI {esi}"));
+            self.log.differences.add(|| format!("the symbol of ESI {esi}"));
         }
         let rebuilt = &self.shared.progress.rebuilt;
         self.log.fates[position as usize] = match (origin, before) {
@@ -515,7 +545,7 @@ impl<'a> Receiving<'a> {
             _ => Some(String::from("no ADU began there")),
         };
         if let Some(what) = difference {
-            self.log.differs(|| format!("the ADU of ESI {}: {what}", position as u32));
+            self.log.differences.add(|| format!("the ADU of ESI {}: {what}", position as u32));
         }
         Ok(symbols_of(adu.bytes.len(), self.options.symbol_size as usize) as u64)
     }

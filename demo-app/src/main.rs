@@ -1,5 +1,6 @@
 //! A stream through sender, a lossy link and receiver of RFC 8681. Everything handed out is compared with what was sent.
 
+mod bond;
 mod ends;
 mod grid;
 mod link;

@@ -10,6 +10,9 @@ use std::str::FromStr;
 
 /// Where the picture goes by default.
 pub const SVG: &str = "target/demo.svg";
+/// The most symbols in a window, and the most packets of which some come last.
+const WIDEST: u32 = 255;
+const MOST_BONDED: u32 = 64;
 
 #[derive(Clone, Debug)]
 pub struct Options {
@@ -23,6 +26,8 @@ pub struct Options {
     pub stray: u64,
     /// The rows of a grid; 0 for no grid.
     pub interleave: u32,
+    /// Of how many packets those of the slower link come last to a second receiver; 0 for one link.
+    pub bond: u32,
     pub scheme: Scheme,
     pub symbol_size: u32,
     pub width: u32,
@@ -40,16 +45,46 @@ pub struct Options {
     pub lose: Range<u64>,
     /// ADUs have one symbol each without a grid too: for the self-test.
     pub one_symbol: bool,
+    /// The number among the arriving packets of the one that the second receiver misses: for the self-test.
+    pub missed: Option<u64>,
 }
 
 impl Options {
-    /// The most symbols in an ADU: its packet must fit a cell, where there is a grid.
+    /// The most symbols in an ADU: its packet must fit a cell, where there is a grid; where there are two links, packets must not bring more
+    /// symbols than there are of them, for by as many the receivers' windows are wider.
     pub fn most_symbols(&self) -> usize {
-        if self.interleave > 0 || self.one_symbol {
+        if self.interleave > 0 || self.bond > 0 || self.one_symbol {
             1
         } else {
             self.width as usize
         }
+    }
+
+    /// The symbols in the window of a receiver. A repair packet covers the sender's whole window: where others overtake it, the receiver's
+    /// must be wider by what they bring, else it is behind.
+    pub fn receiver_width(&self) -> u32 {
+        self.width + self.bond
+    }
+
+    /// Whether values that are right each for itself are right together; if not, why.
+    fn agree(&self) -> Result<(), String> {
+        let Options { interleave, bond, width, symbol_size, repairs, .. } = self;
+        let (cell, wide) = (grid::cell_size(self), self.receiver_width());
+        if *interleave > 0 && cell > LARGEST_CELL {
+            let told = format!("--interleave {interleave} with --symbol-size {symbol_size} and --repairs {repairs}");
+            return Err(format!("{told}: repair packets need cells of {cell} bytes, and {LARGEST_CELL} is the most"));
+        }
+        if *bond == 1 {
+            return Err(format!("--bond 1: 0 or a number from 2 to {MOST_BONDED} is wanted"));
+        }
+        if *bond > 0 && *interleave > 0 {
+            return Err(format!("--bond {bond} with --interleave {interleave}: packets change places in one of these ways, not in both"));
+        }
+        if wide > WIDEST {
+            let told = format!("--bond {bond} with --width {width}");
+            return Err(format!("{told}: the receivers need windows of {wide} symbols, and {WIDEST} is the most"));
+        }
+        Ok(())
     }
 }
 
@@ -65,6 +100,7 @@ impl Default for Options {
             join: 0,
             stray: 50,
             interleave: 0,
+            bond: 0,
             scheme: Scheme::Gf256,
             symbol_size: 1400,
             width: 64,
@@ -77,6 +113,7 @@ impl Default for Options {
             open_to_strays: false,
             lose: 0..0,
             one_symbol: false,
+            missed: None,
         }
     }
 }
@@ -134,6 +171,7 @@ pub fn read(words: impl IntoIterator<Item = OsString>) -> Result<Wish, String> {
             "--join" => options.join = number(name, &value()?, 0, 100_000_000)?,
             "--stray" => options.stray = number(name, &value()?, 0, 100_000_000)?,
             "--interleave" => options.interleave = number(name, &value()?, 0, 255)?,
+            "--bond" => options.bond = number(name, &value()?, 0, MOST_BONDED)?,
             "--scheme" => {
                 options.scheme = match number(name, &value()?, 9, 10)? {
                     9u32 => Scheme::Gf2,
@@ -141,7 +179,7 @@ pub fn read(words: impl IntoIterator<Item = OsString>) -> Result<Wish, String> {
                 }
             }
             "--symbol-size" => options.symbol_size = number(name, &value()?, 4, 1500)?,
-            "--width" => options.width = number(name, &value()?, 1, 255)?,
+            "--width" => options.width = number(name, &value()?, 1, WIDEST)?,
             "--density" => density = Some(number(name, &value()?, 0, 15)?),
             "--every" => options.every = number(name, &value()?, 1, 1_000_000)?,
             "--repairs" => options.repairs = number(name, &value()?, 1, 16)?,
@@ -152,11 +190,7 @@ pub fn read(words: impl IntoIterator<Item = OsString>) -> Result<Wish, String> {
     }
     // In GF(2) a full density gives every repair symbol the same sum.
     options.density = density.unwrap_or(if options.scheme == Scheme::Gf2 { 7 } else { 15 });
-    let (cell, Options { interleave, symbol_size, repairs, .. }) = (grid::cell_size(&options), &options);
-    if *interleave > 0 && cell > LARGEST_CELL {
-        let told = format!("--interleave {interleave} with --symbol-size {symbol_size} and --repairs {repairs}");
-        return Err(format!("{told}: repair packets need cells of {cell} bytes, and {LARGEST_CELL} is the most"));
-    }
+    options.agree()?;
     Ok(if self_test { Wish::SelfTest } else { Wish::Run(Box::new(options)) })
 }
 
@@ -180,7 +214,9 @@ mod tests {
         assert_eq!((o.join, o.stray, o.interleave), (70, 0, 255));
         assert_eq!((o.file.unwrap().to_str(), o.svg.to_str()), (Some("a-file"), Some("y.svg")));
         let Ok(Wish::Run(o)) = words("-- --loss") else { panic!() };
-        assert_eq!(o.file.unwrap().to_str(), Some("--loss"));
+        assert_eq!((o.file.unwrap().to_str(), o.bond), (Some("--loss"), 0));
+        let Ok(Wish::Run(o)) = words("--bond 16") else { panic!() };
+        assert_eq!((o.bond, o.width, o.receiver_width(), o.most_symbols()), (16, 64, 80, 1));
         assert!(matches!(words("--loss 5 --help"), Ok(Wish::Help)));
         assert!(matches!(words("--self-test"), Ok(Wish::SelfTest)));
     }
@@ -200,5 +236,12 @@ mod tests {
             assert!(words(line).is_err(), "{line}");
         }
         assert!(words("--interleave 1 --symbol-size 1484").is_ok() && words("--interleave 0 --symbol-size 1500").is_ok());
+        // With two links the receivers' windows are wider.
+        for line in ["--bond 1", "--bond 65", "--bond -1", "--width 254 --bond 2", "--bond 64 --width 192", "--bond 2 --interleave 1"] {
+            assert!(words(line).is_err(), "{line}");
+        }
+        for line in ["--bond 2 --width 253", "--width 191 --bond 64", "--bond 0 --interleave 1 --width 255", "--bond 3 --interleave 0"] {
+            assert!(words(line).is_ok(), "{line}");
+        }
     }
 }

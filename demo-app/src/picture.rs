@@ -3,7 +3,7 @@
 use crate::grid::COLUMNS;
 use crate::link::Kind;
 use crate::options::Options;
-use crate::report::{counted, each, field, grids, grouped, losses, percent, switched_on};
+use crate::report::{counted, each, field, grids, grouped, losses, percent, switched_on, windows};
 use crate::stream::ceiling;
 use crate::tally::{longest, Fate, Packet, Run};
 use std::cmp::Reverse;
@@ -185,12 +185,13 @@ fn heading(svg: &mut Svg, options: &Options, run: &Run) -> f64 {
     let (repair, _, repair_lost) = run.packets(Kind::Repair);
     let (packets, lost) = (source + repair, source_lost + repair_lost);
     svg.text("t", MARGIN, 56.0, "RFC 8681 over a lossy link");
-    let Options { scheme, symbol_size, width, every, repairs, seed, .. } = options;
+    let Options { scheme, symbol_size, every, repairs, seed, .. } = options;
     let told = format!(
-        "scheme {}, {}; symbols of {} bytes, window of {width}; {} after every {}; {}{}; seed {seed}",
+        "scheme {}, {}; symbols of {} bytes, {}; {} after every {}; {}{}; seed {seed}",
         scheme.number(),
         field(*scheme),
         grouped(u64::from(*symbol_size)),
+        windows(options),
         counted(*repairs, "repair symbol"),
         each(*every, "ADU"),
         losses(options),

@@ -1,5 +1,6 @@
 //! The run in words and numbers.
 
+use crate::bond::Paths;
 use crate::grid::COLUMNS;
 use crate::link::Kind;
 use crate::options::Options;
@@ -24,9 +25,14 @@ pub fn grouped(number: u64) -> String {
     text
 }
 
+/// "symbol" for one, else "symbols".
+fn plural(count: u64, what: &str) -> String {
+    format!("{what}{}", if count == 1 { "" } else { "s" })
+}
+
 /// "1 symbol", "2 symbols".
 pub fn counted(count: u32, what: &str) -> String {
-    format!("{count} {what}{}", if count == 1 { "" } else { "s" })
+    format!("{count} {}", plural(u64::from(count), what))
 }
 
 /// "ADU", "2 ADUs".
@@ -61,6 +67,14 @@ pub fn grids(rows: u32) -> String {
     format!("grids of {} by {COLUMNS} columns", counted(rows, "row"))
 }
 
+/// The symbols in the sender's window, and in the receivers' where they are wider.
+pub fn windows(options: &Options) -> String {
+    match options.bond {
+        0 => format!("window of {}", options.width),
+        _ => format!("window of {} (receivers {})", options.width, options.receiver_width()),
+    }
+}
+
 pub fn field(scheme: Scheme) -> &'static str {
     match scheme {
         Scheme::Gf2 => "GF(2)",
@@ -90,22 +104,25 @@ fn symbol_time(options: &Options) -> f64 {
 
 /// The settings, before the run.
 pub fn settings(options: &Options) -> String {
-    let Options { symbol_size, width, density, every, repairs, .. } = options;
+    let Options { symbol_size, density, every, repairs, bond, .. } = options;
     let stream = match &options.file {
         Some(path) => path.display().to_string(),
         None => format!("made video, {} symbols", grouped(options.symbols)),
     };
     let pace = options.mbit.map_or(String::from("as fast as possible"), |mbit| format!("at {mbit} Mbit/s"));
     let (of, bytes) = (counted(*repairs, "symbol"), grouped(u64::from(*symbol_size)));
-    let (scheme, field) = (options.scheme.number(), field(options.scheme));
+    let (scheme, field, windows) = (options.scheme.number(), field(options.scheme), windows(options));
     let mut text = String::new();
-    let _ = writeln!(text, "RFC 8681 over a lossy link: scheme {scheme}, {field}; symbols of {bytes} bytes, window of {width}");
+    let _ = writeln!(text, "RFC 8681 over a lossy link: scheme {scheme}, {field}; symbols of {bytes} bytes, {windows}");
     let _ = writeln!(text, "  stream  {stream}; seed {}", options.seed);
     let _ = writeln!(text, "  repair  a packet of {of} after every {}, DT {density}", each(*every, "ADU"));
     if options.interleave > 0 {
         let _ = writeln!(text, "  order   {}, sent column by column", grids(options.interleave));
     }
     let _ = writeln!(text, "  link    UDP on 127.0.0.1, {}, {pace}{}", losses(options), switched_on(options));
+    if *bond > 0 {
+        let _ = writeln!(text, "  links   two in turn: of every {bond} packets, those of the slower come last to a second receiver");
+    }
     text
 }
 
@@ -134,13 +151,19 @@ pub fn result(options: &Options, run: &Run) -> String {
     }
     if options.interleave > 0 {
         let (on_link, in_stream, of_row) = run.lost_at_most();
-        let packets = if on_link == 1 { "packet" } else { "packets" };
+        let packets = plural(on_link, "packet");
         let told = format!("{} in the stream's order; of a grid's row of {COLUMNS} at most {of_row}", grouped(in_stream));
         line("order", on_link, format!("{packets} lost in a row on the link at most; {told}"));
     }
     if sent.strays > 0 {
         let (by_sender, by_receiver) = (grouped(sent.strays), grouped(got.strays));
         line("strays", sent.strays, format!("of flow {STRAY}, not announced: sender refused {by_sender}, receiver {by_receiver} (16)"));
+    }
+    if options.bond > 0 {
+        let paths = &got.paths;
+        line("paths", paths.compared, compared(options.bond, paths));
+        let starts = format!("{} {} said 13 in one alone", grouped(paths.starts), plural(paths.starts, "ADU call"));
+        line("", paths.recounted, format!("of {} packets got another count from the second; {starts}", grouped(paths.accepted)));
     }
     let (heard, rebuilt, never) = run.symbols();
     // What lies before the position joined at is not held against repair.
@@ -179,6 +202,14 @@ pub fn result(options: &Options, run: &Run) -> String {
     times(&mut text, "receiver: ADU, not yet", &got.adu_refused, symbol);
     text.push_str(&out_of_reach(got));
     text
+}
+
+/// What came of the comparisons of two receivers.
+fn compared(bond: u32, paths: &Paths) -> String {
+    let (comparisons, count) = (plural(paths.compared, "comparison"), paths.differences.count);
+    let differences = format!("{} {}", grouped(count), plural(count, "difference"));
+    let parted = paths.parted.as_ref().map_or(String::new(), |parted| format!("; none since {parted}"));
+    format!("{comparisons}, after every {bond} packets: {differences} in symbols known, their bytes, heard or solved, and ADUs{parted}")
 }
 
 /// The packets that were refused for their place, where there are any.

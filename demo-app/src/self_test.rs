@@ -14,7 +14,7 @@ type Check = fn() -> Result<(), String>;
 
 /// Prints what came out wrong, or that nothing did. True where nothing did.
 pub fn run() -> bool {
-    let checks: [(&str, Check); 31] = [
+    let checks: [(&str, Check); 42] = [
         ("scheme 10 rebuilds", || rebuilds(short())),
         ("scheme 9 rebuilds", || rebuilds(Options { scheme: Scheme::Gf2, density: 7, ..short() })),
         ("small symbols, odd width, many repairs", || {
@@ -55,6 +55,26 @@ pub fn run() -> bool {
         ("a grid, a symbol rebuilt first and heard later is heard", || heard_later(grid(16))),
         ("a grid, a damaged source packet is noticed", || noticed(grid(16), Damage::Source)),
         ("a grid, a damaged repair packet is noticed", || noticed(grid(16), Damage::Solving)),
+        ("two links, scheme 10: both receivers show the same", || {
+            [2, 3, 16, 64].iter().try_for_each(|&bond| bonded(links(bond)).map(drop))
+        }),
+        ("two links, scheme 9: both receivers show the same", || {
+            [2, 3, 16, 64].iter().try_for_each(|&bond| bonded(Options { scheme: Scheme::Gf2, density: 7, ..links(bond) }).map(drop))
+        }),
+        ("two links, small symbols, widest window, many repairs", || {
+            bonded(Options { symbol_size: 5, width: 191, repairs: 16, every: 40, density: 11, ..links(64) }).map(drop)
+        }),
+        ("two links, heavy loss: starts differ, and nothing else", || {
+            starts_differ(Options { symbol_size: 4, width: 10, loss: 45.0, burst: 1.0, every: 1, ..links(16) })
+        }),
+        ("two links, joining at a source packet", || joins(Options { join: 301, ..links(16) }, Kind::Source)),
+        ("two links, joining at a repair packet", || joins(Options { join: 300, ..links(16) }, Kind::Repair)),
+        ("two links, all lost, nothing handed out", || silent(Options { loss: 100.0, ..links(16) })),
+        ("two links, strays are refused, and change nothing", || strays(links(16))),
+        ("two links, a symbol rebuilt first and heard later is heard", || heard_later(links(16))),
+        // The comparison comes before other repair can make up for it
+        ("two links, a packet that the second receiver misses is noticed", || missed(links(2))),
+        ("two links, a packet that one receiver alone refuses ends the comparison", || parts(links(16))),
     ];
     let mut failed = 0;
     for (name, check) in checks {
@@ -63,8 +83,10 @@ pub fn run() -> bool {
             crate::complain(&format!("self-test: {name}: {why}"));
         }
     }
-    let usage = ["--loss=x", "--width=0", "--what", "--seed", "--interleave=256", "--interleave=1 --symbol-size=1485"];
-    for line in usage {
+    let grids = ["--interleave=256", "--interleave=1 --symbol-size=1485"];
+    let links = ["--bond=1", "--bond=65", "--bond=16 --width=240", "--bond=16 --interleave=4"];
+    let usage = [&["--loss=x", "--width=0", "--what", "--seed"][..], &grids, &links].concat();
+    for line in &usage {
         if options::read(line.split(' ').map(OsString::from)).is_ok() {
             failed += 1;
             crate::complain(&format!("self-test: {line} was taken"));
@@ -80,6 +102,10 @@ fn short() -> Options {
 
 fn grid(rows: u32) -> Options {
     Options { interleave: rows, ..short() }
+}
+
+fn links(bond: u32) -> Options {
+    Options { bond, ..short() }
 }
 
 /// The same stream without a grid.
@@ -113,6 +139,9 @@ fn right(options: &Options) -> Result<Run, String> {
     demand(run.got.adus >= arrived, || format!("{} ADUs of {arrived} source packets", run.got.adus))?;
     let (strays, refused) = (run.sent.stray_packets, run.got.strays);
     demand(strays == refused && (strays > 0) == (options.stray > 0), || format!("{refused} of {strays} strays refused"))?;
+    let paths = &run.got.paths;
+    let compared = (paths.compared > 0) == (options.bond > 0 && first.is_some()) && paths.parted.is_none();
+    demand(compared, || format!("{} comparisons of two receivers", paths.compared))?;
     Ok(run)
 }
 
@@ -128,7 +157,8 @@ fn strays(options: Options) -> Result<(), String> {
         demand(by_sender == wanted && by_receiver == wanted, || format!("{by_sender} and {by_receiver} of {wanted} strays refused"))?;
         demand(report::result(&options, &run).contains("\nstrays"), || String::from("the report does not tell"))?;
         let same = run.got.fates == without.got.fates && run.got.bytes == without.got.bytes && run.got.refused == without.got.refused;
-        demand(same, || String::from("strays changed the run"))?;
+        let counts = run.got.paths.recounted == without.got.paths.recounted;
+        demand(same && counts, || String::from("strays changed the run"))?;
     }
     Ok(())
 }
@@ -136,7 +166,7 @@ fn strays(options: Options) -> Result<(), String> {
 /// A receiver that announces every flow takes the strays.
 fn taken(options: Options) -> Result<(), String> {
     let run = silently(&options)?;
-    demand(run.got.strays == 0 && run.got.differing > 0 && !run.faults().is_empty(), || String::from("nothing was noticed"))
+    demand(run.got.strays == 0 && run.got.differences.count > 0 && !run.faults().is_empty(), || String::from("nothing was noticed"))
 }
 
 /// A receiver that does not hear the beginning joins at a packet of this kind. After a source packet the repair that reaches back before it
@@ -211,7 +241,7 @@ fn misheard(options: Options) -> Result<(), String> {
     demand(run.faults().is_empty(), || run.faults().join("; "))
 }
 
-/// Which packet is damaged.
+/// Which packet is damaged, or missed.
 #[derive(Clone, Copy, PartialEq, Eq)]
 enum Damage {
     Source,
@@ -221,9 +251,8 @@ enum Damage {
     Implied,
 }
 
-/// A bit of one packet changes after the link: the comparison sees it, or the receiver refuses (11).
-fn noticed(options: Options, damage: Damage) -> Result<(), String> {
-    let whole = right(&options)?;
+/// The place, among the packets that arrive, of the one that is damaged.
+fn damaged(whole: &Run, damage: Damage) -> Result<u64, String> {
     let known_before = |number: u32, p: &Packet| {
         (p.first..p.end()).all(|position| match whole.fate(position) {
             Fate::Never => false,
@@ -236,8 +265,14 @@ fn noticed(options: Options, damage: Damage) -> Result<(), String> {
         Damage::Solving => p.kind == Kind::Repair && whole.got.fates.contains(&Fate::Rebuilt(number)),
         Damage::Implied => p.kind == Kind::Repair && known_before(number, p),
     };
-    let run = silently(&Options { corrupt: Some(twenty_first(&whole, fits)?), ..options })?;
-    let seen = if damage == Damage::Implied { run.got.refused[11] } else { run.got.differing };
+    twenty_first(whole, fits)
+}
+
+/// A bit of one packet changes after the link: the comparison sees it, or the receiver refuses (11).
+fn noticed(options: Options, damage: Damage) -> Result<(), String> {
+    let whole = right(&options)?;
+    let run = silently(&Options { corrupt: Some(damaged(&whole, damage)?), ..options })?;
+    let seen = if damage == Damage::Implied { run.got.refused[11] } else { run.got.differences.count };
     demand(seen > 0 && !run.faults().is_empty(), || String::from("nothing was noticed"))
 }
 
@@ -294,4 +329,54 @@ fn not_full(options: Options) -> Result<(), String> {
     let (packets, cells) = (run.sent.packets.len(), (options.interleave * COLUMNS) as usize);
     demand(packets > cells && packets % cells > 0, || format!("{packets} packets in grids of {cells} cells"))?;
     lossless(options)
+}
+
+/// The receivers are compared as often as they must be, and count otherwise on the way; settings and report tell of it.
+fn bonded(options: Options) -> Result<Run, String> {
+    let run = right(&options)?;
+    let paths = &run.got.paths;
+    let arriving = (0u32..).zip(&run.sent.packets).filter(|(_, p)| p.arrives());
+    let mut rounds: Vec<u32> = arriving.map(|(number, _)| number / options.bond).collect();
+    rounds.dedup();
+    demand(paths.compared == rounds.len() as u64, || format!("{} comparisons and not {}", paths.compared, rounds.len()))?;
+    let taken = run.got.arrived - run.got.refused.iter().sum::<u64>();
+    demand(paths.accepted == taken && paths.recounted > 0, || {
+        format!("{} of {} packets counted otherwise, {taken} accepted", paths.recounted, paths.accepted)
+    })?;
+    for (options, told) in [(&options, true), (&Options { bond: 0, ..options.clone() }, false)] {
+        let texts = [report::settings(options).contains("\n  links"), report::result(options, &run).contains("\npaths")];
+        demand(texts == [told; 2], || String::from("settings or report tell something else"))?;
+    }
+    Ok(run)
+}
+
+/// Where much is lost for good, one receiver can know of a start that the other does not know of.
+fn starts_differ(options: Options) -> Result<(), String> {
+    let run = bonded(options)?;
+    demand(run.got.paths.starts > 0, || String::from("all starts are the same"))
+}
+
+/// A packet does not come to the second receiver. That is noticed, but where the packets before it say all that it says.
+fn missed(options: Options) -> Result<(), String> {
+    let whole = right(&options)?;
+    for (damage, seen) in [(Damage::Source, true), (Damage::Solving, true), (Damage::Implied, false)] {
+        let run = silently(&Options { missed: Some(damaged(&whole, damage)?), ..options.clone() })?;
+        let paths = &run.got.paths;
+        demand(paths.accepted + 1 == whole.got.paths.accepted, || format!("{} packets accepted", paths.accepted))?;
+        demand((paths.differences.count > 0) == seen && run.faults().is_empty() != seen, || {
+            format!("{} differences; {}", paths.differences.count, run.faults().join("; "))
+        })?;
+    }
+    Ok(())
+}
+
+/// After damage the order decides which packet is refused: from there on the receivers have not accepted the same. That is told.
+fn parts(options: Options) -> Result<(), String> {
+    let whole = right(&options)?;
+    let run = silently(&Options { corrupt: Some(damaged(&whole, Damage::Source)?), ..options.clone() })?;
+    let (paths, faults) = (&run.got.paths, run.faults().join("; "));
+    let fewer = paths.compared < whole.got.paths.compared;
+    demand(fewer && paths.differences.count == 0, || format!("{} comparisons; {faults}", paths.compared))?;
+    let told = [faults, report::result(&options, &run)].iter().all(|text| text.contains("receiver alone (11)"));
+    demand(told && paths.parted.is_some(), || String::from("it is not told"))
 }

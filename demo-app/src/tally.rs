@@ -1,5 +1,6 @@
 //! What a run is told by: the packets on the link, the fate of each symbol, the times of the calls.
 
+use crate::bond::Paths;
 use crate::grid::COLUMNS;
 use crate::link::Kind;
 use std::collections::BTreeSet;
@@ -106,19 +107,27 @@ pub struct Got {
     pub strays: u64,
     pub adus: u64,
     pub bytes: u64,
-    /// ADUs and rebuilt symbols that are not what was sent: how many, and the first in words.
-    pub differing: u64,
-    pub first_difference: Option<String>,
+    /// ADUs and rebuilt symbols that are not what was sent.
+    pub differences: Differences,
+    /// What came of the comparisons with a second receiver, where there is one.
+    pub paths: Paths,
     pub source: Times,
     pub repair: Times,
     pub adu: Times,
     pub adu_refused: Times,
 }
 
-impl Got {
-    pub fn differs(&mut self, what: impl FnOnce() -> String) {
-        self.differing += 1;
-        self.first_difference.get_or_insert_with(what);
+/// What is not the same: how often, and the first time in words.
+#[derive(Default)]
+pub struct Differences {
+    pub count: u64,
+    pub first: Option<String>,
+}
+
+impl Differences {
+    pub fn add(&mut self, what: impl FnOnce() -> String) {
+        self.count += 1;
+        self.first.get_or_insert_with(what);
     }
 }
 
@@ -188,9 +197,10 @@ impl Run {
     pub fn faults(&self) -> Vec<String> {
         let mut faults = Vec::new();
         let got = &self.got;
-        if let Some(first) = &got.first_difference {
-            faults.push(format!("{} times not what was sent; first {first}", got.differing));
+        if let Some(first) = &got.differences.first {
+            faults.push(format!("{} times not what was sent; first {first}", got.differences.count));
         }
+        faults.extend(got.paths.faults());
         for (number, count) in got.refused.iter().enumerate().filter(|(number, count)| **count > 0 && ![8, 9].contains(number)) {
             faults.push(format!("{count} packets of the sender met refusal {number}"));
         }
