@@ -20,6 +20,12 @@
  * announce and its sender does. Then the ADU's symbols are shown and counted like all others, and the start of the ADU after it is found; but rlc_adu
  * withholds the ADU itself (RLC_UNANNOUNCED).
  *
+ * Order. What a receiver shows depends on which packets it has accepted, and not on their order: where receivers that were opened alike have accepted the
+ * same packets, rlc_symbol and rlc_symbol_place answer alike, with the same bytes at the place, whatever the ESI. Only the counts of the packet calls may
+ * differ, and starts, so that rlc_adu may say RLC_NO_START in one of them; otherwise it answers and writes the same. A packet that others have overtaken
+ * may be RLC_BEHIND: a repair packet reaches back over its sender's whole window. So where packets change places, open the receiver with a width that
+ * is greater than the sender's by as many symbols as may overtake a packet.
+ *
  * Memory. An end, a sender or a receiver, lives in one piece of memory that the caller owns: bytes with no alignment, which can be copied or moved
  * between calls and are freed by the caller, with nothing to close. Ask for its size, open it once, then lend the same bytes to each call, as the last
  * call left them and as long as when they were opened. Bytes past the size that was asked are never changed. The receiver's packet calls borrow

@@ -4,6 +4,11 @@ use std::fmt;
 /// The receiving end. It owns 96 + width × (width + symbol size + 5) bytes of memory, and working memory of one row more;
 /// a clone goes on by itself from the same history.
 ///
+/// What it shows depends on which packets it has accepted, and not on their order: where receivers that were opened alike have accepted the
+/// same packets, [`symbol`](Receiver::symbol) and [`origin`](Receiver::origin) give the same for every ESI. Only counts may differ, and
+/// starts, so that [`adu`](Receiver::adu) may say [`Refusal::NoStart`] in one of them. Where packets change places on the way, a receiver
+/// needs a window that is wider than the sender's by as many symbols as may overtake a packet, or late packets are [`Refusal::Behind`].
+///
 /// ```
 /// use rlc8681::{Flows, Receiver, Refusal, Scheme};
 ///
@@ -13,6 +18,11 @@ use std::fmt;
 /// assert_eq!(receiver.symbol(1), Err(Refusal::Unknown));
 /// assert_eq!(receiver.receive_repair(&[0, 0, 0xf0, 2, 0, 0, 0, 0, 0, 0, 0, 3])?.known, 1);
 /// assert_eq!(receiver.symbol(1), Ok(&[1, 0, 1, 0x42][..]));
+///
+/// let mut other = Receiver::open(Scheme::Gf2, 4, 2, &Flows::all())?;
+/// assert_eq!(other.receive_repair(&[0, 0, 0xf0, 2, 0, 0, 0, 0, 0, 0, 0, 3])?.known, 0);
+/// assert_eq!(other.receive_source(1, &[0x41, 0, 0, 0, 0])?.known, 2);
+/// assert_eq!((other.symbol(1), other.origin(1)), (receiver.symbol(1), receiver.origin(1)));
 /// # Ok(())
 /// # }
 /// ```

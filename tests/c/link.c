@@ -1,7 +1,7 @@
 // The library as a C program links it: the bench sheet's cases C7 to C10 and C12, joining, the draws, the window of a latency budget, symbols heard and
-// solved, the ADU call's refusals, flows that are announced or not, and grids, through the header alone; each answer and each byte is compared. With the argument
-// `unset` the memory that is lent for a sender, a receiver or their work is left as malloc gives it, so that valgrind tells if a call depends on a byte that
-// nobody has set.
+// solved, two orders of the same packets, the ADU call's refusals, flows that are announced or not, and grids, through the header alone; each answer and each
+// byte is compared. With the argument `unset` the memory that is lent for a sender, a receiver or their work is left as malloc gives it, so that valgrind tells
+// if a call depends on a byte that nobody has set.
 #include "rlc8681.h"
 #include <stdio.h>
 #include <stdlib.h>
@@ -411,6 +411,54 @@ static void heard_or_solved(void) {
   heard_in_part();
 }
 
+// A packet of at most 12 bytes: a source packet of flow 1, of 5 bytes, or a repair packet; and what a receiver answers to it.
+struct packet {
+  size_t length;
+  uint8_t bytes[12];
+};
+static int64_t take(struct room receiver, struct room work, const struct packet *packet) {
+  if (packet->length == 5) return rlc_receive_source(LENT(receiver), LENT(work), 1, packet->bytes, 5);
+  return rlc_receive_repair(LENT(receiver), LENT(work), packet->bytes, packet->length);
+}
+
+// Two receivers show the same: each symbol of the window, one behind it and one past it, at the same place, with the same four bytes.
+static void shows_alike(struct room one, struct room two, uint32_t base, uint32_t width) {
+  for (uint32_t esi = base - 1; esi != base + width + 1; esi++) {
+    SAYS(rlc_symbol(LENT(one), esi), rlc_symbol(LENT(two), esi));
+    const int64_t place = rlc_symbol_place(LENT(one), esi);
+    SAYS(rlc_symbol_place(LENT(two), esi), place);
+    if (place >= 0) check(memcmp(one.bytes + place, two.bytes + place, 4) == 0, "both show the same bytes");
+  }
+}
+
+// Two receivers that are opened alike and accept the same packets in unlike orders: the packets of C12, of which the counts differ and all else is the same;
+// and packets after which a start differs too, since the window of the second had moved on before the start was found.
+static void two_orders(void) {
+  static const struct packet twelve[] = {{12, {0, 0, 0xf0, 2, 0, 0, 0, 0, 0, 0, 0, 3}}, {12, {0, 0, 0xf0, 4, 0, 0, 0, 0, 0, 0, 0, 4}},
+                                         {5, {0x44, 0, 0, 0, 3}}, {5, {0x45, 0, 0, 0, 4}}, {5, {0x46, 0, 0, 0, 5}}};
+  static const struct packet starts[] = {{5, {0x41, 0, 0, 0, 0}}, {12, {0, 0, 0xf0, 1, 0, 0, 0, 1, 1, 0, 5, 0x42}},
+                                         {12, {0, 0, 0xf0, 1, 0, 0, 0, 2, 0x43, 0x44, 0x45, 0x46}}, {12, {0, 0, 0xf0, 1, 0, 0, 0, 3, 1, 0, 1, 0x47}}};
+  const struct { size_t packet; int64_t says; } orders[2][5] = {{{0, 0}, {1, 0}, {3, 1}, {4, 1}, {2, 2}}, {{1, 0}, {2, 1}, {0, 1}, {4, 1}, {3, 1}}};
+  const size_t late[2][4] = {{0, 1, 2, 3}, {0, 1, 3, 2}};
+  struct room ends[2] = {receiver_of(4, 4), receiver_of(4, 4)}, narrow[2] = {receiver_of(4, 2), receiver_of(4, 2)}, work = work_of(4, 4);
+  for (size_t i = 0; i < 2; i++) {
+    SAYS(rlc_receiver_open(LENT(ends[i]), 9, 4, 4, all), 0);
+    for (size_t k = 0; k < 5; k++) SAYS(take(ends[i], work, &twelve[orders[i][k].packet]), orders[i][k].says);
+    for (uint8_t esi = 2; esi < 6; esi++) SHOWS(ends[i], esi, esi == 2 ? SOLVED : HEARD, 1, 0, 1, 0x41 + esi);
+    SAYS(rlc_receiver_open(LENT(narrow[i]), 9, 4, 2, all), 0);
+    for (size_t k = 0; k < 4; k++) SAYS(take(narrow[i], work, &starts[late[i][k]]), 1);
+    SHOWS(narrow[i], 2, SOLVED, 0x43, 0x44, 0x45, 0x46);
+    SHOWS(narrow[i], 3, SOLVED, 1, 0, 1, 0x47);
+    WITHHOLDS(narrow[i], 2, RLC_NO_START);
+  }
+  shows_alike(ends[0], ends[1], 2, 4);
+  shows_alike(narrow[0], narrow[1], 2, 2);
+  HANDS(narrow[0], 3, 1, 0x47);
+  WITHHOLDS(narrow[1], 3, RLC_NO_START);
+  for (size_t i = 0; i < 2; i++)
+    check(untouched(ends[i], ends[i].length) && untouched(narrow[i], narrow[i].length), "the receivers stay in their memory");
+}
+
 // The largest repair packet, 16 symbols over a window of 255, in both schemes.
 static void many_draws(void) {
   struct room sender = sender_of(4, 255), receiver = receiver_of(4, 255), work = work_of(4, 255), source = room(4), repair = room(8 + 16 * 4);
@@ -676,6 +724,7 @@ int main(int count, char **words) {
   twelve();
   draws();
   heard_or_solved();
+  two_orders();
   many_draws();
   thirteen_and_fourteen();
   announcing();

@@ -3,6 +3,7 @@
 
 pub mod pair;
 pub mod program;
+pub mod stream;
 
 // The crate's own link to the library serves these declarations too.
 use rlc8681 as _;

@@ -238,7 +238,7 @@ pub struct Receivers {
     pub memory: Lent,
     before: Vec<u8>,
     work: Lent,
-    safe: rlc8681::Receiver,
+    pub safe: rlc8681::Receiver,
     pub tally: Tally,
     /// The ESI after the ADU that was withheld last.
     after_stray: Option<u32>,
