@@ -1,4 +1,4 @@
--- Two receivers that have accepted the same packets know and show the same, whatever the order (document 02, No. 10).
+-- Receivers that have accepted the same packets know and show the same: the order is nothing to it (document 02, No. 10).
 use Rattle.words.specs.Words.{_≡_, ℕ, List, some, _∷_, true, _++_, _↔_, _⊎_, now, RefT}
 use mathlib.Core.List.{List·Memᴰ}
 use Rattle.memory.specs.Part.{part}
