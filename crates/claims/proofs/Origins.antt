@@ -8,11 +8,11 @@ use Rattle.wire.specs.declared.Setting.{Setting}
 use Rattle.wire.specs.Settings.{settingOf, Valid}
 use Rattle.wire.proofs.Settings.{setting-names}
 use Rattle.wire.specs.declared.Answer.{Answer}
-use Rattle.wire.specs.Answers.{Said, value, refusal, said}
+use Rattle.wire.specs.Answers.{value, said}
 use Rattle.receiver.specs.declared.SymbolAnswer.{SymbolAnswer}
 use Rattle.receiver.specs.declared.SymbolAnswer.the-variants.{Shown, Hidden}
 use Rattle.history.specs.Symbol.{Symbol, bytesOf, symbolOf}
-use Rattle.history.specs.History.{Filling, Located, source, repair, All, Known, Reading, fails, located, reading, Log, fresh, OfBytes, esiOf, IsValue, baseOf}
+use Rattle.history.specs.History.{Filling, Located, source, repair, All, Known, reading, Log, fresh, OfBytes, esiOf, IsValue, baseOf}
 use Rattle.history.specs.History.{logged}
 use Rattle.history.specs.Origins.{Brings, Brought}
 use Rattle.history.specs.Model.{State, opened, foundBy, stateAfter, responds, answering}

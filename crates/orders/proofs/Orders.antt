@@ -7,18 +7,17 @@ use Rattle.wire.specs.Packets.{sourceAdu}
 use Rattle.wire.proofs.Settings.{setting-names}
 use Rattle.history.specs.History.{Filling, Located, first, All, Call, source-call, repair-call, reading, Log, fresh, located, baseOf}
 use Rattle.history.specs.Checking.{saysAt}
-use Rattle.history.specs.Origins.{Brought}
 use Rattle.history.proofs.Origins.{brought, brought-is}
 use Rattle.history.proofs.Readings.{source-read, repair-read, reading-passed}
 use Rattle.receiver.specs.Promises.{Layout}
-use Rattle.claims.specs.Run.{Step, Run, final, read, history}
+use Rattle.claims.specs.Run.{Step, final, history}
 use Rattle.claims.proofs.Accepted.{AcceptedAs, accepted-as}
 use Rattle.claims.proofs.Demand.{some-bytes, had-setting}
 use Rattle.claims.proofs.Origins.{Heard, heard-on, opened-heard, brings-one, one-brings}
 use Rattle.claims.proofs.Handing.{Marked, marked-on, opened-marked}
-use Rattle.orders.specs.Orders.{AcceptedAt, ShownAlike, Two-paths, Two-orders}
-use Rattle.orders.proofs.Windows.{Among, all-among, Ahead, same-base, ahead-on}
-use Rattle.orders.proofs.Shown.{one-state, answers, parts, places, heard-too, adus}
+use Rattle.orders.specs.Orders.{AcceptedAt, ShownAlike, NextAlike, Two-paths, Two-orders}
+use Rattle.orders.proofs.Windows.{Among, all-among, same-base, ahead-on}
+use Rattle.orders.proofs.Shown.{one-state, next, shown}
 
 -- ---- Two logs of the same packets
 
@@ -36,26 +35,23 @@ module _ (L : Layout) (s : Setting) (flows : List ℕ) (v : Valid s) (m n : List
   fillings : (f : Filling E) → All E l f ↔ All E k f
   fillings f = (all-among E k l back f, all-among E l k there f)
 
+  one : heard .stands .state ≡ heard′ .stands .state
+  one = one-state s (some-bytes L s flows v) l k (heard .stands .state) (heard′ .stands .state) (heard .stands .tracks) (heard′ .stands .tracks) bases fillings
+
+  held′ : L .Holds n s flows (heard .stands .state)
+  held′ = subst (L .Holds n s flows) (sym one) (heard′ .stands .held)
+
+  goes-on-alike : NextAlike L m n
+  goes-on-alike = next L s flows m n (heard .stands .state) (heard .stands .held) held′
+
   shown-alike : (e : ℕ) → ShownAlike L E m n e
-  shown-alike e =
-      let z = some-bytes L s flows v in
-      let t = heard .stands .state in
-      let same = one-state s z l k t (heard′ .stands .state) (heard .stands .tracks) (heard′ .stands .tracks) bases fillings in
-      let held′ = subst (L .Holds n s flows) (sym same) (heard′ .stands .held) in
-      let hears′ = subst (λ u. L .Hears n s u (brought k)) (sym same) (heard′ .hears) in
+  shown-alike =
       let u = marked .state in
-      let same′ = one-state s z l k u (marked′ .state) (marked .tracks) (marked′ .tracks) bases fillings in
-      record {
-        answers = answers L s flows m n t (heard .stands .held) held′ e;
-        origins = λ a b x y. (
-          heard-too L s flows m n t (heard .stands .held) held′ e (brought l) (brought k) (heard .hears) hears′ (brought-too l k there) a b x y,
-          heard-too L s flows n m t held′ (heard .stands .held) e (brought k) (brought l) hears′ (heard .hears) (brought-too k l back) b a y x,
-        );
-        parts = parts L s flows m n t (heard .stands .held) held′ e;
-        places = places L s flows m n t (heard .stands .held) held′ e;
-        adus = adus s flows L m n u (marked .starts) (marked′ .starts) (marked .held) (subst (L .Holds n s flows) (sym same′) (marked′ .held))
-            (marked .marks) (subst (λ x. L .Marks n s x (marked′ .starts)) (sym same′) (marked′ .marks)) e;
-      }
+      let same = one-state s (some-bytes L s flows v) l k u (marked′ .state) (marked .tracks) (marked′ .tracks) bases fillings in
+      shown L s flows m n (heard .stands .state) (heard .stands .held) held′ (brought l) (brought k) (heard .hears)
+      (subst (λ x. L .Hears n s x (brought k)) (sym one) (heard′ .hears)) (brought-too l k there) (brought-too k l back) u (marked .starts) (marked′ .starts)
+      (marked .held) (subst (L .Holds n s flows) (sym same) (marked′ .held)) (marked .marks)
+      (subst (λ x. L .Marks n s x (marked′ .starts)) (sym same) (marked′ .marks))
 
 pub two-orders : (L : Layout) → Two-orders L
 two-orders L scheme E w flows m₀ m n₀ n a b o z o′ z′ ts us r r′ =
@@ -68,6 +64,10 @@ two-orders L scheme E w flows m₀ m n₀ n a b o z o′ z′ ts us r r′ =
           let k = history s flows us in
           let there : Among l k = λ q. c q .0 in
           let back : Among k l = λ q. c q .1 in
+          let heard = heard-on L s flows v ts m fresh (opened-heard L s flows v scheme E w m₀ m a o z h) r in
+          let heard′ = heard-on L s flows v us n fresh (opened-heard L s flows v scheme E w n₀ n b o′ z′ h) r′ in
+          let marked = marked-on L s flows v ts m fresh (opened-marked L s flows v scheme E w m₀ m a o z h) r in
+          let marked′ = marked-on L s flows v us n fresh (opened-marked L s flows v scheme E w n₀ n b o′ z′ h) r′ in
           let bases = same-base s l k (ahead-on L s flows v ts m fresh r tt) (ahead-on L s flows v us n fresh r′ tt) there back in
           record {
             windows = bases;
@@ -75,11 +75,8 @@ two-orders L scheme E w flows m₀ m n₀ n a b o z o′ z′ ts us r r′ =
               (λ i f g x y. i f g (all-among (s .size) l k there f x) (all-among (s .size) l k there g y)),
               (λ i f g x y. i f g (all-among (s .size) k l back f x) (all-among (s .size) k l back g y)),
             );
-            shown = shown-alike L s flows v (final m ts) (final n us) l k
-                (heard-on L s flows v ts m fresh (opened-heard L s flows v scheme E w m₀ m a o z h) r)
-                (heard-on L s flows v us n fresh (opened-heard L s flows v scheme E w n₀ n b o′ z′ h) r′)
-                (marked-on L s flows v ts m fresh (opened-marked L s flows v scheme E w m₀ m a o z h) r)
-                (marked-on L s flows v us n fresh (opened-marked L s flows v scheme E w n₀ n b o′ z′ h) r′) there back bases;
+            shown = shown-alike L s flows v (final m ts) (final n us) l k heard heard′ marked marked′ there back bases;
+            next = goes-on-alike L s flows v (final m ts) (final n us) l k heard heard′ marked marked′ there back bases;
           },
     )
 

@@ -1,11 +1,12 @@
 -- Two memories that hold states which follow logs of the same packets hold one state, so the calls that show answer alike.
 -- Index
 --   one-state: two states that follow what the same fillings satisfy, at one base, are one
---   found-alike, shown-alike, placed-alike: by what the symbol call found
---   heard-alike: and by what is heard
---   handed-alike: by what the ADU call came to; without-start: which starts change only to 13
-use Rattle.words.specs.Words.{_≡_, ℕ, _+_, List, length, refl, _∙_, sym, ap, [], some, _∷_, true, none, false, Bool, subst, Option, ap₂, _↔_, _⊎_, inl, inr, ltb, now, RefT}
-use Rattle.words.specs.Words.{Option·some-injective, Option·none-ne-some, map, _<_}
+--   found-alike, shown-alike, placed-alike: by what the symbol call found; followed-alike: by what a packet call came to
+--   next: so the next packet gets the same answer; heard-too: and what is heard in the one is in the other
+--   handed-alike: by what the ADU call came to; adu-alike: which starts change to 13 alone
+--   shown: all calls that show
+use Rattle.words.specs.Words.{_≡_, ℕ, List, length, refl, _∙_, sym, ap, some, true, none, false, Bool, subst, ap₂, _↔_, _⊎_, inl, inr, ltb, now, RefT}
+use Rattle.words.specs.Words.{Option·some-injective, Option·none-ne-some, _<_}
 use Rattle.memory.specs.Part.{part}
 use Rattle.wire.specs.declared.Setting.{Setting}
 use Rattle.wire.specs.declared.Answer.{Answer}
@@ -18,15 +19,15 @@ use Rattle.starts.specs.declared.Handed.{Handed}
 use Rattle.starts.specs.declared.Handed.the-variants.{Adu, Withheld}
 use Rattle.starts.specs.Adu.{Handing, hands, withholds, need, handing, HandedAs}
 use Rattle.starts.specs.Starts.{Starts}
-use Rattle.history.specs.Symbol.{Symbol, bytesOf}
-use Rattle.history.specs.History.{Filling, Located, All, Side, behind, ahead, sideOf, Log, IsValue, baseOf}
-use Rattle.history.specs.Model.{Joined, State, foundBy, Finding, shows, hides, finding, aduIn, aduAt, Origins}
+use Rattle.history.specs.History.{Filling, All, Side, behind, ahead, sideOf, Log, baseOf}
+use Rattle.history.specs.Model.{Joined, State, foundBy, Outcome, refused, done, receiving, Finding, shows, hides, finding, aduIn, aduAt, Origins}
 use Rattle.history.proofs.Cases.{IsRefusal, numeral}
 use Rattle.history.proofs.Answers.{Tracks, TracksFrom, baseIn, all}
 use Rattle.receiver.specs.declared.SymbolAnswer.{SymbolAnswer}
 use Rattle.receiver.specs.declared.SymbolAnswer.the-variants.{Shown, Hidden}
 use Rattle.receiver.specs.Answers.{shownOf, handedSaid}
-use Rattle.receiver.specs.Promises.{Layout, Finds, SymbolShown, Shows, PartShown, Places, PlaceAnswered, AduAnswered}
+use Rattle.receiver.specs.Promises.{Layout, Follows, Finds, SymbolShown, Shows, Places, AduAnswered}
+use Rattle.orders.specs.Orders.{HandedAlike, ShownAlike, NextAlike}
 
 -- ---- One state
 
@@ -81,23 +82,20 @@ module _ (L : Layout) (s : Setting) where
   )
   placed-alike (hides k) m n a b x y = (x ∙ sym y, λ at e. absurd (subst IsRefusal (sym x ∙ e) tt))
 
-  -- Two memories that hold one state, where the same positions are heard.
-  module _ (flows m n : List ℕ) (t : State s) (held : L .Holds m s flows t) (held′ : L .Holds n s flows t) (e : ℕ) where
-    pub answers : (a b : SymbolAnswer) → SymbolShown L m e a → SymbolShown L n e b → said (shownOf a) ≡ said (shownOf b)
-    answers a b x y =
-        found-alike (finding s t e) (shownOf a) (shownOf b) (x .answered .finds s flows t held) (y .answered .finds s flows t held′)
+  followed-alike : (flows : List ℕ) (o : Outcome s) (m m′ n n′ : List ℕ) (a b : Answer) → Follows L s flows o m m′ a → Follows L s flows o n n′ b
+      → said a ≡ said b
+  followed-alike flows (refused k) m m′ n n′ a b x y = x .0 ∙ sym (y .0)
+  followed-alike flows (done k u) m m′ n n′ a b x y = x .0 ∙ sym (y .0)
 
-    pub parts : (memory shown memory′ shown′ : RefT (List ℕ)) → now memory ≡ m → PartShown L memory shown e
-        → now memory′ ≡ n → PartShown L memory′ shown′ e → now shown ≡ now shown′
-    parts memory shown memory′ shown′ i x j y =
-        shown-alike (finding s t e) memory shown memory′ shown′
-        (x .shows s flows t (subst (λ z. L .Holds z s flows t) (sym i) held)) (y .shows s flows t (subst (λ z. L .Holds z s flows t) (sym j) held′))
+  -- Two memories that hold one state.
+  module _ (flows m n : List ℕ) (t : State s) (held : L .Holds m s flows t) (held′ : L .Holds n s flows t) where
+    pub next : NextAlike L m n
+    next c m′ n′ v v′ w w′ a b i x y =
+        followed-alike flows (receiving s flows t (length v) c) m m′ n n′ a b (x .follows s flows t held)
+        (subst (λ k. Follows L s flows (receiving s flows t k c) n n′ b) (sym i) (y .follows s flows t held′))
 
-    pub places : (a b : Answer) → PlaceAnswered L m e a → PlaceAnswered L n e b
-        → (said a ≡ said b) × ((at : ℕ) → said a ≡ value at → part at E m ≡ part at E n)
-    places a b x y = placed-alike (finding s t e) m n a b (x .places s flows t held) (y .places s flows t held′)
-
-    module _ (H K : Origins) (hears : L .Hears m s t H) (hears′ : L .Hears n s t K) (same : (p : ℕ) → H p ≡ true → K p ≡ true) where
+    -- What is heard in the one is heard in the other, where that has all that this has heard.
+    module _ (H K : Origins) (hears : L .Hears m s t H) (hears′ : L .Hears n s t K) (too : (p : ℕ) → H p ≡ true → K p ≡ true) (e : ℕ) where
       pub heard-too : (a b : SymbolAnswer) → SymbolShown L m e a → SymbolShown L n e b → a ≡ Shown true → b ≡ Shown true
       heard-too a b x y z =
           go (finding s t e) refl b y (subst (Finds L (finding s t e)) (ap shownOf z) (x .answered .finds s flows t held))
@@ -110,7 +108,7 @@ module _ (L : Layout) (s : Setting) where
           go (shows p v) i (Shown h) y f g =
               let one = x .origin s flows t H held hears p v true i z in
               let other = y .origin s flows t K held′ hears′ p v h i refl in
-              ap Shown (other ∙ same p (sym one))
+              ap Shown (other ∙ too p (sym one))
 
 -- ---- The ADU call
 
@@ -156,13 +154,34 @@ module _ (s : Setting) (flows : List ℕ) where
 
   module _ (L : Layout) (m n : List ℕ) (t : State s) (M N : Starts) (held : L .Holds m s flows t) (held′ : L .Holds n s flows t)
       (marks : L .Marks m s t M) (marks′ : L .Marks n s t N) (e : ℕ) where
-    pub adus : (out out′ out″ : List ℕ) (a b : Handed) → AduAnswered L m e out out′ a → AduAnswered L n e out out″ b
-        → ((handedSaid a ≡ handedSaid b) × (out′ ≡ out″)) ⊎ ((handedSaid a ≡ refusal 13) ⊎ (handedSaid b ≡ refusal 13))
+    adus : (out out′ out″ : List ℕ) (a b : Handed) → AduAnswered L m e out out′ a → AduAnswered L n e out out″ b → HandedAlike a b out′ out″
     adus out out′ out″ a b x y =
         go _ _ (adu-alike t M N (length out) e) (x .hands s flows t M held marks) (y .hands s flows t N held′ marks′)
       where
-        go : (g h : Handing) → Alike g h → HandedAs g out out′ a → HandedAs h out out″ b
-            → ((handedSaid a ≡ handedSaid b) × (out′ ≡ out″)) ⊎ ((handedSaid a ≡ refusal 13) ⊎ (handedSaid b ≡ refusal 13))
+        go : (g h : Handing) → Alike g h → HandedAs g out out′ a → HandedAs h out out″ b → HandedAlike a b out′ out″
         go g h (inl z) i j = inl (handed-alike h out out′ out″ a b (subst (λ k. HandedAs k out out′ a) z i) j)
         go g h (inr (inl z)) i j = inr (inl (withheld-as 13 out out′ a (subst (λ k. HandedAs k out out′ a) z i)))
         go g h (inr (inr z)) i j = inr (inr (withheld-as 13 out out″ b (subst (λ k. HandedAs k out out″ b) z j)))
+
+-- ---- All calls that show
+
+module _ (L : Layout) (s : Setting) (flows m n : List ℕ) (t : State s) (held : L .Holds m s flows t) (held′ : L .Holds n s flows t) where
+  open Setting s using (size as E)
+
+  pub shown : (H K : Origins) → L .Hears m s t H → L .Hears n s t K → ((p : ℕ) → H p ≡ true → K p ≡ true) → ((p : ℕ) → K p ≡ true → H p ≡ true)
+      → (u : State s) (M N : Starts) → L .Holds m s flows u → L .Holds n s flows u → L .Marks m s u M → L .Marks n s u N → (e : ℕ) → ShownAlike L E m n e
+  shown H K hears hears′ there back u M N kept kept′ marks marks′ e =
+      let o = finding s t e in
+      let holds : (x : List ℕ) (r : RefT (List ℕ)) → now r ≡ x → L .Holds x s flows t → L .Holds (now r) s flows t =
+      λ x r i h. subst (λ y. L .Holds y s flows t) (sym i) h in
+      record {
+        answers = λ a b x y. found-alike L s o (shownOf a) (shownOf b) (x .answered .finds s flows t held) (y .answered .finds s flows t held′);
+        origins = λ a b x y. (
+          heard-too L s flows m n t held held′ H K hears hears′ there e a b x y,
+          heard-too L s flows n m t held′ held K H hears′ hears back e b a y x,
+        );
+        parts = λ memory part memory′ part′ i x j y.
+            shown-alike L s o memory part memory′ part′ (x .shows s flows t (holds m memory i held)) (y .shows s flows t (holds n memory′ j held′));
+        places = λ a b x y. placed-alike L s o m n a b (x .places s flows t held) (y .places s flows t held′);
+        adus = adus s flows L m n u M N kept kept′ marks marks′ e;
+      }

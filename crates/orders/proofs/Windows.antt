@@ -10,7 +10,7 @@ use mathlib.Core.List.{List·Memᴰ, List·Memᴰ·head, List·Memᴰ·tail, Lis
 use Rattle.wire.specs.declared.Setting.{Setting}
 use Rattle.wire.specs.Settings.{Valid}
 use Rattle.wire.specs.Answers.{Said, value, refusal, said}
-use Rattle.history.specs.History.{Filling, Located, first, named, Satisfied, All, OfBytes, esiOf, Reading, fails, located, baseFor, Log, raised, baseOf, logged}
+use Rattle.history.specs.History.{Filling, Located, first, named, Satisfied, All, OfBytes, Reading, fails, located, baseFor, Log, raised, baseOf, logged}
 use Rattle.history.proofs.Readings.{reading-passes}
 use Rattle.receiver.specs.Promises.{Layout}
 use Rattle.claims.specs.Run.{Step, Run, read, goes-on}

@@ -1,5 +1,5 @@
 -- Receivers that have accepted the same packets know and show the same: the order is nothing to it (document 02, No. 10).
-use Rattle.words.specs.Words.{_≡_, ℕ, List, some, _∷_, true, _++_, _↔_, _⊎_, now, RefT}
+use Rattle.words.specs.Words.{_≡_, ℕ, List, length, some, _∷_, true, _++_, _↔_, _⊎_, now, RefT}
 use mathlib.Core.List.{List·Memᴰ}
 use Rattle.memory.specs.Part.{part}
 use Rattle.wire.specs.declared.Setting.{Setting}
@@ -11,7 +11,7 @@ use Rattle.history.specs.History.{Located, first, Known, Call, located, IsValue
 use Rattle.receiver.specs.declared.SymbolAnswer.{SymbolAnswer}
 use Rattle.receiver.specs.declared.SymbolAnswer.the-variants.{Shown}
 use Rattle.receiver.specs.Answers.{shownOf, handedSaid}
-use Rattle.receiver.specs.Promises.{Layout, Opened, SymbolShown, PartShown, PlaceAnswered, AduAnswered}
+use Rattle.receiver.specs.Promises.{Layout, Opened, Received, SymbolShown, PartShown, PlaceAnswered, AduAnswered}
 use Rattle.claims.specs.Run.{Step, Run, final, read, history}
 
 -- A call of the list brought the packet c and was accepted, and p is the first position at which the packet was read.
@@ -26,6 +26,11 @@ pub record AcceptedAt (s : Setting) (flows : List ℕ) (ts : List Step) (c : Cal
   pub read-as : read s flows (history s flows before) step ≡ located packet
   pub at : first packet ≡ p
 
+-- Two ADU calls, lent the same output, answer and write the same; or one of them says 13, since starts may differ.
+abbrev pub HandedAlike : (a b : Handed) (out′ out″ : List ℕ) → Type 0
+HandedAlike a b out′ out″ =
+    ((handedSaid a ≡ handedSaid b) × (out′ ≡ out″)) ⊎ ((handedSaid a ≡ refusal 13) ⊎ (handedSaid b ≡ refusal 13))
+
 -- What the calls that show may answer by their promises for the ESI e, on the memories m and n of two receivers.
 pub record ShownAlike (L : Layout) (E : ℕ) (m n : List ℕ) (e : ℕ) : Type 0 where
   -- The symbol call answers the same number, and says heard beside its 0 in both or in neither.
@@ -37,9 +42,15 @@ pub record ShownAlike (L : Layout) (E : ℕ) (m n : List ℕ) (e : ℕ) : Type 0
   -- The call for the place answers the same, and there stand the same bytes.
   pub places : (a b : Answer) → PlaceAnswered L m e a → PlaceAnswered L n e b
       → (said a ≡ said b) × ((at : ℕ) → said a ≡ value at → part at E m ≡ part at E n)
-  -- The ADU call answers and writes the same, but that it may say 13 in one of them: starts may differ.
+  -- The ADU calls are alike.
   pub adus : (out out′ out″ : List ℕ) (a b : Handed) → AduAnswered L m e out out′ a → AduAnswered L n e out out″ b
-      → ((handedSaid a ≡ handedSaid b) × (out′ ≡ out″)) ⊎ ((handedSaid a ≡ refusal 13) ⊎ (handedSaid b ≡ refusal 13))
+      → HandedAlike a b out′ out″
+
+-- Whatever packet comes next gets the same answer from both, on as much working memory.
+abbrev pub NextAlike : Layout → (m n : List ℕ) → Type 0
+NextAlike L m n =
+    (c : Call) (m′ n′ v v′ w w′ : List ℕ) (a b : Answer) → length v ≡ length w
+    → Received L c m m′ v v′ a → Received L c n n′ w w′ b → said a ≡ said b
 
 -- Two receivers agree, after the calls ts and us, which have left the memories m and n.
 pub record Agree (L : Layout) (s : Setting) (flows : List ℕ) (ts us : List Step) (m n : List ℕ) : Type 0 where
@@ -49,6 +60,8 @@ pub record Agree (L : Layout) (s : Setting) (flows : List ℕ) (ts us : List Ste
   pub known : (p : ℕ) → Known (s .size) (history s flows ts) p ↔ Known (s .size) (history s flows us) p
   -- They show the same, whatever the ESI.
   pub shown : (e : ℕ) → ShownAlike L (s .size) m n e
+  -- And they go on alike.
+  pub next : NextAlike L m n
 
 -- Two receivers that were opened alike, after every two lists of packet calls: where they have accepted alike, they
 -- agree.
