@@ -80,7 +80,7 @@ pub extern "C" fn bench_combine(dst: &mut [u8], cs: &[u8], mem: &[u8]) {
     if dst.len() > s {
         return;
     }
-    rows::combination::combine(dst, cs, mem, 0, s);
+    sums::combine(dst, cs, mem, 0, s);
 }
 
 // dst becomes dst + the same.
@@ -93,7 +93,7 @@ pub extern "C" fn bench_add_combination(dst: &mut [u8], cs: &[u8], mem: &[u8]) {
     if dst.len() > s {
         return;
     }
-    rows::combination::add_combination(dst, cs, mem, 0, s);
+    sums::add_combination(dst, cs, mem, 0, s);
 }
 
 // The number that a call answers; where it is refused, one that no call of the drivers answers.

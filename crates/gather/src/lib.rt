@@ -93,13 +93,7 @@ fn add_rows(mem: &[u8], work: &mut [u8], multipliers: &[u8], shape: Shape, k: us
     let at = table::row_offset(shape, k);
     let first = table::row_offset(shape, 0);
     let stride = table::stride(shape);
-    rows::combination::add_combination(
-        &mut work[at..at + n],
-        &multipliers[..w],
-        mem,
-        first,
-        stride,
-    );
+    sums::add_combination(&mut work[at..at + n], &multipliers[..w], mem, first, stride);
 }
 
 // Reduces the row `k` of working memory by the state's row of the column `c`. Gives zero only if the row is zero then.
