@@ -1,10 +1,10 @@
 -- Laws of the ways in which a strip is summed.
 use Rattle.words.specs.Words.{_≡_, refl, sym, arith, List, _*_, _+_, _≤_, false, length, true, true≢false, ℕ}
 use Rattle.memory.proofs.Parts.{row-fits}
-use Rattle.rows.specs.Buckets.{weights}
 use Rattle.rows.specs.Named.{ListedPairs}
-use Rattle.rows.specs.Sorted.{SortedHalves}
-use Rattle.rows.proofs.Filling.{length-weights}
+use Rattle.buckets.specs.Buckets.{weights}
+use Rattle.buckets.specs.Sorted.{SortedHalves}
+use Rattle.buckets.proofs.Filling.{length-weights}
 use Rattle.sums.specs.Ways.{listedFor, mostRows, inBuckets, Prepared, sorts, Ready}
 use Rattle.sums.specs.declared.strips.Way.{Way}
 use Rattle.sums.specs.declared.strips.Way.the-variants.{Lists, Buckets, SortedBuckets}

@@ -1,8 +1,8 @@
 -- Contracts of inner functions: a reader need not believe these. The ways in which a strip is summed, and what each needs.
 use Rattle.words.specs.Words.{_≡_, List, Bool, true, false, _*_, _+_, _<_, _≤_, length, ℕ}
 use Rattle.rows.specs.Named.{ListedPairs}
-use Rattle.rows.specs.Sorted.{SortedHalves}
-use Rattle.rows.specs.Buckets.{weights}
+use Rattle.buckets.specs.Sorted.{SortedHalves}
+use Rattle.buckets.specs.Buckets.{weights}
 use Rattle.sums.specs.declared.strips.Way.{Way}
 use Rattle.sums.specs.declared.strips.Way.the-variants.{Lists, Buckets, SortedBuckets}
 

@@ -1,7 +1,7 @@
 // The sum of rows, each times a coefficient, in strips of 64 bytes: by lists, or, for many rows, in buckets.
 ghost use Rattle.words.specs.Words.{_≡_, _≤_, _+_, _*_, length, replicate};
 ghost use Rattle.rows.specs.Sums.{rowsAdded};
-ghost use Rattle.rows.specs.Buckets.{Filled};
+ghost use Rattle.buckets.specs.Buckets.{Filled};
 ghost use Rattle.sums.specs.Ways.{inBuckets, mostRows, Prepared, Placed, Ready};
 
 // How a strip is summed: by lists of the rows' pairs of digits; in buckets that are filled row by row; or in buckets that are filled from sorted
@@ -37,13 +37,13 @@ fn prepare(
         × (length (now cs) ≤ mostRows way) ⌝ }
     ensures { λ n. ⌜ Prepared way (now (cs .entry)) (now (lists .exit)) (now (counts .exit)) (now (order .exit)) (now (ends .exit)) n ⌝ }
 {
-    let weights = rows::buckets::WEIGHTS;
+    let weights = buckets::WEIGHTS;
     match way {
         Way::Lists => rows::lists::list_pairs(lists, counts, cs),
         Way::Buckets => rows::lists::list_pairs(lists, counts, &weights),
         Way::SortedBuckets => {
             let mut classes = [0u8; 255];
-            rows::sorted::sort(order, ends, &mut classes, cs);
+            buckets::sorted::sort(order, ends, &mut classes, cs);
             rows::lists::list_pairs(lists, counts, &weights)
         }
     }
@@ -65,10 +65,10 @@ fn fill(
         × Filled (now (cs .entry)) (length (now (cs .entry))) (now (mem .entry)) a s (now (buckets .exit)) ⌝ }
 {
     if let Way::SortedBuckets = way {
-        rows::sorted::fill(buckets, order, ends, mem, a, s);
+        buckets::sorted::fill(buckets, order, ends, mem, a, s);
         return;
     }
-    rows::buckets::fill(buckets, cs, mem, a, s);
+    buckets::fill(buckets, cs, mem, a, s);
 }
 
 // Adds to dst, of 64 bytes, the sum of the rows: 64 bytes of each, the first row's from a on.

@@ -5,10 +5,10 @@ use Rattle.memory.proofs.Parts.{length-part}
 use Rattle.rows.specs.Rows.{addScaled}
 use Rattle.rows.specs.Combination.{coefficient}
 use Rattle.rows.specs.Sums.{combined, rowAt}
-use Rattle.rows.specs.Buckets.{weights}
 use Rattle.rows.proofs.Combinations.{sum-onto}
 use Rattle.rows.proofs.Named.{pairs-sum, listed-room}
-use Rattle.rows.proofs.Filling.{length-weights, buckets-sum}
+use Rattle.buckets.specs.Buckets.{weights}
+use Rattle.buckets.proofs.Filling.{length-weights, buckets-sum}
 use Rattle.sums.specs.Ways.{listedFor}
 use Rattle.sums.proofs.Ways.{listed-weights, listed-own}
 use Rattle.sums.proofs.strips.add_strip.Statement.{statement}

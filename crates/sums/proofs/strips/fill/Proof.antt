@@ -1,6 +1,6 @@
 -- `sums::strips::fill` meets its contract.
 use Rattle.words.specs.Words.{ap, arith, length, needs}
-use Rattle.rows.proofs.Sorting.{sorted-ordered, sorted-filled}
+use Rattle.buckets.proofs.Sorting.{sorted-ordered, sorted-filled}
 use Rattle.sums.specs.Ways.{sorts}
 use Rattle.sums.proofs.Ways.{most-few}
 use Rattle.sums.proofs.strips.fill.Statement.{statement}

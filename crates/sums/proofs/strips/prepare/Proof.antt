@@ -1,6 +1,6 @@
 -- `sums::strips::prepare` meets its contract.
 use Rattle.words.specs.Words.{refl, subst, arith, _≤_, length, needs}
-use Rattle.rows.specs.Buckets.{weights}
+use Rattle.buckets.specs.Buckets.{weights}
 use Rattle.sums.specs.Ways.{mostRows}
 use Rattle.sums.proofs.Ways.{most-few, prepared-lists, prepared-buckets, prepared-sorted}
 use Rattle.sums.proofs.strips.prepare.Statement.{statement}

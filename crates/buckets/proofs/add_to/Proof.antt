@@ -1,9 +1,9 @@
--- `rows::buckets::add_to` meets its contract.
+-- `buckets::add_to` meets its contract.
 use Rattle.words.specs.Words.{ap, _∙_, _*_, arith, needs}
 use Rattle.memory.specs.Part.{splice}
 use Rattle.memory.proofs.Parts.{cut, put}
-use Rattle.rows.proofs.buckets.add_to.Statement.{statement}
-use Rattle.rows.proofs.buckets.add_to.Tie as tie
+use Rattle.buckets.proofs.add_to.Statement.{statement}
+use Rattle.buckets.proofs.add_to.Tie as tie
 
 returns : tie.Need-returns
 returns c =

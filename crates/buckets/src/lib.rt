@@ -3,8 +3,10 @@
 // times its weight: v, and 16 * v.
 ghost use Rattle.words.specs.Words.{_≡_, ℕ, _+_, _*_, _≤_, _<_, length, replicate};
 ghost use Rattle.memory.specs.Part.{part, splice};
 ghost use Rattle.rows.specs.Rows.{addScaled};
-ghost use Rattle.rows.specs.Buckets.{Filled};
+ghost use Rattle.buckets.specs.Buckets.{Filled};
+
+pub mod sorted;
 
 pub const WEIGHTS: [u8; 32] = [
     0,
@@ -48,7 +50,7 @@ fn add_to(buckets: &mut [u8], v: usize, mem: &[u8], at: usize)
         ≡ splice (v * 64) (addScaled 1 (part (v * 64) 64 (now (buckets .entry))) (part at 64 (now (mem .entry)))) (now (buckets .entry)) ⌝ }
 {
     let from = v * 64;
-    super::lists::add_strip(&mut buckets[from..from + 64], mem, at);
+    rows::lists::add_strip(&mut buckets[from..from + 64], mem, at);
 }
 
 // Fills the buckets, which are empty, with 64 bytes of each row, the first row's from a on.

@@ -1,10 +1,10 @@
--- `rows::buckets::fill` meets its contract. The loop: the first k rows are in the buckets.
+-- `buckets::fill` meets its contract. The loop: the first k rows are in the buckets.
 use Rattle.words.specs.Words.{_≡_, sym, ap, _∙_, mod-lt, ℕ, _≤_, _<_, _-_, arith, length, length-replicate, needs}
 use Rattle.rows.specs.Combination.{coefficient}
-use Rattle.rows.specs.Buckets.{Filled}
-use Rattle.rows.proofs.Filling.{filled-none, filled-turn}
-use Rattle.rows.proofs.buckets.fill.Statement.{statement}
-use Rattle.rows.proofs.buckets.fill.Tie as tie
+use Rattle.buckets.specs.Buckets.{Filled}
+use Rattle.buckets.proofs.Filling.{filled-none, filled-turn}
+use Rattle.buckets.proofs.fill.Statement.{statement}
+use Rattle.buckets.proofs.fill.Tie as tie
 
 abbrev Inv-loop : tie.InvT-loop
 Inv-loop buckets₀ cs mem a s k₀ k-end buckets k = (k ≤ length cs) × (length buckets ≡ 2048) × Filled cs k mem a s buckets
