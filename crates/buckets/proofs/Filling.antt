@@ -12,13 +12,13 @@ use Rattle.memory.proofs.Parts.{length-part, getD-part, getD-within, getD-befor
 use Rattle.memory.specs.Number.{Bytes}
 use Rattle.memory.specs.Part.{part, splice}
 use Rattle.rows.specs.Combination.{dot, coefficient, tabulate}
-use Rattle.rows.specs.Named.{ListedPairs, pairsAdded}
 use Rattle.rows.specs.Rows.{addScaled}
 use Rattle.rows.specs.Sums.{combined, rowAt, rowsAdded}
 use Rattle.rows.proofs.Combinations.{length-combined, getD-alone, getD-tabulate}
 use Rattle.rows.proofs.Dot.{dot-same}
-use Rattle.rows.proofs.Named.{pairs-sum}
 use Rattle.rows.proofs.Sums.{length-addScaled, getD-addScaled}
+use Rattle.lists.specs.Named.{ListedPairs, pairsAdded}
+use Rattle.lists.proofs.Named.{pairs-sum}
 use Rattle.buckets.specs.Buckets.{weights, Filled}
 
 -- ---- the weights

@@ -50,7 +50,7 @@ fn add_to(buckets: &mut [u8], v: usize, mem: &[u8], at: usize)
         ≡ splice (v * 64) (addScaled 1 (part (v * 64) 64 (now (buckets .entry))) (part at 64 (now (mem .entry)))) (now (buckets .entry)) ⌝ }
 {
     let from = v * 64;
-    rows::lists::add_strip(&mut buckets[from..from + 64], mem, at);
+    lists::add_strip(&mut buckets[from..from + 64], mem, at);
 }
 
 // Fills the buckets, which are empty, with 64 bytes of each row, the first row's from a on.

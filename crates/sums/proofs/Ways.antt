@@ -1,7 +1,7 @@
 -- Laws of the ways in which a strip is summed.
 use Rattle.words.specs.Words.{_≡_, refl, sym, arith, List, _*_, _+_, _≤_, false, length, true, true≢false, ℕ}
 use Rattle.memory.proofs.Parts.{row-fits}
-use Rattle.rows.specs.Named.{ListedPairs}
+use Rattle.lists.specs.Named.{ListedPairs}
 use Rattle.buckets.specs.Buckets.{weights}
 use Rattle.buckets.specs.Sorted.{SortedHalves}
 use Rattle.buckets.proofs.Filling.{length-weights}

@@ -1,6 +1,6 @@
 -- Contracts of inner functions: a reader need not believe these. The ways in which a strip is summed, and what each needs.
 use Rattle.words.specs.Words.{_≡_, List, Bool, true, false, _*_, _+_, _<_, _≤_, length, ℕ}
-use Rattle.rows.specs.Named.{ListedPairs}
+use Rattle.lists.specs.Named.{ListedPairs}
 use Rattle.buckets.specs.Sorted.{SortedHalves}
 use Rattle.buckets.specs.Buckets.{weights}
 use Rattle.sums.specs.declared.strips.Way.{Way}

@@ -39,12 +39,12 @@ fn prepare(
 {
     let weights = buckets::WEIGHTS;
     match way {
-        Way::Lists => rows::lists::list_pairs(lists, counts, cs),
-        Way::Buckets => rows::lists::list_pairs(lists, counts, &weights),
+        Way::Lists => lists::list_pairs(lists, counts, cs),
+        Way::Buckets => lists::list_pairs(lists, counts, &weights),
         Way::SortedBuckets => {
             let mut classes = [0u8; 255];
             buckets::sorted::sort(order, ends, &mut classes, cs);
-            rows::lists::list_pairs(lists, counts, &weights)
+            lists::list_pairs(lists, counts, &weights)
         }
     }
 }
@@ -89,12 +89,12 @@ fn add_strip(
     ensures { λ _. ⌜ now (dst .exit) ≡ rowsAdded (now (cs .entry)) (now (mem .entry)) a s 64 (now (dst .entry)) ⌝ }
 {
     if !in_buckets(way) {
-        rows::lists::add_sum(dst, lists, counts, pairs, mem, a, s);
+        lists::add_sum(dst, lists, counts, pairs, mem, a, s);
         return;
     }
     let mut buckets = [0u8; 2048];
     fill(&mut buckets, way, order, ends, cs, mem, a, s);
-    rows::lists::add_sum(dst, lists, counts, pairs, &buckets, 0, 64);
+    lists::add_sum(dst, lists, counts, pairs, &buckets, 0, 64);
 }
 
 // Adds to dst the rows of mem, row k times cs[k], in strips. The last one starts early enough to be whole, before the row if need be, and of it only

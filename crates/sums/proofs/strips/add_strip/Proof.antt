@@ -6,7 +6,7 @@ use Rattle.rows.specs.Rows.{addScaled}
 use Rattle.rows.specs.Combination.{coefficient}
 use Rattle.rows.specs.Sums.{combined, rowAt}
 use Rattle.rows.proofs.Combinations.{sum-onto}
-use Rattle.rows.proofs.Named.{pairs-sum, listed-room}
+use Rattle.lists.proofs.Named.{pairs-sum, listed-room}
 use Rattle.buckets.specs.Buckets.{weights}
 use Rattle.buckets.proofs.Filling.{length-weights, buckets-sum}
 use Rattle.sums.specs.Ways.{listedFor}
