@@ -3,10 +3,7 @@
 ghost use Rattle.words.specs.Words.{_≡_, _≤_, _+_, _*_, length, _<_, replicate, true};
 ghost use Rattle.rows.specs.Rows.{addScaled};
 ghost use Rattle.rows.specs.Sums.{rowAt, rowsAdded};
-ghost use Rattle.sums.specs.Ways.{mostRows};
-
-mod strips;
-
+ghost use Rattle.strips.specs.Ways.{mostRows};
 use field::Gf256;
 use strips::Way;
 

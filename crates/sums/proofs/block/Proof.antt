@@ -1,6 +1,6 @@
 -- `sums::block` meets its contract.
 use Rattle.words.specs.Words.{arith, needs}
-use Rattle.sums.specs.Ways.{mostRows}
+use Rattle.strips.specs.Ways.{mostRows}
 use Rattle.sums.proofs.block.Statement.{statement}
 use Rattle.sums.proofs.block.Tie as tie
 

@@ -1,8 +1,8 @@
--- `sums::strips::in_buckets` meets its contract.
+-- `strips::in_buckets` meets its contract.
 use Rattle.words.specs.Words.{needs}
-use Rattle.sums.specs.Ways.{inBuckets}
-use Rattle.sums.proofs.strips.in_buckets.Statement.{statement}
-use Rattle.sums.proofs.strips.in_buckets.Tie as tie
+use Rattle.strips.specs.Ways.{inBuckets}
+use Rattle.strips.proofs.in_buckets.Statement.{statement}
+use Rattle.strips.proofs.in_buckets.Tie as tie
 
 returns : tie.Need-returns
 unfolding inBuckets

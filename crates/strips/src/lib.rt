@@ -2,7 +2,7 @@
 ghost use Rattle.words.specs.Words.{_≡_, _≤_, _+_, _*_, length, replicate};
 ghost use Rattle.rows.specs.Sums.{rowsAdded};
 ghost use Rattle.buckets.specs.Buckets.{Filled};
-ghost use Rattle.sums.specs.Ways.{inBuckets, mostRows, Prepared, Placed, Ready};
+ghost use Rattle.strips.specs.Ways.{inBuckets, mostRows, Prepared, Placed, Ready};
 
 // How a strip is summed: by lists of the rows' pairs of digits; in buckets that are filled row by row; or in buckets that are filled from sorted
 // rows.

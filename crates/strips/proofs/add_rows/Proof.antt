@@ -1,4 +1,4 @@
--- `sums::strips::add_rows` meets its contract. The loop: the first `at` bytes are those of the sum.
+-- `strips::add_rows` meets its contract. The loop: the first `at` bytes are those of the sum.
 use Rattle.words.specs.Words.{_≡_, refl, sym, ap, ap₂, _∙_, _+_, _≤_, _-_, arith, length, needs}
 use Rattle.memory.specs.Part.{part}
 use Rattle.memory.proofs.Parts.{cut, put, length-part}
@@ -6,10 +6,10 @@ use Rattle.rows.specs.Rows.{addScaled}
 use Rattle.rows.specs.Combination.{coefficient}
 use Rattle.rows.specs.Sums.{rowAt, rowsAdded}
 use Rattle.rows.proofs.Combinations.{length-combined}
-use Rattle.sums.proofs.Ways.{ready-at}
-use Rattle.sums.proofs.Cutting.{done, done-none, done-all, strip-whole, strip-rest}
-use Rattle.sums.proofs.strips.add_rows.Statement.{statement}
-use Rattle.sums.proofs.strips.add_rows.Tie as tie
+use Rattle.strips.proofs.Ways.{ready-at}
+use Rattle.strips.proofs.Cutting.{done, done-none, done-all, strip-whole, strip-rest}
+use Rattle.strips.proofs.add_rows.Statement.{statement}
+use Rattle.strips.proofs.add_rows.Tie as tie
 
 abbrev Inv-loop : tie.InvT-loop
 Inv-loop dst₀ cs mem a s way lists counts order ends end pairs at₀ dst at =

@@ -1,10 +1,10 @@
--- `sums::strips::prepare` meets its contract.
+-- `strips::prepare` meets its contract.
 use Rattle.words.specs.Words.{refl, subst, arith, _≤_, length, needs}
 use Rattle.buckets.specs.Buckets.{weights}
-use Rattle.sums.specs.Ways.{mostRows}
-use Rattle.sums.proofs.Ways.{most-few, prepared-lists, prepared-buckets, prepared-sorted}
-use Rattle.sums.proofs.strips.prepare.Statement.{statement}
-use Rattle.sums.proofs.strips.prepare.Tie as tie
+use Rattle.strips.specs.Ways.{mostRows}
+use Rattle.strips.proofs.Ways.{most-few, prepared-lists, prepared-buckets, prepared-sorted}
+use Rattle.strips.proofs.prepare.Statement.{statement}
+use Rattle.strips.proofs.prepare.Tie as tie
 
 list-pairs-requires : tie.Need-list-pairs-requires
 unfolding mostRows

@@ -1,4 +1,4 @@
--- `sums::strips::add_strip` meets its contract.
+-- `strips::add_strip` meets its contract.
 use Rattle.words.specs.Words.{_≡_, ap, _∙_, sym, ℕ, _+_, _*_, arith, length, replicate, not-true, not-false, needs}
 use Rattle.memory.specs.Number.{Bytes}
 use Rattle.memory.proofs.Parts.{length-part}
@@ -9,10 +9,10 @@ use Rattle.rows.proofs.Combinations.{sum-onto}
 use Rattle.lists.proofs.Named.{pairs-sum, listed-room}
 use Rattle.buckets.specs.Buckets.{weights}
 use Rattle.buckets.proofs.Filling.{length-weights, buckets-sum}
-use Rattle.sums.specs.Ways.{listedFor}
-use Rattle.sums.proofs.Ways.{listed-weights, listed-own}
-use Rattle.sums.proofs.strips.add_strip.Statement.{statement}
-use Rattle.sums.proofs.strips.add_strip.Tie as tie
+use Rattle.strips.specs.Ways.{listedFor}
+use Rattle.strips.proofs.Ways.{listed-weights, listed-own}
+use Rattle.strips.proofs.add_strip.Statement.{statement}
+use Rattle.strips.proofs.add_strip.Tie as tie
 
 add-sum-requires : tie.Need-add-sum-requires
 add-sum-requires c κs =

@@ -3,8 +3,8 @@ use Rattle.words.specs.Words.{_≡_, List, Bool, true, false, _*_, _+_, _<_, _�
 use Rattle.lists.specs.Named.{ListedPairs}
 use Rattle.buckets.specs.Sorted.{SortedHalves}
 use Rattle.buckets.specs.Buckets.{weights}
-use Rattle.sums.specs.declared.strips.Way.{Way}
-use Rattle.sums.specs.declared.strips.Way.the-variants.{Lists, Buckets, SortedBuckets}
+use Rattle.strips.specs.declared.Way.{Way}
+use Rattle.strips.specs.declared.Way.the-variants.{Lists, Buckets, SortedBuckets}
 
 -- whether the rows go into buckets
 unfoldable pub inBuckets : Way → Bool

@@ -1,10 +1,10 @@
--- `sums::strips::fill` meets its contract.
+-- `strips::fill` meets its contract.
 use Rattle.words.specs.Words.{ap, arith, length, needs}
 use Rattle.buckets.proofs.Sorting.{sorted-ordered, sorted-filled}
-use Rattle.sums.specs.Ways.{sorts}
-use Rattle.sums.proofs.Ways.{most-few}
-use Rattle.sums.proofs.strips.fill.Statement.{statement}
-use Rattle.sums.proofs.strips.fill.Tie as tie
+use Rattle.strips.specs.Ways.{sorts}
+use Rattle.strips.proofs.Ways.{most-few}
+use Rattle.strips.proofs.fill.Statement.{statement}
+use Rattle.strips.proofs.fill.Tie as tie
 
 fill-requires : tie.Need-fill-requires
 unfolding sorts

@@ -5,9 +5,9 @@ use Rattle.lists.specs.Named.{ListedPairs}
 use Rattle.buckets.specs.Buckets.{weights}
 use Rattle.buckets.specs.Sorted.{SortedHalves}
 use Rattle.buckets.proofs.Filling.{length-weights}
-use Rattle.sums.specs.Ways.{listedFor, mostRows, inBuckets, Prepared, sorts, Ready}
-use Rattle.sums.specs.declared.strips.Way.{Way}
-use Rattle.sums.specs.declared.strips.Way.the-variants.{Lists, Buckets, SortedBuckets}
+use Rattle.strips.specs.Ways.{listedFor, mostRows, inBuckets, Prepared, sorts, Ready}
+use Rattle.strips.specs.declared.Way.{Way}
+use Rattle.strips.specs.declared.Way.the-variants.{Lists, Buckets, SortedBuckets}
 
 -- what is listed
 pub listed-weights : (way : Way) (cs : List ℕ) → inBuckets way ≡ true → listedFor way cs ≡ weights
