@@ -39,10 +39,10 @@ use Rattle.table.specs.Window as window
 
 -- The equations that a system takes leave it reduced.
 taken_reduced : (w E rise : ℕ) (S T : model.State (Coded E) w) (es : List (model.Row (Coded E) w)) → 0 < E → model.Rref S
-    → decoder.insert_all es (decoder.advance-by rise S) ≡ some T → model.Rref T
+    → decoder.insert_all es (decoder.advance_by rise S) ≡ some T → model.Rref T
 taken_reduced w E rise S T es pos r e =
-    (subst (history.Added-all (laws E pos) (decoder.advance-by rise S) es) e
-    (history.insert_all_added (laws E pos) es (decoder.advance-by rise S) (history.advance_by_rref (laws E pos) rise S r))).0
+    (subst (history.AddedAll (laws E pos) (decoder.advance_by rise S) es) e
+    (history.insert_all_added (laws E pos) es (decoder.advance_by rise S) (history.advance_by_rref (laws E pos) rise S r))).0
 
 -- Memories that are the same from a place on.
 same_past : (a : ℕ) (m m' : List ℕ) → drop a m' ≡ drop a m → (k : ℕ) → a ≤ k → get_or m' k 0 ≡ get_or m k 0

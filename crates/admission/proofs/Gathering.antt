@@ -125,12 +125,12 @@ module _ (at : Location) (kept first : ℕ) (cs : List ℕ) (v : Verdict) (m wor
     outcome = λ b d S es e lies held reduced spells gathered.
         let pos : 0 < E = omega (arith, g.some_symbol) in
         let q : ℕ = b + at.rise in
-        let before = gathered_only w E q kept (row_offset w E kept + w) (decoder.advance-by at.rise S) work work₁ es pos l.only
+        let before = gathered_only w E q kept (row_offset w E kept + w) (decoder.advance_by at.rise S) work work₁ es pos l.only
         (omega (arith, flags_fit w E)) gathered in
         let same = symbol_moved E w w (row w E kept work₁) (row w E kept work) (laid_symbol w E kept first cs work work₁ l) in
         let is : equation w E q (row w E kept work₁) ≡ e = spells (row w E kept work₁) l.laid same in
-        comes_by v q (decoder.advance-by at.rise S) (es ++ (e ∷ []))
-        (subst (λ x. Agrees w E q (decoder.advance-by at.rise S) work' kept (es ++ (x ∷ [])) v) is
+        comes_by v q (decoder.advance_by at.rise S) (es ++ (e ∷ []))
+        (subst (λ x. Agrees w E q (decoder.advance_by at.rise S) work' kept (es ++ (x ∷ [])) v) is
         (a.outcome b at.rise d S es lies.base lies.stay lies.column (omega (arith, lies.some, lies.room)) lies.room held reduced
         l.laid.off before));
   }
@@ -154,7 +154,7 @@ stored_admitted at kept first n cs x m work work₁ work' r e to g size stored a
       outcome = λ b d S es lies held reduced gathered.
           let (l, s) = spelt b d lies in
           a.outcome b (to d) S es (e d) l held reduced (λ t laid v. s t laid (v ∙ stored_is w E kept x work work₁ g size stored))
-          (gathered_only w E (b + at.rise) kept (row_offset w E kept + stride w E) (decoder.advance-by at.rise S) work work₁ es
+          (gathered_only w E (b + at.rise) kept (row_offset w E kept + stride w E) (decoder.advance_by at.rise S) work work₁ es
           (omega (arith, g.some_symbol)) only (omega arith) gathered);
     }
 
@@ -201,7 +201,7 @@ module _ (at : Location) (n : ℕ) (g : ℕ → ℕ → model.Row (Coded at.shap
     works = a.works;
     outcome = λ b d S lies held reduced.
         let e : suc i ≡ i + 1 = omega arith in
-        subst (λ k. Comes at.shape.width at.shape.size (b + at.rise) (decoder.advance-by at.rise S) work₂ (firsts (g d) k) r) e
+        subst (λ k. Comes at.shape.width at.shape.size (b + at.rise) (decoder.advance_by at.rise S) work₂ (firsts (g d) k) r) e
         (a.outcome b d S (firsts (g d) i) lies held reduced (f.outcome b d S lies held reduced));
   }
 
@@ -210,7 +210,7 @@ module _ (at : Location) (n : ℕ) (g : ℕ → ℕ → model.Row (Coded at.shap
     contained = f.contained;
     works = tt;
     outcome = λ b d S lies held reduced.
-        contradiction_stays at.shape.width at.shape.size (decoder.advance-by at.rise S) (g d) i k h (f.outcome b d S lies held reduced);
+        contradiction_stays at.shape.width at.shape.size (decoder.advance_by at.rise S) (g d) i k h (f.outcome b d S lies held reduced);
   }
 
   -- The loop goes on where the equation is not refused, and ends where it is.

@@ -166,7 +166,7 @@ module _ (h : Header) (at : Location) (kept own count had has : ℕ) (others : B
 
   module _ (s : Setting) (t : Joined s) (es : List (model.Row (Coded s.size) s.width)) (is : h ≡ header_from s t) (k : Stands m s t)
       (row : at.shape.oldest ≡ (t.base + at.rise) % s.width) (T : model.State (Coded s.size) s.width)
-      (inserted : decoder.insert_all es (decoder.advance-by at.rise t.window) ≡ some T)
+      (inserted : decoder.insert_all es (decoder.advance_by at.rise t.window) ≡ some T)
       (held : Holds m₁ s (some (record { base = t.base + at.rise; window = T })))
       (counted : count ≡ decoder.newly t (record { base = t.base + at.rise; window = T })) where
     fits : window.Fits s.width s.size m

@@ -18,7 +18,7 @@ use Rattle.coefficients.proofs.Lists.{length-keys, packet_draws_most}
 use Rattle.coefficients.proofs.Fills.{lists_cut}
 use Rattle.holding.specs.declared.Header.{Header}
 use Rattle.holding.specs.Header.{header_in}
-use Rattle.history.specs.History.{Located, repair, Call, repair-call, Reading, located, check, side_of, from_side, working_size, readRepair, reading}
+use Rattle.history.specs.History.{Located, repair, Call, repair-call, Reading, located, check, side_of, from_side, working_size, read_repair, reading}
 use Rattle.admission.specs.declared.packet.Location.{Location}
 use Rattle.admission.specs.declared.packet.LocationFound.TheVariants.{LocationIs, Out}
 use Rattle.admission.specs.Joining.{header_for}
@@ -76,17 +76,17 @@ module _ (p m : List ℕ) (room : ℕ) (h : Header) (has : header_in m ≡ some 
   ks = keys (repair_key p) (length (repair_symbols E p))
 
   -- The packet with its first position, and what the history makes of it at the distance d from the base b.
-  abbrev packetAt : ℕ → Located
-  packetAt x = repair x n (coefficient_lists h.setting p) (repair_symbols E p)
+  abbrev packet_at : ℕ → Located
+  packet_at x = repair x n (coefficient_lists h.setting p) (repair_symbols E p)
 
   abbrev next : (b d : ℕ) → Reading
-  next b d = check (all_ok scheme (density_threshold p) n ks) 10 (located (packetAt (b + d)))
+  next b d = check (all_ok scheme (density_threshold p) n ks) 10 (located (packet_at (b + d)))
 
   enough : leb (working_size h.setting) room ≡ true
   enough = le-leb (working_size h.setting) room lent
 
   pub repair_form_lem : (x : Refusal) → NoRepair x ≡ repair_header_of E p → Failed c m room refusals.Form
-  unfolding reading check readRepair
+  unfolding reading check read_repair
   repair_form_lem x q = failed c m room h has refusals.Form (λ z. omega arith) (λ b. rw (enough, no_form (repair_form E p) E p refl x q))
 
   module _ (f : RepairFields) (read : Repair f ≡ repair_header_of E p) where
@@ -94,12 +94,12 @@ module _ (p m : List ℕ) (room : ℕ) (h : Header) (has : header_in m ≡ some 
     is = fields_are E p f read
 
     pub repair_range : within 1 width f.nss ≡ false → Failed c m room refusals.Range
-    unfolding reading check readRepair
+    unfolding reading check read_repair
     repair_range e = failed c m room h has refusals.Range (λ z. omega arith) (λ b. rw (enough, formed E p f read, rw is at e))
 
     module _ (fits : within 1 width f.nss ≡ true) where
       says : (b : ℕ) → reading h.setting (flows_in m) b room c ≡ from_side f.nss (side_of b (first_esi p)) (next b)
-      unfolding reading check readRepair
+      unfolding reading check read_repair
       says b = rw is (rw (enough, formed E p f read, rw is at fits))
 
       -- The header for the packet.
@@ -138,7 +138,7 @@ module _ (p m : List ℕ) (room : ℕ) (h : Header) (has : header_in m ≡ some 
               rw is at bytes in
               rw (is, z, count_is E p) (lists_cut scheme (density_threshold p) (protected_count p) (repair_key p) (repair_count E p) rest (rw is at drawn))
 
-          located_next : (b : ℕ) → b % 2 ^ 32 ≡ g.esi.0 → reading h.setting (flows_in m) b room c ≡ located (packetAt (b + d))
+          located_next : (b : ℕ) → b % 2 ^ 32 ≡ g.esi.0 → reading h.setting (flows_in m) b room c ≡ located (packet_at (b + d))
           unfolding check
           located_next b q = drawn_next b q ∙ rw (ok_of true drawn)
 
@@ -154,7 +154,7 @@ module _ (p m : List ℕ) (room : ℕ) (h : Header) (has : header_in m ≡ some 
             header = h;
             distance = d;
             passes = passed c m room h has lent _ based-is found (within_bounds 1 width f.nss fits).0 (within_bounds 1 width f.nss fits).1
-                packetAt located_next;
+                packet_at located_next;
             named = ap (λ y. y.nss) is;
             drawn = sym cut;
             symbols = symbols_are E p ∙ ap (λ (k : ℕ). chunks k E (drop 8 p)) (sym (ap (λ y. y.count) is));

@@ -14,7 +14,7 @@ use Rattle.admission.specs.declared.packet.Location.{Location}
 use Rattle.admission.specs.declared.packet.Gathered.{Gathered}
 use Rattle.history.specs.Symbol.{Symbol}
 use Rattle.history.specs.History.{repair}
-use Rattle.history.specs.Model.{packetOf}
+use Rattle.history.specs.Model.{packet_of}
 use Rattle.admission.specs.Steps.{firsts, EquationAdmitted, Admits}
 use Rattle.admission.specs.RepairSteps.{repair_equation, equation_at}
 use Rattle.admission.proofs.Gathering.{stored_admitted, firsts_same, firsts-cons}
@@ -52,7 +52,7 @@ symbol_of_index at kept n i list lists bytes m work work' r e l a = rw (l, e) at
 
 module _ (w E b d n : ℕ) where
   rows-firsts : (cs vs : List (List ℕ)) → length cs ≡ length vs
-      → over (Coded E) w b (packetOf E (repair (b + d) n cs vs)) ≡ firsts (λ k. repair_equation w E n (get_or cs k []) (get_or vs k []) d) (length vs)
+      → over (Coded E) w b (packet_of E (repair (b + d) n cs vs)) ≡ firsts (λ k. repair_equation w E n (get_or cs k []) (get_or vs k []) d) (length vs)
   unfolding packets.repair firsts
   rows-firsts [] [] l = refl
   rows-firsts [] (v ∷ vs) l = absurd (omega arith)
@@ -64,7 +64,7 @@ module _ (w E b d n : ℕ) where
 
   -- The packet's equations are the model's.
   pub repair_equations : (count : ℕ) (lists bytes : List ℕ)
-      → over (Coded E) w b (packetOf E (repair (b + d) n (chunks count n lists) (chunks count E (drop 8 bytes)))) ≡ firsts
+      → over (Coded E) w b (packet_of E (repair (b + d) n (chunks count n lists) (chunks count E (drop 8 bytes)))) ≡ firsts
       (equation_at w E n lists bytes d) count
   repair_equations count lists bytes =
       let cs = chunks count n lists in

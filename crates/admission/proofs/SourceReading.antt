@@ -13,7 +13,7 @@ use Rattle.wire.specs.Flows.{announced, flows_in}
 use Rattle.wire.specs.Headers.{source_fields, source_header_of}
 use Rattle.holding.specs.declared.Header.{Header}
 use Rattle.holding.specs.Header.{header_in}
-use Rattle.history.specs.History.{Located, source, Call, source-call, located, check, side_of, from_side, working_size, readSource, reading}
+use Rattle.history.specs.History.{Located, source, Call, source-call, located, check, side_of, from_side, working_size, read_source, reading}
 use Rattle.admission.specs.declared.packet.Location.{Location}
 use Rattle.admission.specs.declared.packet.LocationFound.TheVariants.{LocationIs, Out}
 use Rattle.admission.specs.Joining.{header_for}
@@ -79,16 +79,16 @@ module _ (flow : ℕ) (p m : List ℕ) (room : ℕ) (h : Header) (has : header_i
   enough = le-leb (working_size h.setting) room lent
 
   pub source_form_lem : source_form p ≡ false → Failed c m room refusals.Form
-  unfolding reading check readSource
+  unfolding reading check read_source
   source_form_lem l = failed c m room h has refusals.Form (λ z. omega arith) (λ b. rw (enough, l))
 
   pub source-stray : source_form p ≡ true → announced (flows_in m) flow ≡ false → Failed c m room refusals.Unannounced
-  unfolding reading check readSource
+  unfolding reading check read_source
   source-stray f l = failed c m room h has refusals.Unannounced (λ z. omega arith) (λ b. rw (enough, f, l))
 
   module _ (f : SourceFields) (reads : Fields p f) (flow-known : announced (flows_in m) flow ≡ true) where
     pub source-long : 65535 < f.len → Failed c m room refusals.Long
-    unfolding reading check readSource
+    unfolding reading check read_source
     source-long l =
         failed c m room h has refusals.Long (λ z. omega arith)
         (λ b. rw (enough, reads.form, flow-known, lt-leb (length (source_adu p)) 65535 (omega (arith, reads.len))))
@@ -101,7 +101,7 @@ module _ (flow : ℕ) (p m : List ℕ) (room : ℕ) (h : Header) (has : header_i
       counted = ap (symbol_count E) (sym reads.len) ∙ sym counts
 
       pub source_many : width < count → Failed c m room refusals.Long
-      unfolding reading check readSource
+      unfolding reading check read_source
       source_many l =
           failed c m room h has refusals.Long (λ z. omega arith)
           (λ b. rw (enough, reads.form, flow-known, short_adu, lt-leb n width (omega (arith, counted))))
@@ -112,7 +112,7 @@ module _ (flow : ℕ) (p m : List ℕ) (room : ℕ) (h : Header) (has : header_i
         q x = source x (source_symbols flow (source_adu p) E)
 
         says : (b : ℕ) → reading h.setting (flows_in m) b room c ≡ from_side count (side_of b (source_esi p)) (λ d. located (q (b + d)))
-        unfolding reading check readSource
+        unfolding reading check read_source
         says b =
             rw (enough, reads.form, flow-known, short_adu, le-leb n width (omega (arith, counted)))
             (ap (λ (k : ℕ). from_side k (side_of b (source_esi p)) (λ d. located (q (b + d)))) counted)

@@ -11,7 +11,7 @@ use Rattle.admission.specs.declared.packet.Location.{Location}
 use Rattle.admission.specs.declared.packet.Gathered.{Gathered}
 use Rattle.history.specs.Symbol.{Symbol, symbol_of}
 use Rattle.history.specs.History.{source}
-use Rattle.history.specs.Model.{packetOf}
+use Rattle.history.specs.Model.{packet_of}
 use Rattle.admission.specs.Steps.{firsts, Lies, EquationAdmitted, Admits}
 use Rattle.admission.specs.SourceSteps.{equation_of}
 use Rattle.admission.proofs.Gathering.{stored_admitted, firsts_same, firsts-cons}
@@ -64,8 +64,8 @@ module _ (E w d n : ℕ) (s : ℕ → Symbol E) where
   abbrev one : ℕ → model.Row (Coded E) w
   one i = decoder.embed (Coded E) w d n (packets.row (Coded E) n (packets.only (Coded E) i) (s i))
 
-  rows-firsts : (m i : ℕ) → map (decoder.embed (Coded E) w d n) (packets.source-rows (Coded E) n m i s) ≡ firsts (λ k. one (i + k)) m
-  unfolding packets.source-rows firsts
+  rows-firsts : (m i : ℕ) → map (decoder.embed (Coded E) w d n) (packets.source_rows (Coded E) n m i s) ≡ firsts (λ k. one (i + k)) m
+  unfolding packets.source_rows firsts
   rows-firsts zero i = refl
   rows-firsts (suc m) i =
       let z : i ≡ i + 0 = omega arith in
@@ -79,7 +79,7 @@ module _ (E w d n : ℕ) (s : ℕ → Symbol E) where
 
 -- The packet's equations are the model's.
 pub source_equations : (w E b d flow : ℕ) (adu : List ℕ)
-    → decoder.over (Coded E) w b (packetOf E (source (b + d) (source_symbols flow adu E))) ≡ firsts (equation_of w E flow adu d) (symbol_count E (length adu))
+    → decoder.over (Coded E) w b (packet_of E (source (b + d) (source_symbols flow adu E))) ≡ firsts (equation_of w E flow adu d) (symbol_count E (length adu))
 unfolding packets.source
 source_equations w E b d flow adu =
     let vs : List (List ℕ) = source_symbols flow adu E in

@@ -99,23 +99,23 @@ module _ (at : Location) where
     pub works : WorksOn w E work' r
     pub outcome : (b d : ℕ) (S : model.State (Coded E) w) (es : List (model.Row (Coded E) w)) (e : model.Row (Coded E) w) → Lies at first (length cs) b d
         → Window w E m b S → model.Rref S → Spells w E (b + at.rise) first cs (symbol_cut_at E w (row w E kept work)) e
-        → packet.Gathered w E (b + at.rise) (decoder.advance-by at.rise S) work kept es
-        → Comes w E (b + at.rise) (decoder.advance-by at.rise S) work' (es ++ (e ∷ [])) r
+        → packet.Gathered w E (b + at.rise) (decoder.advance_by at.rise S) work kept es
+        → Comes w E (b + at.rise) (decoder.advance_by at.rise S) work' (es ++ (e ∷ [])) r
 
   -- The next equation of a packet of n positions, which is e d where these are from the d-th of the window on, has been admitted or refused.
   pub record Admits (n : ℕ) (e : ℕ → model.Row (Coded E) w) (kept : ℕ) (r : Gathered) (m work work' : List ℕ) : Type 0 where
     pub contained : Contained (row_offset w E (w + 1)) work work'
     pub works : WorksOn w E work' r
     pub outcome : (b d : ℕ) (S : model.State (Coded E) w) (es : List (model.Row (Coded E) w)) → Lies at at.first n b d
-        → Window w E m b S → model.Rref S → packet.Gathered w E (b + at.rise) (decoder.advance-by at.rise S) work kept es
-        → Comes w E (b + at.rise) (decoder.advance-by at.rise S) work' (es ++ (e d ∷ [])) r
+        → Window w E m b S → model.Rref S → packet.Gathered w E (b + at.rise) (decoder.advance_by at.rise S) work kept es
+        → Comes w E (b + at.rise) (decoder.advance_by at.rise S) work' (es ++ (e d ∷ [])) r
 
   -- The first i of its equations g d have been admitted, or one of them refused.
   pub record Gathers (n : ℕ) (g : ℕ → ℕ → model.Row (Coded E) w) (i : ℕ) (r : Gathered) (m work work' : List ℕ) : Type 0 where
     pub contained : Contained (row_offset w E (w + 1)) work work'
     pub works : WorksOn w E work' r
     pub outcome : (b d : ℕ) (S : model.State (Coded E) w) → Lies at at.first n b d → Window w E m b S → model.Rref S
-        → Comes w E (b + at.rise) (decoder.advance-by at.rise S) work' (firsts (g d) i) r
+        → Comes w E (b + at.rise) (decoder.advance_by at.rise S) work' (firsts (g d) i) r
 
 -- ---- The state after the packet
 
@@ -150,8 +150,8 @@ pub record Finished (h : Header) (at : Location) (kept count : ℕ) (work m m' :
   pub most : count ≤ kept * 256
   pub outcome : (s : Setting) (t : Joined s) (es : List (model.Row (Coded s.size) s.width)) → h ≡ header_from s t → Stands m s t
       → at.shape.oldest ≡ (t.base + at.rise) % s.width
-      → packet.Gathered s.width s.size (t.base + at.rise) (decoder.advance-by at.rise t.window) work kept es
-      → (T : model.State (Coded s.size) s.width) × (decoder.insert_all es (decoder.advance-by at.rise t.window) ≡ some T)
+      → packet.Gathered s.width s.size (t.base + at.rise) (decoder.advance_by at.rise t.window) work kept es
+      → (T : model.State (Coded s.size) s.width) × (decoder.insert_all es (decoder.advance_by at.rise t.window) ≡ some T)
       × Holds m' s (some (record { base = t.base + at.rise; window = T }))
       × (count ≡ decoder.newly t (record { base = t.base + at.rise; window = T }))
 
@@ -161,8 +161,8 @@ pub record Marked (h : Header) (at : Location) (kept own count : ℕ) (work m m'
   pub most : count ≤ kept * 256
   pub outcome : (s : Setting) (t : Joined s) (es : List (model.Row (Coded s.size) s.width)) → h ≡ header_from s t → Stands m s t
       → at.shape.oldest ≡ (t.base + at.rise) % s.width
-      → packet.Gathered s.width s.size (t.base + at.rise) (decoder.advance-by at.rise t.window) work kept es
-      → (T : model.State (Coded s.size) s.width) × (decoder.insert_all es (decoder.advance-by at.rise t.window) ≡ some T)
+      → packet.Gathered s.width s.size (t.base + at.rise) (decoder.advance_by at.rise t.window) work kept es
+      → (T : model.State (Coded s.size) s.width) × (decoder.insert_all es (decoder.advance_by at.rise t.window) ≡ some T)
       × Holds m' s (some (record { base = t.base + at.rise; window = T }))
       × (count ≡ decoder.newly t (record { base = t.base + at.rise; window = T }))
       × ((M : Starts) → MarksFrom m s t M → MarksFrom m' s (record { base = t.base + at.rise; window = T })

@@ -14,7 +14,7 @@ use wire::{Esi, Refusal};
 
 // Where a packet lies: the window that it brings about, by how much the base rises for it, how many positions stay, and the row of its first
 // position and the distance of that from the new base.
-#[derive(Drop)]
+#[derive(Clone, Copy)]
 pub struct Location {
     pub shape: Shape,
     pub rise: usize,
@@ -24,7 +24,7 @@ pub struct Location {
 }
 
 // Where a packet lies, or why it is refused.
-#[derive(Drop)]
+#[derive(Clone, Copy)]
 pub enum LocationFound {
     LocationIs(Location),
     Out(Refusal),
@@ -32,7 +32,7 @@ pub enum LocationFound {
 
 // A packet that passed its checks: the header for it, where it lies, how many positions it names, how many symbols it has, and the draws that its
 // coefficients took.
-#[derive(Drop)]
+#[derive(Clone, Copy)]
 pub struct Passed {
     pub header: Header,
     pub location: Location,
@@ -42,14 +42,14 @@ pub struct Passed {
 }
 
 // What reading a packet finds: it passed its checks, or why it is refused.
-#[derive(Drop)]
+#[derive(Clone, Copy)]
 pub enum Read {
     Located(Passed),
     Fails(Refusal),
 }
 
 // A packet's equations agree with the state, and so many rows of working memory are kept of them; or they contradict it.
-#[derive(Drop)]
+#[derive(Clone, Copy)]
 pub enum Gathered {
     All(usize),
     Contradiction,

@@ -5,7 +5,7 @@ use Rattle.wire.specs.declared.Setting.{Setting}
 use Rattle.receiver.specs.declared.PacketAnswer.{PacketAnswer}
 use Rattle.receiver.specs.declared.PacketAnswer.TheVariants.{Accepted, NotAccepted}
 use Rattle.history.specs.History.{Call, source-call, repair-call}
-use Rattle.history.specs.Model.{State, Outcome, refused, done, said_of, stateAfter, receiving}
+use Rattle.history.specs.Model.{State, Outcome, refused, done, said_of, state_after, receiving}
 use Rattle.wire.specs.Answers.{said}
 use Rattle.wire.specs.Flows.{all_flows}
 use Rattle.receiver.specs.Promises.{answer_of, Draws, Follows, PacketAnswered}
@@ -18,7 +18,7 @@ use Rattle.lines.specs.Inner.{CallRead}
 use Rattle.lines.specs.Reading.{call_in}
 use Rattle.records.specs.declared.Record.{Record}
 use Rattle.records.specs.Records.{room}
-use Rattle.records.specs.Replay.{record_of, malformed, recordAt, stateAt}
+use Rattle.records.specs.Replay.{record_of, malformed, record_at, state_at}
 use Rattle.records.specs.Standing.{Kept}
 use Rattle.answering.specs.Inner.{Answered}
 
@@ -35,7 +35,7 @@ answered_other have line m h = record {
   small = omega arith;
   other = λ l k e. refl;
   answer = λ l s t k held.
-      subst (λ o. (malformed ≡ recordAt s t o) × HoldsWith m s all_flows (stateAt s t o)) (sym (h l k)) (refl, held);
+      subst (λ o. (malformed ≡ record_at s t o) × HoldsWith m s all_flows (state_at s t o)) (sym (h l k)) (refl, held);
 }
 
 -- what a packet line said
@@ -54,7 +54,7 @@ spoken_malformed x e h = let g = subst (CallRead _ _) e h in sym g.call
 
 -- what a call did
 did : (s : Setting) (t : State s) (o : Outcome s) (m m' : List ℕ) (a : PacketAnswer) → Follows receiver_layout s all_flows o m m' (answer_of a)
-    → HoldsWith m s all_flows t → (said (answer_of a) ≡ said_of o) × HoldsWith m' s all_flows (stateAfter t o)
+    → HoldsWith m s all_flows t → (said (answer_of a) ≡ said_of o) × HoldsWith m' s all_flows (state_after t o)
 did s t (refused n) m m' a (e, q) h = (e, subst (λ x. HoldsWith x s all_flows t) (sym q) h)
 did s t (done n t') m m' a p h = p
 
@@ -71,5 +71,5 @@ answered_call have line m m' v v' c a r h lent p e = record {
   answer = λ l s t k held.
       let f = subst (λ x. Follows receiver_layout s all_flows (receiving s all_flows t x c) m m' (answer_of a)) lent (p.received.follows s all_flows t held) in
       let (same, after) = did s t (receiving s all_flows t room c) m m' a f held in
-      subst (λ o. (r ≡ recordAt s t o) × HoldsWith m' s all_flows (stateAt s t o)) (sym (h l k)) (e ∙ ap record_of same, after);
+      subst (λ o. (r ≡ record_at s t o) × HoldsWith m' s all_flows (state_at s t o)) (sym (h l k)) (e ∙ ap record_of same, after);
 }

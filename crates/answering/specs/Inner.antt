@@ -6,7 +6,7 @@ use Rattle.history.specs.Model.{State, opened}
 use Rattle.holding.specs.Layout.{HoldsWith}
 use Rattle.lines.specs.Reading.{call_in}
 use Rattle.records.specs.declared.Record.{Record}
-use Rattle.records.specs.Replay.{recordAt, stateAt, setting_named}
+use Rattle.records.specs.Replay.{record_at, state_at, setting_named}
 use Rattle.records.specs.Standing.{Kept}
 
 -- more bytes of a line are kept
@@ -27,4 +27,4 @@ pub record Answered (have : ℕ) (line m m' : List ℕ) (r : Record) : Type 0 wh
   -- a line that is not of the form does not touch the receiver
   pub other : (l : List ℕ) → Kept have line l → call_in l ≡ none → m' ≡ m
   pub answer : (l : List ℕ) (s : Setting) (t : State s) → Kept have line l → HoldsWith m s all_flows t
-      → (r ≡ recordAt s t (call_in l)) × HoldsWith m' s all_flows (stateAt s t (call_in l))
+      → (r ≡ record_at s t (call_in l)) × HoldsWith m' s all_flows (state_at s t (call_in l))

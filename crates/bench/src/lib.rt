@@ -1,5 +1,7 @@
 // The row operations, the send order of a grid, and the calls of sender, receiver and a block's two ends under C names, for the drivers of bench/. A row
 // operation whose lengths do not fit does nothing.
+#![tactic(auto)]
+
 ghost use Rattle.words.specs.Words.{◌≡◌, length, ◌<◌};
 ghost use Rattle.rows.specs.Rows.{add_scaled};
 ghost use Rattle.table.specs.Window.{Fits};

@@ -1,5 +1,7 @@
 // Prints the bench sheet of document 01, C1 to C12, as the code computes them: a line for each case, packets and symbols in hexadecimal.
 // C10 begins after a packet at ESI 0 (document 02, No. 2). All flows are announced (No. 7).
+#![tactic(auto)]
+
 ghost use Rattle.words.specs.Words.{◌≡◌, length};
 
 mod receiving;

@@ -11,8 +11,8 @@ use Rattle.rows.proofs.Combinations.{length-tabulate}
 use Rattle.decoder.specs.Tuples.{Byte}
 use Rattle.decoder.specs.Bytes.{byte, Coded}
 use Rattle.decoder.specs.Model.{Row, State, Rref, insert, known}
-use Rattle.decoder.specs.Receiver.{and_then, is_new, count_new, advance-by, insert_all, newly}
-use Rattle.decoder.specs.Chain.{place-rows}
+use Rattle.decoder.specs.Receiver.{and_then, is_new, count_new, advance_by, insert_all, newly}
+use Rattle.decoder.specs.Chain.{place_rows}
 use Rattle.decoder.specs.Table.{Line, read}
 use Rattle.table.specs.Window.{header_size, stride, row_offset, row, line, Window, Kept}
 use Rattle.table.specs.Packet.{Works}
@@ -144,13 +144,13 @@ module _ (k E : ℕ) (m v v' : List ℕ) (g : Works k E 0 v) where
     row-only = only_wider (row_offset k E 0 + (k + E + 1)) (row_offset k E 0 + stride k E) (omega (arith, flags_fit k E)) a.only
 
     agreed : (S : State (Coded E) k) → Window k E m 0 S → Rref S → Agrees k E 0 S v' 0 (first_row k E v ∷ []) x
-    unfolding advance-by
+    unfolding advance_by
     agreed S held reduced =
         a.outcome 0 0 0 S [] (zero-mod k) (omega arith) (zero-mod k) g.some_width (omega arith) held reduced (spans k (row k E 0 v))
         (gathered_none k E 0 S v (omega (arith, g.some_symbol)))
 
   pub inserted_kept : (n : ℕ) (m' : List ℕ) → Admitted k E 0 k 0 0 k verdict.Kept m v v' → Committed k E 0 0 1 n v' m m' → Inserted k E m m' v v' (News n)
-  unfolding advance-by
+  unfolding advance_by
   inserted_kept n m' a c = record {
     kept = c.unchanged;
     only = row-only verdict.Kept a;
@@ -164,7 +164,7 @@ module _ (k E : ℕ) (m v v' : List ℕ) (g : Works k E 0 v) where
           (T, sym (insert_one E k S (first_row k E v)) ∙ i, w, q)
 
   pub inserted_implied : Admitted k E 0 k 0 0 k verdict.Implied m v v' → Inserted k E m m v v' (News 0)
-  unfolding place-rows newly
+  unfolding place_rows newly
   inserted_implied a = record {
     kept = kept_refl;
     only = row-only verdict.Implied a;

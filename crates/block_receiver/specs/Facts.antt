@@ -10,7 +10,7 @@ use Rattle.history.specs.Computing.{computing}
 use Rattle.interpolation.specs.Lagrange.{others, term, lagrange, lagranges}
 use Rattle.blocks.specs.declared.Block.{Block}
 use Rattle.block_receiver.specs.Reading.{Reading, fails, located, source_check, repair_check, reading}
-use Rattle.block_receiver.specs.Model.{System, opened, said_of, stateAfter, receiving, finding, origins_after}
+use Rattle.block_receiver.specs.Model.{System, opened, said_of, state_after, receiving, finding, origins_after}
 
 abbrev block : Block
 block = record { size = 4; k = 2; total = 4; number = 0x010203 }
@@ -90,7 +90,7 @@ abbrev comes : System block → Origins → List Said → List Call → Outcome
 comes S H answers [] = record { answers = answers; sights = map (λ (e : ℕ). sight H (finding block S e)) (0 ∷ 1 ∷ 2 ∷ []) }
 comes S H answers (c ∷ cs) =
     let o = receiving block S 129 c in
-    comes (stateAfter S o) (origins_after block (reading block 129 c) o H) (answers ++ (said_of o ∷ [])) cs
+    comes (state_after S o) (origins_after block (reading block 129 c) o H) (answers ++ (said_of o ∷ [])) cs
 
 abbrev after : List Call → Outcome
 after cs = comes (opened block) unheard [] cs

@@ -31,9 +31,9 @@ module _ {b : Block} where
   said_of (refused n) = refusal n
   said_of (done n S) = value n
 
-  abbrev pub stateAfter : System b → Outcome b → System b
-  stateAfter S (refused n) = S
-  stateAfter S (done n T) = T
+  abbrev pub state_after : System b → Outcome b → System b
+  state_after S (refused n) = S
+  state_after S (done n T) = T
 
 module _ (b : Block) where
   abbrev pub added : System b → Option (System b) → Outcome b

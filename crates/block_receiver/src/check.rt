@@ -10,7 +10,7 @@ use holding::front;
 use wire::Refusal;
 
 // The ESI of a packet that passes the checks of its form, or the refusal of the first that fails.
-#[derive(Drop)]
+#[derive(Clone, Copy)]
 pub enum Checked {
     Good(usize),
     Bad(Refusal),

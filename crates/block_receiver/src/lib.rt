@@ -1,6 +1,8 @@
 // A block that is recovered (RFC 6865 with the code of RFC 5510; document 02, No. 9): opening, the two packet calls, and the calls that show a symbol.
 // Its packets are equations of its k source symbols, in the memory of a receiver of width k: the positions are 0 to k - 1, so the base is 0 and no row
 // leaves.
+#![tactic(auto)]
+
 ghost use Rattle.history.specs.History.{source-call, repair-call};
 ghost use Rattle.block_receiver.specs.Promises.{Opened, PacketAnswered, SymbolShown, PartShown, PlaceAnswered};
 ghost use Rattle.block_receiver.specs.Layout.{block_layout};

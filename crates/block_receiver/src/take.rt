@@ -14,7 +14,7 @@ use table::Shape;
 use wire::Refusal;
 
 // What becomes of an equation: how many source symbols have become known by it; or it contradicts those before.
-#[derive(Drop)]
+#[derive(Clone, Copy)]
 pub enum Taken {
     News(usize),
     Contradicts,

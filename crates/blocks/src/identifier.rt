@@ -4,7 +4,7 @@ ghost use Rattle.words.specs.Words.{◌≡◌, ◌≤◌, length, ◌+◌, ◌<�
 ghost use Rattle.memory.specs.Part.{splice};
 ghost use Rattle.blocks.specs.Identifiers.{identifier_at, identifier_bytes};
 
-#[derive(Drop)]
+#[derive(Clone, Copy)]
 pub struct Identifier {
     pub block: u32,
     pub esi: u8,

@@ -1,5 +1,7 @@
 // A block of RFC 6865 with the code of RFC 5510 (document 02, No. 9): what both its ends share. The numbers that they are opened with, how their
 // memory keeps them, and the identifiers of its packets.
+#![tactic(auto)]
+
 ghost use Rattle.words.specs.Words.{◌≡◌, ◌≤◌, length, ◌<◌};
 ghost use Rattle.memory.specs.Part.{splice};
 ghost use Rattle.blocks.specs.Block.{has_values, block_of, setting_for, Valid};
@@ -11,7 +13,7 @@ use holding::front;
 use wire::{Checked, Refusal, Scheme, Setting};
 
 // A block: the bytes in a symbol (E), how many source symbols it has, how many symbols in all, and its number.
-#[derive(Drop)]
+#[derive(Clone, Copy)]
 pub struct Block {
     pub size: usize,
     pub k: usize,
@@ -20,14 +22,14 @@ pub struct Block {
 }
 
 // The block that the numbers of an opening name, or their refusal.
-#[derive(Drop)]
+#[derive(Clone, Copy)]
 pub enum Named {
     Good(Block),
     Bad(Refusal),
 }
 
 // The block that a memory was opened for, if it was.
-#[derive(Drop)]
+#[derive(Clone, Copy)]
 pub enum Found {
     BlockIs(Block),
     NoBlock,

@@ -1,6 +1,8 @@
 // Rows in buckets of 64 bytes: bucket v, for v below 16, is the sum of the rows whose coefficients have v as their low half, and bucket 16 + v
 // that of the rows whose coefficients have v as their high half. The sum of the rows, each times its coefficient, is that of the buckets, each
 // times its weight: v, and 16 * v.
+#![tactic(auto)]
+
 ghost use Rattle.words.specs.Words.{◌≡◌, ℕ, ◌+◌, ◌*◌, ◌≤◌, ◌<◌, length, replicate};
 ghost use Rattle.memory.specs.Part.{part, splice};
 ghost use Rattle.rows.specs.Rows.{add_scaled};

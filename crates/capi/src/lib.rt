@@ -1,6 +1,8 @@
 // The calls of sender and receiver, of a block's two ends, that for the window, those that rearrange a grid, and those that announce flows, under C names
 // (include/rlc8681.h): each takes numbers, slices and the 32 bytes of the flows, that for the window a number to write, and answers one signed number; those
 // that announce flows answer nothing. What a function promises is the promise of the call that it wraps, of the answer that its number codes.
+#![tactic(auto)]
+
 ghost use Rattle.words.specs.Words.{◌≡◌};
 ghost use Rattle.latency.specs.Promises.{WindowAnswered};
 ghost use Rattle.interleave.specs.Promises.{Interleaves, Deinterleaves};

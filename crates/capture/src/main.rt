@@ -1,5 +1,7 @@
 // Works through a capture on standard input and prints what the receiver answered (document 02, No. 4). All but reading and writing is done by the
 // library `replay`.
+#![tactic(auto)]
+
 ghost use Rattle.words.specs.Words.{◌≡◌, length};
 ghost use Rattle.capture.specs.Going.{Went};
 
@@ -7,7 +9,7 @@ use libc::{STDERR_FILENO, STDIN_FILENO, STDOUT_FILENO};
 use records::Progress;
 
 // How far the capture has come, whether more of the input is to be read, and whether something could not be printed.
-#[derive(Drop)]
+#[derive(Clone, Copy)]
 struct Heard {
     progress: Progress,
     more: bool,

@@ -48,7 +48,7 @@ module _ (s : Setting) (flows : List ℕ) where
   -- All of them.
   pub keeps_on : (l : Log) (ts : List Step) (q : Located) → Memᴰ q l → Memᴰ q (goes_on s flows l ts)
   keeps_on l [] q k = k
-  keeps_on l (t ∷ ts) q k = keeps_on _ ts q (keeps l q (read s flows l t) (said t.answer) k)
+  keeps_on l (t ∷ ts) q k = keeps_on (logged s l (read s flows l t) (said t.answer)) ts q (keeps l q (read s flows l t) (said t.answer) k)
 
   takes_on : (l : Log) (before : List Step) (t : Step) (after : List Step) (q : Located) → read s flows (goes_on s flows l before) t ≡ located q
       → IsValue (said t.answer) → Memᴰ q (goes_on s flows l (before ++ (t ∷ after)))

@@ -3,23 +3,23 @@ use Rattle.words.specs.Words.{◌≡◌, arith, ℕ, ◌≤◌, ◌+◌, List, l
 use Rattle.words.specs.Words.{length-take, get_or-drop, get_or-append, ext_get_or, take-append_seam, get_or-take}
 use lib.Seq.{drop_at, get_or-append_seam}
 use Rattle.history.specs.Symbol.{bytes_of, symbol_of}
-use Rattle.history.specs.History.{Filling, symbolsAt}
+use Rattle.history.specs.History.{Filling, symbols_at}
 use Rattle.history.proofs.Says.{bytes_symbol, length_at, get_d_at}
 use Rattle.sender.specs.Claims.{AreSymbols}
 use Rattle.claims.specs.Carrying.{Carries}
 
 -- The bytes of a stretch of positions are the stretch of symbols that lies there.
 pub carried_stretch : (E join offset : ℕ) (all : List (List ℕ)) (f : Filling E) → Carries E join offset all f → (p n : ℕ) → join ≤ p
-    → p + offset + n ≤ length all → symbolsAt E f p n ≡ take n (drop (p + offset) all)
+    → p + offset + n ≤ length all → symbols_at E f p n ≡ take n (drop (p + offset) all)
 carried_stretch E join offset all f c p n j h =
-    let k : length (symbolsAt E f p n) ≡ n = length_at E f p n in
-    ext_get_or [] (symbolsAt E f p n) (take n (drop (p + offset) all)) (k ∙ simp (length-take, length-drop) (omega arith))
+    let k : length (symbols_at E f p n) ≡ n = length_at E f p n in
+    ext_get_or [] (symbols_at E f p n) (take n (drop (p + offset) all)) (k ∙ simp (length-take, length-drop) (omega arith))
     (λ i l.
     get_d_at E f p n i (omega arith) ∙ c (p + i) (omega arith) (omega arith)
     ∙ sym (get_or-take n (drop (p + offset) all) i [] (omega arith) ∙ get_or-drop (p + offset) all i [] ∙ ap (λ j. get_or all j []) (omega arith)))
 
 pub stretch : (E join offset : ℕ) (f : Filling E) (before ys after all : List (List ℕ)) → all ≡ before ++ (ys ++ after) → Carries E join offset all f
-    → (p : ℕ) → join ≤ p → p + offset ≡ length before → symbolsAt E f p (length ys) ≡ ys
+    → (p : ℕ) → join ≤ p → p + offset ≡ length before → symbols_at E f p (length ys) ≡ ys
 stretch E join offset f before ys after all e c p j o =
     let n : length all ≡ length before + (length ys + length after)
     = ap length e ∙ length-append before (ys ++ after) ∙ ap (λ (i : ℕ). length before + i) (length-append ys after) in

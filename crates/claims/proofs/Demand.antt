@@ -25,7 +25,7 @@ use Rattle.history.specs.Symbol.{Symbol, bytes_of}
 use Rattle.history.specs.History.{IsValue, Located, Filling, All, Known, located, reading, Log, fresh, OfBytes, esi_of, base_of, logged, Judged}
 use Rattle.history.specs.History.{halfway}
 use Rattle.wire.specs.Answers.{value, refusal, said}
-use Rattle.history.specs.Model.{Joined, State, opened, found_by, Outcome, refused, done, said_of, stateAfter, responds, answering, receiving, Finding, shows}
+use Rattle.history.specs.Model.{Joined, State, opened, found_by, Outcome, refused, done, said_of, state_after, responds, answering, receiving, Finding, shows}
 use Rattle.history.specs.Model.{hides, shown, finding}
 use Rattle.receiver.specs.Promises.{Layout, opening, Opened, Follows, Received, Finds, SymbolAnswered, Shows, PartShown}
 use Rattle.history.proofs.Answers.{Tracks, TracksFrom, Passes, base_in, base_found, judged, known_exactly, known-value, tracks_consistent, fresh_tracks}
@@ -50,7 +50,7 @@ module _ (L : Layout) (s : Setting) (flows : List ℕ) (v : Valid s) where
   -- ---- The calls
 
   did : (m m' : List ℕ) (a : Answer) (t : State s) (o : Outcome s) → Follows L s flows o m m' a → L.Holds m s flows t
-      → (said a ≡ said_of o) × L.Holds m' s flows (stateAfter t o)
+      → (said a ≡ said_of o) × L.Holds m' s flows (state_after t o)
   did m m' a t (refused n) (e, q) h = (e, subst (λ x. L.Holds x s flows t) (sym q) h)
   did m m' a t (done n t') p h = p
 
@@ -71,7 +71,7 @@ module _ (L : Layout) (s : Setting) (flows : List ℕ) (v : Valid s) where
       → Received L t.call m t.memory t.working t.left t.answer
       → let o = receiving s flows x (length t.working) t.call in
       (said t.answer ≡ said_of o) × Judged s l (read s flows l t) (said t.answer)
-      × Tracks s some_bytes (logged s l (read s flows l t) (said t.answer)) (stateAfter x o) × L.Holds t.memory s flows (stateAfter x o)
+      × Tracks s some_bytes (logged s l (read s flows l t) (said t.answer)) (state_after x o) × L.Holds t.memory s flows (state_after x o)
   unfolding answering
   called m l t x held k b p =
       let j = found_by s x (esi_of t.call) in
@@ -79,16 +79,16 @@ module _ (L : Layout) (s : Setting) (flows : List ℕ) (v : Valid s) where
       let same : r ≡ read s flows l t = read_found l t x k in
       let h = judged s some_bytes l x (esi_of t.call) r k (read_passes l t x k b) in
       let (e, z) = did m t.memory t.answer x (responds s j r) (p.follows s flows x held) held in
-      let i = subst (λ a. Judged s l r a × Tracks s some_bytes (logged s l r a) (stateAfter x (responds s j r))) (sym e) h in
+      let i = subst (λ a. Judged s l r a × Tracks s some_bytes (logged s l r a) (state_after x (responds s j r))) (sym e) h in
       let (g, n) =
-      subst (λ y. Judged s l y (said t.answer) × Tracks s some_bytes (logged s l y (said t.answer)) (stateAfter x (responds s j r))) same i in
+      subst (λ y. Judged s l y (said t.answer) × Tracks s some_bytes (logged s l y (said t.answer)) (state_after x (responds s j r))) same i in
       (e, g, n, z)
 
   pub step : (m : List ℕ) (l : Log) (t : Step) → Stands m l → OfBytes t.call → Received L t.call m t.memory t.working t.left t.answer
       → Judged s l (read s flows l t) (said t.answer) × Stands t.memory (logged s l (read s flows l t) (said t.answer))
   step m l t g b p =
       let (e, j, n, z) = called m l t g.state g.held g.tracks b p in
-      (j, record { state = stateAfter g.state (receiving s flows g.state (length t.working) t.call); held = z; tracks = n })
+      (j, record { state = state_after g.state (receiving s flows g.state (length t.working) t.call); held = z; tracks = n })
 
   pub stands : (ts : List Step) (m : List ℕ) (l : Log) → Stands m l → Run L m ts → Stands (final m ts) (goes_on s flows l ts)
   stands [] m l g p = g

@@ -15,8 +15,8 @@ use Rattle.starts.specs.Starts.{Starts, nowhere, seen}
 use Rattle.starts.proofs.Handing.{flow_handed, adu-of, withheld, handing_exactly}
 use Rattle.wire.specs.declared.Answer.{Answer}
 use Rattle.wire.specs.Answers.{value, said}
-use Rattle.history.specs.History.{Located, reading, base_for, Log, fresh, base_of, OfBytes, esi_of, logged, Start, symbolsAt}
-use Rattle.history.specs.Model.{Joined, State, opened, found_by, stateAfter, responds, answering, marking, aduAt}
+use Rattle.history.specs.History.{Located, reading, base_for, Log, fresh, base_of, OfBytes, esi_of, logged, Start, symbols_at}
+use Rattle.history.specs.Model.{Joined, State, opened, found_by, state_after, responds, answering, marking, adu_at}
 use Rattle.receiver.specs.Promises.{Layout, Opened, Received, AduAnswered}
 use Rattle.history.proofs.Answers.{Tracks, TracksFrom, base_in, fresh_tracks}
 use Rattle.history.proofs.Sides.{limits, adu-inside, adu-past, adu_behind}
@@ -24,7 +24,7 @@ use Rattle.history.proofs.Starting.{Sees, shown-whole, unseen, shows_held, held_
 use Rattle.history.proofs.Starting.{tracks_sees, marking_tracks}
 use Rattle.claims.specs.Run.{Step, Run, final, read, goes_on, history}
 use Rattle.claims.specs.Demand.{esi}
-use Rattle.claims.specs.Handing.{Told, HoldsAdu, Handed-out, HandingTold, HandsOut}
+use Rattle.claims.specs.Handing.{Told, HoldsAdu, IsHandedOut, HandingTold, HandsOut}
 use Rattle.claims.proofs.Demand.{some_bytes, read_found, read_passes, called, had_setting}
 
 -- ---- What a call returned, and what it handed out
@@ -86,7 +86,7 @@ module _ (s : Setting) (flows : List ℕ) (v : Valid s) (qs : List Located) (bas
                 record {
                   long = u.long;
                   inside = omega (arith, i, n);
-                  held = λ f a. ap (symbolsAt E f (base + d)) (sym n) ∙ shows_held E qs base see sees d (source_symbols flow adu E) u.symbols f a;
+                  held = λ f a. ap (symbols_at E f (base + d)) (sym n) ∙ shows_held E qs base see sees d (source_symbols flow adu E) u.symbols f a;
                 },
                 u.flow_announced,
                 u.fits,
@@ -97,7 +97,7 @@ module _ (s : Setting) (flows : List ℕ) (v : Valid s) (qs : List Located) (bas
             short = omega (arith, h.inside);
             flow_announced = k;
             fits = r;
-            symbols = held_shows E qs base see sees d (source_symbols flow adu E) (λ f a. ap (symbolsAt E f (base + d)) n ∙ h.held f a);
+            symbols = held_shows E qs base see sees d (source_symbols flow adu E) (λ f a. ap (symbols_at E f (base + d)) n ∙ h.held f a);
           }),
         )
 
@@ -126,7 +126,7 @@ module _ (L : Layout) (s : Setting) (flows : List ℕ) (v : Valid s) where
       let (e, _, n, z) = called L s flows v m l t x g.held g.tracks b p in
       let k = marking_tracks s (some_bytes L s flows v) l x (esi_of t.call) r M g.tracks (read_passes L s flows v l t x g.tracks b) g.begun in
       record {
-        state = stateAfter x (responds s j r);
+        state = state_after x (responds s j r);
         held = z;
         tracks = n;
         starts = marking s j M r (responds s j r);
@@ -154,7 +154,7 @@ module _ (L : Layout) (s : Setting) (flows : List ℕ) (v : Valid s) where
 
   adu-before : (m : List ℕ) (M : Starts) → L.Holds m s flows none → L.Marks m s none M → (e : ℕ) (out out' : List ℕ) (a : Handed)
       → AduAnswered L m e out out' a → HandedAs (withholds 12) out out' a
-  unfolding aduAt
+  unfolding adu_at
   adu-before m M h k e out out' a p = p.hands s flows none M h k
 
   module _ (m : List ℕ) (qs : List Located) (t : Joined s) (held : L.Holds m s flows (some t)) (tracks : TracksFrom s (some_bytes L s flows v) qs t)
@@ -166,7 +166,7 @@ module _ (L : Layout) (s : Setting) (flows : List ℕ) (v : Valid s) where
     sees = tracks_sees s (some_bytes L s flows v) qs t tracks
 
     -- What it came to.
-    answered : (d : ℕ) (out out' : List ℕ) (a : Handed) (h : Handing) → aduAt s flows (some t) M (length out) ((t.base + d) % 2 ^ 32) ≡ h
+    answered : (d : ℕ) (out out' : List ℕ) (a : Handed) (h : Handing) → adu_at s flows (some t) M (length out) ((t.base + d) % 2 ^ 32) ≡ h
         → AduAnswered L m (esi (t.base + d)) out out' a → HandedAs h out out' a
     answered d out out' a h e p = subst (λ x. HandedAs x out out' a) e (p.hands s flows (some t) M held marks)
 
@@ -177,7 +177,7 @@ module _ (L : Layout) (s : Setting) (flows : List ℕ) (v : Valid s) where
         answered d out out' a (handing E width flows (length out) M see d)
         (adu-inside s flows t M (length out) d (omega (arith, limits)) (omega (arith, limits)) k) p
 
-    handed_out : Handed-out L s flows m qs t.base
+    handed_out : IsHandedOut L s flows m qs t.base
     handed_out =
         let outside = seen-outside E width t.window in
         record {
@@ -206,11 +206,11 @@ module _ (L : Layout) (s : Setting) (flows : List ℕ) (v : Valid s) where
       fresh-one (some t) h k n = absurd (none-ne-some t.base (sym n))
 
       joined-one : (b : ℕ) → base_of s l ≡ some b → (x : State s) → L.Holds m s flows x → L.Marks m s x g.starts
-          → base_in s (some_bytes L s flows v) x ≡ some b → TracksFrom s (some_bytes L s flows v) l (found_by s x b) → Handed-out L s flows m l b
+          → base_in s (some_bytes L s flows v) x ≡ some b → TracksFrom s (some_bytes L s flows v) l (found_by s x b) → IsHandedOut L s flows m l b
       joined-one b e none h k n f = absurd (none-ne-some b n)
       joined-one b e (some t) h k n f =
           let i : b ≡ t.base = sym (some-injective _ _ n) in
-          subst (Handed-out L s flows m l) (sym i)
+          subst (IsHandedOut L s flows m l) (sym i)
           (handed_out m l t h f g.starts k
           (subst (λ y. AreStarts s l y g.starts) (ap (λ o. base_for o b) e ∙ i) (g.begun b)))
 

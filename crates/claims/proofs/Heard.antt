@@ -11,8 +11,8 @@ use Rattle.starts.specs.declared.Handed.{Handed}
 use Rattle.starts.specs.declared.Handed.TheVariants.{Adu}
 use Rattle.starts.proofs.Chaining.{symbols-some}
 use Rattle.history.specs.Symbol.{bytes_of, symbol_of}
-use Rattle.history.specs.History.{Filling, symbolsAt, Located, source, repair, Satisfied, All, Consistent, Known, Reading, fails, located, first, esi_of}
-use Rattle.history.specs.History.{readSource, read_packet, base_for, Log, fresh, IsValue, raised, base_of, logged, Spanned, MarkedBy, already, later, Start}
+use Rattle.history.specs.History.{Filling, symbols_at, Located, source, repair, Satisfied, All, Consistent, Known, Reading, fails, located, first, esi_of}
+use Rattle.history.specs.History.{read_source, read_packet, base_for, Log, fresh, IsValue, raised, base_of, logged, Spanned, MarkedBy, already, later, Start}
 use Rattle.wire.specs.Answers.{Said, value, refusal, said}
 use Rattle.receiver.specs.Promises.{Layout, AduAnswered}
 use Rattle.history.proofs.Says.{symbol_bytes}
@@ -20,7 +20,7 @@ use Rattle.history.proofs.Readings.{check_passed, source-read, reading_passed}
 use Rattle.history.proofs.Starting.{start_spanned}
 use Rattle.claims.specs.Run.{Step, read, goes_on, history}
 use Rattle.claims.specs.Demand.{esi}
-use Rattle.claims.specs.Handing.{HoldsAdu, Handed-out}
+use Rattle.claims.specs.Handing.{HoldsAdu, IsHandedOut}
 use Rattle.claims.specs.Heard.{GoesOn, Heard, HeardHanded}
 use Rattle.claims.proofs.SentAdus.{first_here, length_here}
 
@@ -104,7 +104,7 @@ heard s flows ts newer older q e p n b i h =
 
 -- An ADU whose symbols are those of an accepted source packet.
 held_handed : (L : Layout) (s : Setting) (flows : List ℕ) → Valid s → (ts : List Step) (m : List ℕ) (base : ℕ) → base_of s (history s flows ts) ≡ some base
-    → Handed-out L s flows m (history s flows ts) base
+    → IsHandedOut L s flows m (history s flows ts) base
     → (newer older : List Located) (p flow : ℕ) (adu : List ℕ) → length adu ≤ 65535 → announced flows flow ≡ true
     → history s flows ts ≡ newer ++ (source p (source_symbols flow adu s.size) ∷ older) → base ≤ p
     → (out out' : List ℕ) (a : Handed) → AduAnswered L m (esi p) out out' a → length adu ≤ length out
@@ -125,7 +125,7 @@ held_handed L s flows v ts m base b g newer older p flow adu short known e h out
     let held : HoldsAdu s qs base p flow adu = record {
       long = short;
       inside = omega (arith, count, r);
-      held = λ f c. ap (symbolsAt E f p) (sym count) ∙ satisfied s newer older q f (subst (λ x. All E x f) e c);
+      held = λ f c. ap (symbols_at E f p) (sym count) ∙ satisfied s newer older q f (subst (λ x. All E x f) e c);
     } in
     ((g.calls d (omega (arith, inside, v.width_most))).handed inside out out' a (subst (λ x. AduAnswered L m (esi x) out out' a) (sym here) k) flow adu).1
     (subst (λ x. Start s qs x × HoldsAdu s qs base x flow adu × (announced flows flow ≡ true) × (length adu ≤ length out)) (sym here)
@@ -160,9 +160,9 @@ module _ (s : Setting) (flows : List ℕ) where
   takes (u ∷ before) t after l q e h = takes before t after _ q e h
 
   -- An ADU that was read is of an announced flow, and short.
-  read_short : (base flow : ℕ) (p : List ℕ) (q : Located) → readSource s flows base flow p ≡ located q
+  read_short : (base flow : ℕ) (p : List ℕ) (q : Located) → read_source s flows base flow p ≡ located q
       → (announced flows flow ≡ true) × (length (source_adu p) ≤ 65535)
-  unfolding readSource
+  unfolding read_source
   read_short base flow p q h =
       let (a, g) = check_passed _ 5 _ q h in
       let (c, i) = check_passed _ 16 _ q g in
@@ -172,7 +172,7 @@ module _ (s : Setting) (flows : List ℕ) where
 pub heard_handed : (L : Layout) → HeardHanded L
 heard_handed L s v flows before t after m b i g flow packet q c e y h out out' a k room =
     let base = base_for (base_of s (history s flows before)) (esi_of t.call) in
-    let r : readSource s flows base flow packet ≡ located q =
+    let r : read_source s flows base flow packet ≡ located q =
     ap (read_packet s flows base) (sym c) ∙ reading_passed s flows base (length t.working) t.call q e in
     let z : q ≡ source (first q) (source_symbols flow (source_adu packet) s.size) =
     subst (λ w. w ≡ source (first w) (source_symbols flow (source_adu packet) s.size)) (source-read s flows base flow packet q r).says refl in

@@ -2,7 +2,7 @@
 use Rattle.words.specs.Words.{◌≡◌, ℕ, List, refl, ap, [], ◌∷◌, ◌++◌, subst, ap₂, map}
 use Rattle.wire.specs.declared.Setting.{Setting}
 use Rattle.wire.specs.Answers.{said}
-use Rattle.history.specs.History.{Log, fresh, readAfter, logged, Judged}
+use Rattle.history.specs.History.{Log, fresh, read_after, logged, Judged}
 use Rattle.history.proofs.Counting.{judged_once}
 use Rattle.claims.specs.Run.{Step, read, goes_on}
 use Rattle.claims.specs.NoChoice.{Alike, NoChoice}
@@ -19,7 +19,7 @@ alike s flows [] [] l e f g = refl
 alike s flows [] (u ∷ us) l e f g = absurd e
 alike s flows (t ∷ ts) [] l e f g = absurd e
 alike s flows (t ∷ ts) (u ∷ us) l e f g =
-    let same : read s flows l t ≡ read s flows l u = ap₂ (λ c n. readAfter s flows l n c) e.0 e.1 in
+    let same : read s flows l t ≡ read s flows l u = ap₂ (λ c n. read_after s flows l n c) e.0 e.1 in
     let one : said t.answer ≡ said u.answer =
     judged_once s l (read s flows l u) _ _ (subst (λ r. Judged s l r (said t.answer)) same (f [] t ts refl)) (g [] u us refl) in
     let on : logged s l (read s flows l t) (said t.answer) ≡ logged s l (read s flows l u) (said u.answer) = ap₂ (λ r a. logged s l r a) same one in

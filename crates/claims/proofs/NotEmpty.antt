@@ -15,7 +15,7 @@ use Rattle.starts.proofs.Settling.{pass_settled}
 use Rattle.starts.proofs.Agreeing.{Agree}
 use Rattle.wire.specs.Answers.{Said, value, refusal}
 use Rattle.history.specs.History.{Located, Call, esi_of, Reading, fails, located, reading, memory_size, working_size, IsValue}
-use Rattle.history.specs.Model.{Joined, State, opened, found_by, Outcome, refused, done, stateAfter, responds, answering, receiving, startsAfter, marking}
+use Rattle.history.specs.Model.{Joined, State, opened, found_by, Outcome, refused, done, state_after, responds, answering, receiving, starts_after, marking}
 use Rattle.history.specs.Model.{Origins, origins_after}
 use Rattle.history.proofs.Origins.{origins-inside}
 use Rattle.table.proofs.Offsets.{header-long}
@@ -29,7 +29,7 @@ use Rattle.receiver.specs.Layout.{receiver_layout}
 use Rattle.holding.proofs.Flows.{flows-length, same_flows}
 use Rattle.holding.proofs.Building.{built}
 use Rattle.holding.proofs.Congruent.{on, Same, SameFrom, holds_same, held_same, found_same, Alike, both_refused, both_done, answering_alike, marking_alike}
-use Rattle.holding.proofs.Congruent.{AgreeFrom, baseAfter, origins_alike}
+use Rattle.holding.proofs.Congruent.{AgreeFrom, base_after, origins_alike}
 use Rattle.history.proofs.Naming.{Sound, answering_sound}
 use Rattle.holding.proofs.Headers.{header-room, header_fits, setting-of, setting_held}
 use Rattle.admission.proofs.Joining.{found_stands, found_hears}
@@ -72,15 +72,15 @@ module _ (s : Setting) (flows : List ℕ) (v : Valid s) where
       one o p (both_done n y z e) (q, g) = (q, record { holds = holds_same s m' y z e g.holds; kept = g.kept })
 
   -- And so it leaves marks, of every state and marks that the memory has: those that the memory shows for the state as the packet finds it.
-  abbrev now-marked : List ℕ → Joined s → Starts
-  now-marked m j = marked s.width s.size (j.base % s.width) m
+  abbrev now_marked : List ℕ → Joined s → Starts
+  now_marked m j = marked s.width s.size (j.base % s.width) m
 
   -- The marks after the call, and what was read of it and came of it.
   abbrev MarksBy : (m m' : List ℕ) (room : ℕ) → Call → Starts → (u : Setting) (f : List ℕ) → State u → Type 0
   MarksBy m m' room c M u f x =
       let j = found_by u x (esi_of c) in
       let o = receiving u f x room c in
-      Marks m u x M → Marks m' u (stateAfter x o) (marking u j M (reading u f j.base room c) o)
+      Marks m u x M → Marks m' u (state_after x o) (marking u j M (reading u f j.base room c) o)
 
   found-bytes : (m : List ℕ) (x : State s) (e : ℕ) (M : Starts) → Marks m s x M → stored.Marks s.width s.size ((found_by s x e).base % s.width) m M
   found-bytes m none e M k = k (e % s.width)
@@ -103,12 +103,12 @@ module _ (s : Setting) (flows : List ℕ) (v : Valid s) where
           let j = found_by s x (esi_of c) in
           let z : receiving s flows x room c ≡ refused n =
           was_refused n (subst (λ o. Alike s o (receiving s flows x room c)) e (receiving_alike t x room c (held_same s m t x h.holds k))) in
-          subst (λ o. Marks m s (stateAfter x o) (marking s j M (reading s flows j.base room c) o)) (sym z)
+          subst (λ o. Marks m s (state_after x o) (marking s j M (reading s flows j.base room c) o)) (sym z)
           (subst (Marks m s x) (sym (refused_marks j M n (reading s flows j.base room c))) g)
 
   after-pass : (x x' : Joined s) (q : Located) (M : Starts) (f : ℕ) → f ≢ 0
-      → Settled s.size s.width (seen s.size s.width x'.window) f (startsAfter s x x' q M)
-  unfolding startsAfter
+      → Settled s.size s.width (seen s.size s.width x'.window) f (starts_after s x x' q M)
+  unfolding starts_after
   after-pass x x' q M f g = pass_settled s.size s.width (seen s.size s.width x'.window) f _ some_bytes g
 
   abbrev IsRefused : Outcome s → Type 0
@@ -132,7 +132,7 @@ module _ (s : Setting) (flows : List ℕ) (v : Valid s) where
   starts_done : (m m' : List ℕ) (t : State s) (room : ℕ) (c : Call) (n : ℕ) (y : Joined s) → HoldsWith m s flows t → receiving s flows t room c ≡ done n y
       → noted_in m' ≢ 0
       → let j = found_by s t (esi_of c) in
-      stored.Marks s.width s.size (y.base % s.width) m' (marking s j (now-marked m j) (reading s flows j.base room c) (done n y))
+      stored.Marks s.width s.size (y.base % s.width) m' (marking s j (now_marked m j) (reading s flows j.base room c) (done n y))
       → (u : Setting) (f : List ℕ) (x : State u) (M : Starts) → HoldsWith m u f x → MarksBy m m' room c M u f x
   starts_done m m' t room c n y h e noted d u f x M = each_held m t h (MarksBy m m' room c M) here u f x
     where
@@ -142,37 +142,37 @@ module _ (s : Setting) (flows : List ℕ) (v : Valid s) where
           let i = found_by s x (esi_of c) in
           let same = held_same s m t x h.holds k in
           let found = found_same s t x (esi_of c) same in
-          let agree : Agree s.width (now-marked m j) M =
+          let agree : Agree s.width (now_marked m j) M =
           λ b q. ap (λ r. marked s.width s.size r m b) found.row ∙ found-bytes m x (esi_of c) M g b q in
           let (z, is, alike) = was_done n y (subst (λ o. Alike s o (receiving s flows x room c)) e (receiving_alike t x room c same)) in
-          let after = marking_alike s flows j i room c (now-marked m j) M found agree in
-          subst (λ o. Marks m' s (stateAfter x o) (marking s i M (reading s flows i.base room c) o)) (sym is)
+          let after = marking_alike s flows j i room c (now_marked m j) M found agree in
+          subst (λ o. Marks m' s (state_after x o) (marking s i M (reading s flows i.base room c) o)) (sym is)
           (record {
             bytes = λ b l.
                 ap (λ r. marked s.width s.size r m' b) (sym alike.row) ∙ d b l
-                ∙ ap (λ o. marking s j (now-marked m j) (reading s flows j.base room c) o b) (sym e) ∙ after b l
+                ∙ ap (λ o. marking s j (now_marked m j) (reading s flows j.base room c) o b) (sym e) ∙ after b l
                 ∙ ap (λ o. marking s i M (reading s flows i.base room c) o b) is;
             settled = settles_done i M (noted_in m') n z noted room c is;
           })
 
   -- And so it leaves what is heard: what the memory says of the window of the state as the packet finds it, and nothing past that.
-  abbrev now-heard : List ℕ → Joined s → Origins
-  now-heard m j x = ltb x (j.base + s.width) && heard_in s.width s.size m (x % s.width)
+  abbrev now_heard : List ℕ → Joined s → Origins
+  now_heard m j x = ltb x (j.base + s.width) && heard_in s.width s.size m (x % s.width)
 
   abbrev HearsBy : (m m' : List ℕ) (room : ℕ) → Call → Origins → (u : Setting) (f : List ℕ) → State u → Type 0
   HearsBy m m' room c H u f x =
       let o = receiving u f x room c in
-      Hears m u x H → Hears m' u (stateAfter x o) (origins_after (reading u f (found_by u x (esi_of c)).base room c) o H)
+      Hears m u x H → Hears m' u (state_after x o) (origins_after (reading u f (found_by u x (esi_of c)).base room c) o H)
 
   -- Any origins that the memory has for a state agree with that.
   found_agree : (m : List ℕ) (j : Joined s) (x : State s) (e : ℕ) (H : Origins) → SameFrom s j (found_by s x e) → Hears m s x H
-      → AgreeFrom j.base (found_by s x e).base (now-heard m j) H
+      → AgreeFrom j.base (found_by s x e).base (now_heard m j) H
   found_agree m j x e H same k i = go (dec_lt i s.width)
     where
       k' : origins.Hears s.width s.size (found_by s x e).base m H
       k' = found_hears m s x e H k
 
-      go : Dec (i < s.width) → now-heard m j (j.base + i) ≡ H ((found_by s x e).base + i)
+      go : Dec (i < s.width) → now_heard m j (j.base + i) ≡ H ((found_by s x e).base + i)
       go (yes l) =
           ap (λ b. b && heard_in s.width s.size m ((j.base + i) % s.width)) (lt-ltb (j.base + i) (j.base + s.width) (omega arith))
           ∙ ap (heard_in s.width s.size m) (on s.width j.base (found_by s x e).base i same.row) ∙ k'.window i l
@@ -193,7 +193,7 @@ module _ (s : Setting) (flows : List ℕ) (v : Valid s) where
           let r = reading s flows (found_by s x (esi_of c)).base room c in
           let z : receiving s flows x room c ≡ refused n =
           was_refused n (subst (λ o. Alike s o (receiving s flows x room c)) e (receiving_alike t x room c (held_same s m t x h.holds k))) in
-          subst (λ o. Hears m s (stateAfter x o) (origins_after r o H)) (sym z) (subst (Hears m s x) (sym (refused_heard H n r)) g)
+          subst (λ o. Hears m s (state_after x o) (origins_after r o H)) (sym z) (subst (Hears m s x) (sym (refused_heard H n r)) g)
 
   none_later : (j : Joined s) (room : ℕ) (c : Call) (n : ℕ) (y : Joined s) (H : Origins) → answering s flows j room c ≡ done n y
       → ((i : ℕ) → s.width ≤ i → H (j.base + i) ≡ false) → (i : ℕ) → s.width ≤ i
@@ -204,7 +204,7 @@ module _ (s : Setting) (flows : List ℕ) (v : Valid s) where
   heard_done : (m m' : List ℕ) (t : State s) (room : ℕ) (c : Call) (n : ℕ) (y : Joined s) → HoldsWith m s flows t → receiving s flows t room c ≡ done n y
       → let j = found_by s t (esi_of c) in
       ((i : ℕ) → i < s.width → heard_in s.width s.size m' ((y.base + i) % s.width)
-      ≡ origins_after {s = s} (reading s flows j.base room c) (done n y) (now-heard m j) (y.base + i))
+      ≡ origins_after {s = s} (reading s flows j.base room c) (done n y) (now_heard m j) (y.base + i))
       → (u : Setting) (f : List ℕ) (x : State u) (H : Origins) → HoldsWith m u f x → HearsBy m m' room c H u f x
   heard_done m m' t room c n y h e d u f x H = each_held m t h (HearsBy m m' room c H) here u f x
     where
@@ -217,12 +217,12 @@ module _ (s : Setting) (flows : List ℕ) (v : Valid s) where
           let same = held_same s m t x h.holds k in
           let found = found_same s t x (esi_of c) same in
           let (z, is, alike) = was_done n y (subst (λ o. Alike s o (receiving s flows x room c)) e (receiving_alike t x room c same)) in
-          let after : AgreeFrom y.base z.base (origins_after {s = s} r (done n y) (now-heard m j)) (origins_after {s = s} q (done n z) H) =
-          subst (λ o. AgreeFrom y.base (baseAfter s i o) (origins_after {s = s} r (done n y) (now-heard m j)) (origins_after q o H)) is
-          (subst (λ o. AgreeFrom (baseAfter s j o) (baseAfter s i (answering s flows i room c)) (origins_after r o (now-heard m j))
+          let after : AgreeFrom y.base z.base (origins_after {s = s} r (done n y) (now_heard m j)) (origins_after {s = s} q (done n z) H) =
+          subst (λ o. AgreeFrom y.base (base_after s i o) (origins_after {s = s} r (done n y) (now_heard m j)) (origins_after q o H)) is
+          (subst (λ o. AgreeFrom (base_after s j o) (base_after s i (answering s flows i room c)) (origins_after r o (now_heard m j))
           (origins_after q (answering s flows i room c) H)) e
-          (origins_alike s flows j i room c (now-heard m j) H found (found_agree m j x (esi_of c) H found g))) in
-          subst (λ o. Hears m' s (stateAfter x o) (origins_after q o H)) (sym is)
+          (origins_alike s flows j i room c (now_heard m j) H found (found_agree m j x (esi_of c) H found g))) in
+          subst (λ o. Hears m' s (state_after x o) (origins_after q o H)) (sym is)
           (record {
             window = λ b l. ap (heard_in s.width s.size m') (sym (on s.width y.base z.base b alike.row)) ∙ d b l ∙ after b;
             later = none_later i room c n z H is (found_hears m s x (esi_of c) H g).later;
@@ -286,11 +286,11 @@ module _ (s : Setting) (flows : List ℕ) (v : Valid s) where
       go (done n x) e g =
           let j = found_by s t (esi_of c) in
           let r = reading s flows j.base (length w) c in
-          let H = origins_after {s = s} r (done n x) (now-heard m j) in
+          let H = origins_after {s = s} r (done n x) (now_heard m j) in
           let b = built s flows v (flows-length m s flows t h) x g H (drop (memory_size s) m) in
           let room : memory_size s ≤ length m = subst (λ y. memory_size y ≤ length m) (setting-of s t) (header-room m (header_of s t) h.holds.header) in
           let fits = header_fits b.memory (header_of s (some x)) b.holds.holds.header in
-          let M = marking s j (now-marked m j) r (done n x) in
+          let M = marking s j (now_marked m j) r (done n x) in
           let (m', only, marks, noted) = with-starts s.width s.size (x.base % s.width) M fits.some_width b.memory fits.room in
           let held = starts_keep (some x) b.memory m' b.holds (omega (arith, fits.room, header-long)) only in
           record {

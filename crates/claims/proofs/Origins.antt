@@ -16,7 +16,7 @@ use Rattle.history.specs.Symbol.{Symbol, bytes_of, symbol_of}
 use Rattle.history.specs.History.{Filling, Located, source, repair, All, Known, reading, Log, fresh, OfBytes, esi_of, IsValue, base_of}
 use Rattle.history.specs.History.{logged}
 use Rattle.history.specs.Origins.{Brings, Brought}
-use Rattle.history.specs.Model.{State, opened, found_by, stateAfter, responds, answering}
+use Rattle.history.specs.Model.{State, opened, found_by, state_after, responds, answering}
 use Rattle.receiver.specs.Promises.{Layout, Opened, Received, Finds, SymbolShown, shown_of}
 use Rattle.history.proofs.Answers.{TracksFrom, base_in, fresh_tracks}
 use Rattle.history.proofs.Says.{symbol_bytes, get_d_at}
@@ -134,8 +134,8 @@ module _ (L : Layout) (s : Setting) (flows : List ℕ) (v : Valid s) where
       let o = responds s j r in
       let (e, _, n, z) = called L s flows v m l t x g.stands.held g.stands.tracks b p in
       record {
-        stands = record { state = stateAfter x o; held = z; tracks = n };
-        hears = subst (L.Hears t.memory s (stateAfter x o))
+        stands = record { state = state_after x o; held = z; tracks = n };
+        hears = subst (L.Hears t.memory s (state_after x o))
             (brought_after s l r o ∙ ap brought (ap₂ (logged s l) (read_found L s flows v l t x g.stands.tracks) (sym e)))
             (p.origins s flows x (brought l) g.stands.held g.hears);
       }

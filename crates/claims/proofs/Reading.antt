@@ -6,8 +6,8 @@ use Rattle.wire.specs.Flows.{announced}
 use Rattle.wire.proofs.Settings.{within_true}
 use Rattle.wire.proofs.Reading.{source_form_lem, source-adu, source-esi, repair_form_lem, repair-symbols, repair_key_lem, density_threshold_lem, protected_count_lem, first-esi}
 use Rattle.coefficients.specs.Coefficients.{keys, lists_of, all_ok}
-use Rattle.history.specs.History.{Located, source, repair, side_of, source-call, repair-call, Reading, located, check, from_side, working_size, readSource}
-use Rattle.history.specs.History.{readRepair, reading}
+use Rattle.history.specs.History.{Located, source, repair, side_of, source-call, repair-call, Reading, located, check, from_side, working_size, read_source}
+use Rattle.history.specs.History.{read_repair, reading}
 use Rattle.history.proofs.Sides.{side_taken, fails_behind, fails_far}
 use Rattle.claims.specs.Reading.{ReadBy, Reads}
 
@@ -27,7 +27,7 @@ module _ (s : Setting) (flows : List ℕ) (z : 0 < s.size) (w : s.width ≤ 255)
   source-read : (flow : ℕ) (adu : List ℕ) → announced flows flow ≡ true → length adu ≤ 65535 → symbol_count s.size (length adu) ≤ s.width
       → ReadBy d (symbol_count s.size (length adu)) (source (base + d) (source_symbols flow adu s.size))
       (reading s flows base room (source-call flow (source_packet adu esi)))
-  unfolding reading readSource check
+  unfolding reading read_source check
   source-read flow adu a h k =
       by_side base d (symbol_count s.size (length adu)) (λ x. located (source (base + x) (source_symbols flow adu s.size))) _ _ small refl
       (rw (
@@ -44,7 +44,7 @@ module _ (s : Setting) (flows : List ℕ) (z : 0 < s.size) (w : s.width ≤ 255)
       → Sized s.size symbols → 1 ≤ length symbols → length symbols ≤ 16 → all_ok s.scheme dt n (keys key (length symbols)) ≡ true
       → ReadBy d n (repair (base + d) n (lists_of s.scheme dt n (keys key (length symbols))) symbols)
       (reading s flows base room (repair-call (repair_packet key dt n esi symbols)))
-  unfolding reading readRepair check
+  unfolding reading read_repair check
   repair-read key dt n symbols a b c e f g h ok =
       let ks = keys key (length symbols) in
       by_side base d n (λ x. check (all_ok s.scheme dt n ks) 10 (located (repair (base + x) n (lists_of s.scheme dt n ks) symbols)))

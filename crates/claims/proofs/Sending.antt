@@ -17,7 +17,7 @@ use Rattle.rows.specs.Combination.{combination}
 use Rattle.coefficients.specs.Coefficients.{lists_of, all_ok}
 use Rattle.sender.specs.declared.RepairAnswer.TheVariants.{Made, NotMade}
 use Rattle.sender.specs.Run.{SenderCall, added, repaired, Calls, SenderRun, symbols_of}
-use Rattle.sender.specs.Judged.{Writes, Ranged, AduJudged, keyIn, keysIn, covered, older, packetOf, RepairJudged}
+use Rattle.sender.specs.Judged.{Writes, Ranged, AduJudged, key_in, keys_in, covered, older, packet_of, RepairJudged}
 use Rattle.wire.specs.Flows.{Announced}
 use Rattle.sender.specs.Claims.{given, OfBytes}
 use Rattle.sender.proofs.Repairing.{written_small}
@@ -47,8 +47,8 @@ module _ (t : Setting) (v : Valid t) (flows : List ℕ) (xs : List (List ℕ)) (
   record Repaired (key dt count : ℕ) (packet : List ℕ) : Type 0 where
     ranged : Ranged dt count
     some-taken : ¬ (xs ≡ [])
-    ok : all_ok scheme dt (covered t xs) (keysIn t key dt count) ≡ true
-    is : packet ≡ packetOf t xs key dt count
+    ok : all_ok scheme dt (covered t xs) (keys_in t key dt count) ≡ true
+    is : packet ≡ packet_of t xs key dt count
 
   repair-packet : (key dt count : ℕ) (out : List ℕ) (n d : ℕ) (out' : List ℕ) → RepairJudged t xs m key dt count out (value n) d out'
       → Repaired key dt count (take n out')
@@ -58,7 +58,7 @@ module _ (t : Setting) (v : Valid t) (flows : List ℕ) (xs : List (List ℕ)) (
       (λ j. below 16 count (λ g. absurd (impossible n 6 (p.range (λ k. omega (arith, k.2))).answer))
       (λ k. ranged (i, j, k) xs refl)))
     where
-      drawn : Ranged dt count → ¬ (xs ≡ []) → 8 + count * E ≤ length out → (b : Bool) → all_ok scheme dt (covered t xs) (keysIn t key dt count) ≡ b
+      drawn : Ranged dt count → ¬ (xs ≡ []) → 8 + count * E ≤ length out → (b : Bool) → all_ok scheme dt (covered t xs) (keys_in t key dt count) ≡ b
           → Repaired key dt count (take n out')
       drawn k z l true e = record { ranged = k; some-taken = z; ok = e; is = front _ n out out' (p.makes k z l e).0 }
       drawn k z l false e =
@@ -71,7 +71,7 @@ module _ (t : Setting) (v : Valid t) (flows : List ℕ) (xs : List (List ℕ)) (
           below (length out) (8 + count * E) (λ g. absurd (impossible n 2 (p.short k z g).answer)) (λ g. drawn k z g _ refl)
 
   -- the key has 16 bits
-  key_small : (key dt : ℕ) → key < 2 ^ 16 → keyIn t key dt < 2 ^ 16
+  key_small : (key dt : ℕ) → key < 2 ^ 16 → key_in t key dt < 2 ^ 16
   key_small key dt h = rw (← key_is t v flows xs key dt) (written_small scheme key dt h)
 
   some_symbol : (l : List (List ℕ)) → ¬ (l ≡ []) → 1 ≤ length l
@@ -84,11 +84,11 @@ module _ (t : Setting) (v : Valid t) (flows : List ℕ) (xs : List (List ℕ)) (
       let window = drop (older t xs) xs in
       let n : length window ≡ covered t xs = length-drop (older t xs) xs ∙ omega arith in
       let k : length (take (older t xs) xs) ≡ older t xs = length-take (older t xs) xs ∙ omega arith in
-      let from : ℕ → ℕ → List ℕ = λ i j. repair_packet (keyIn t key dt) dt i (j % 2 ^ 32)
-      (map (λ (c : List ℕ). combination E c window) (lists_of scheme dt i (keysIn t key dt count))) in
+      let from : ℕ → ℕ → List ℕ = λ i j. repair_packet (key_in t key dt) dt i (j % 2 ^ 32)
+      (map (λ (c : List ℕ). combination E c window) (lists_of scheme dt i (keys_in t key dt count))) in
       let e : from (length window) (length (take (older t xs) xs)) ≡ packet = ap₂ from n k ∙ sym p.is in
       rw (← e)
-      (wrote_repair (take (older t xs) xs) window more (keyIn t key dt) dt count (key_small key dt small) p.ranged.0
+      (wrote_repair (take (older t xs) xs) window more (key_in t key dt) dt count (key_small key dt small) p.ranged.0
       (omega (arith, n, some_symbol xs p.some-taken, v.width_least)) (omega (arith, n, v.width_most)) p.ranged.1 p.ranged.2 (rw n p.ok)
       (rw (← append_assoc, take-append-drop)))
 

@@ -26,7 +26,7 @@ use Rattle.sender.specs.Claims.{AreSymbols}
 use Rattle.sender.proofs.Running.{run_valid}
 use Rattle.sender.proofs.Symbols.{sender_symbols}
 use Rattle.history.specs.History.{Filling, Located, source, repair, first, Satisfied, All, Call, source-call, repair-call, esi_of, Reading, fails, located}
-use Rattle.history.specs.History.{working_size, read_packet, reading, base_for, joined_at, Log, fresh, IsValue, readAfter, base_of, logged, Judged, halfway}
+use Rattle.history.specs.History.{working_size, read_packet, reading, base_for, joined_at, Log, fresh, IsValue, read_after, base_of, logged, Judged, halfway}
 use Rattle.history.specs.History.{farthest}
 use Rattle.wire.specs.Answers.{Said, value, refusal, said}
 use Rattle.receiver.specs.Promises.{Layout}
@@ -288,7 +288,7 @@ module _ (t s : Setting) (l : List SenderCall) (k : Peers t s l) where
   -- A packet that is read at a base, and is satisfied with all before, is accepted.
   taken : (flows : List ℕ) (ts : List Step) (x : Packet) (p : ℕ) → Wrote s.scheme s.size all x p → AnnouncedAt flows x → Valid s
       → named s.size x ≤ s.width → (room : ℕ) → working_size s ≤ room
-      → (a : Said) → Judged s (history s flows ts) (readAfter s flows (history s flows ts) room (call_of x)) a
+      → (a : Said) → Judged s (history s flows ts) (read_after s flows (history s flows ts) room (call_of x)) a
       → (base offset : ℕ) → offset % 2 ^ 32 ≡ 0 → base_for (base_of s (history s flows ts)) (esi_of (call_of x)) ≡ base
       → base + offset ≤ p → p + named s.size x ≤ base + offset + farthest
       → All s.size (history s flows ts) (f offset) → IsValue a

@@ -14,7 +14,7 @@ use Rattle.wire.proofs.Reading.{source-adu, source-esi}
 use Rattle.starts.specs.Adu.{length_in, needs}
 use Rattle.wire.specs.declared.Answer.TheVariants.{Done, Refused}
 use Rattle.history.specs.Symbol.{bytes_of, symbol_of}
-use Rattle.history.specs.History.{Filling, symbolsAt, Located, Satisfied, All, Known, Reading, fails, located, read_packet, esi_of, base_for, base_of, Log, fresh}
+use Rattle.history.specs.History.{Filling, symbols_at, Located, Satisfied, All, Known, Reading, fails, located, read_packet, esi_of, base_for, base_of, Log, fresh}
 use Rattle.history.specs.History.{IsValue, logged, MarkedBy, Reached, already, later, Start}
 use Rattle.wire.specs.Answers.{Said, value, refusal, said}
 use Rattle.starts.proofs.Chaining.{symbols-some}
@@ -42,29 +42,29 @@ junk_gives s qs base join offset all f a c p flow adu j h n =
 
 -- Where a filling holds an ADU from a position on, its first symbol stands there, and says its length.
 pub first_here : (E : ℕ) → 0 < E → (f : Filling E) (p flow : ℕ) (adu : List ℕ)
-    → symbolsAt E f p (symbol_count E (length adu)) ≡ source_symbols flow adu E → bytes_of E (f p) ≡ get_or (source_symbols flow adu E) 0 []
+    → symbols_at E f p (symbol_count E (length adu)) ≡ source_symbols flow adu E → bytes_of E (f p) ≡ get_or (source_symbols flow adu E) 0 []
 first_here E z f p flow adu e =
     ap (λ q. bytes_of E (f q)) (sym (add-zero p)) ∙ sym (get_d_at E f p (symbol_count E (length adu)) 0 (symbols-some E (length adu) z))
     ∙ ap (λ (l : List (List ℕ)). get_or l 0 []) e
 
 pub length_here : (E : ℕ) → 4 ≤ E → (f : Filling E) (p flow : ℕ) (adu : List ℕ) → length adu ≤ 65535
-    → symbolsAt E f p (symbol_count E (length adu)) ≡ source_symbols flow adu E → length_in (bytes_of E (f p)) ≡ length adu
+    → symbols_at E f p (symbol_count E (length adu)) ≡ source_symbols flow adu E → length_in (bytes_of E (f p)) ≡ length adu
 length_here E z f p flow adu h e = ap length_in (first_here E (omega arith) f p flow adu e) ∙ length-first flow adu E z h
 
 -- A filling that holds two ADUs from one position on holds one.
 one-adu : (E : ℕ) → 4 ≤ E → (f : Filling E) (p flow flow' : ℕ) (adu adu' : List ℕ) → length adu ≤ 65535 → length adu' ≤ 65535
-    → symbolsAt E f p (symbol_count E (length adu)) ≡ source_symbols flow adu E
-    → symbolsAt E f p (symbol_count E (length adu')) ≡ source_symbols flow' adu' E → (flow ≡ flow') × (adu ≡ adu')
+    → symbols_at E f p (symbol_count E (length adu)) ≡ source_symbols flow adu E
+    → symbols_at E f p (symbol_count E (length adu')) ≡ source_symbols flow' adu' E → (flow ≡ flow') × (adu ≡ adu')
 one-adu E z f p flow flow' adu adu' h h' e e' =
     let n : length adu ≡ length adu' = sym (length_here E z f p flow adu h e) ∙ length_here E z f p flow' adu' h' e' in
-    same_adu flow flow' adu adu' E z n (sym e ∙ ap (λ (k : ℕ). symbolsAt E f p (symbol_count E k)) n ∙ e')
+    same_adu flow flow' adu adu' E z n (sym e ∙ ap (λ (k : ℕ). symbols_at E f p (symbol_count E k)) n ∙ e')
 
 -- Where a filling carries the sender's symbols, it holds an ADU of the sender's from its first position on.
 begun_held : (E : ℕ) (l : List SenderCall) (join offset : ℕ) (f : Filling E) → Carries E join offset (symbols_of E l) f
-    → (p flow : ℕ) (adu : List ℕ) → join ≤ p → Begins E l (p + offset) flow adu → symbolsAt E f p (symbol_count E (length adu)) ≡ source_symbols flow adu E
+    → (p flow : ℕ) (adu : List ℕ) → join ≤ p → Begins E l (p + offset) flow adu → symbols_at E f p (symbol_count E (length adu)) ≡ source_symbols flow adu E
 begun_held E l join offset f c p flow adu j b =
     let ys = source_symbols flow adu E in
-    ap (symbolsAt E f p) (sym (symbols_count flow adu E))
+    ap (symbols_at E f p) (sym (symbols_count flow adu E))
     ∙ stretch E join offset f (symbols_of E b.before) ys (symbols_of E b.after) (symbols_of E l) (begun-symbols E l (p + offset) flow adu b) c p j b.place
 
 -- ---- Boundaries

@@ -15,12 +15,12 @@ use Rattle.starts.specs.Adu.{Handing, hands, withholds, handing, HandedAs}
 use Rattle.starts.specs.Starts.{Starts}
 use Rattle.history.specs.History.{ahead, behind, side_of, Call, source-call, repair-call, Reading, fails, reading, Log, fresh, base_of, logged, Judged, halfway}
 use Rattle.history.specs.Checking.{Checked}
-use Rattle.history.specs.Model.{State, aduIn, aduAt}
+use Rattle.history.specs.Model.{State, adu_in, adu_at}
 use Rattle.history.proofs.Laws.{history_laws}
 use Rattle.receiver.specs.Promises.{Layout, AduAnswered}
 use Rattle.claims.specs.Run.{Step, Run, final, read, goes_on, history}
 use Rattle.claims.specs.Demand.{esi}
-use Rattle.claims.specs.Handing.{Handed-out, HandingTold}
+use Rattle.claims.specs.Handing.{IsHandedOut, HandingTold}
 use Rattle.claims.specs.Strays.{is_stray, without_strays, RefusedAsStray, Strays}
 use Rattle.claims.proofs.Demand.{Stands, step, opened_stands, demand}
 use Rattle.claims.proofs.Handing.{its_flow, hands_out}
@@ -94,10 +94,10 @@ side_esi base e =
     let same : distance_of (e % 2 ^ 32) (base % 2 ^ 32) ≡ distance_of e (base % 2 ^ 32) = omega arith in
     ap (λ (d : ℕ). cond (ltb d halfway) (ahead d) behind) same
 
-adu-esi : (s : Setting) (flows : List ℕ) (t : State s) (M : Starts) (room e : ℕ) → aduAt s flows t M room e ≡ aduAt s flows t M room (e % 2 ^ 32)
-unfolding aduAt
+adu-esi : (s : Setting) (flows : List ℕ) (t : State s) (M : Starts) (room e : ℕ) → adu_at s flows t M room e ≡ adu_at s flows t M room (e % 2 ^ 32)
+unfolding adu_at
 adu-esi s flows none M room e = refl
-adu-esi s flows (some t) M room e = ap (aduIn s flows t M room) (sym (side_esi t.base e))
+adu-esi s flows (some t) M room e = ap (adu_in s flows t M room) (sym (side_esi t.base e))
 
 module _ (L : Layout) (s : Setting) (flows m : List ℕ) (e : ℕ) (out out' : List ℕ) (flow n : ℕ) (p : AduAnswered L m e out out' (Adu flow n)) where
   answered : (i : ℕ) → e % 2 ^ 32 ≡ i → AduAnswered L m i out out' (Adu flow n)
@@ -105,10 +105,10 @@ module _ (L : Layout) (s : Setting) (flows m : List ℕ) (e : ℕ) (out out' : L
     unopened = p.unopened;
     leaves = p.leaves;
     hands = λ u f t M h k.
-        subst (λ x. HandedAs x out out' (Adu flow n)) (adu-esi u f t M (length out) e ∙ ap (aduAt u f t M (length out)) z) (p.hands u f t M h k);
+        subst (λ x. HandedAs x out out' (Adu flow n)) (adu-esi u f t M (length out) e ∙ ap (adu_at u f t M (length out)) z) (p.hands u f t M h k);
   }
 
-  after : (l : Log) (b : ℕ) → Handed-out L s flows m l b → announced flows flow ≡ true
+  after : (l : Log) (b : ℕ) → IsHandedOut L s flows m l b → announced flows flow ≡ true
   after l b o = go (dec_lt d halfway) (dec_lt d s.width)
     where
       d : ℕ

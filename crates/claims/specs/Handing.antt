@@ -10,7 +10,7 @@ use Rattle.starts.specs.Adu.{View, withholds, handing, HandedAs}
 use Rattle.wire.specs.declared.Answer.{Answer}
 use Rattle.history.specs.Symbol.{bytes_of}
 use Rattle.wire.specs.Answers.{value, said}
-use Rattle.history.specs.History.{Filling, symbolsAt, Located, All, Known, Log, base_of, Start, halfway}
+use Rattle.history.specs.History.{Filling, symbols_at, Located, All, Known, Log, base_of, Start, halfway}
 use Rattle.receiver.specs.Promises.{Layout, Opened, AduAnswered}
 use Rattle.claims.specs.Run.{Step, Run, final, history}
 use Rattle.claims.specs.Demand.{esi}
@@ -29,7 +29,7 @@ module _ (s : Setting) where
   pub record HoldsAdu (qs : List Located) (base p flow : ℕ) (adu : List ℕ) : Type 0 where
     pub long : length adu ≤ longest_adu
     pub inside : p + symbol_count E (length adu) ≤ base + width
-    pub held : (f : Filling E) → All E qs f → symbolsAt E f p (symbol_count E (length adu)) ≡ source_symbols flow adu E
+    pub held : (f : Filling E) → All E qs f → symbols_at E f p (symbol_count E (length adu)) ≡ source_symbols flow adu E
 
 -- Of the flows that are announced, of the packets qs that were accepted, of the base, and of the memory m that the list has left.
 module _ (L : Layout) (s : Setting) (flows m : List ℕ) (qs : List Located) (base : ℕ) where
@@ -50,7 +50,7 @@ module _ (L : Layout) (s : Setting) (flows m : List ℕ) (qs : List Located) (ba
         ↔ (Start s qs (base + d) × HoldsAdu s qs base (base + d) flow adu × (announced flows flow ≡ true) × (length adu ≤ length out))
 
   -- `told` leaves no choice of what is seen, nor of what is marked up to the width, since some filling exists (demand 3).
-  pub record Handed-out : Type 0 where
+  pub record IsHandedOut : Type 0 where
     pub see : View
     pub marked : ℕ → Bool
     pub told : Told s qs base see marked
@@ -59,7 +59,7 @@ module _ (L : Layout) (s : Setting) (flows m : List ℕ) (qs : List Located) (ba
 -- After the calls of a log: before any base 12, whatever the ESI.
 pub record HandingTold (L : Layout) (s : Setting) (flows m : List ℕ) (l : Log) : Type 0 where
   pub before : base_of s l ≡ none → (e : ℕ) (out out' : List ℕ) (a : Handed) → AduAnswered L m e out out' a → HandedAs (withholds 12) out out' a
-  pub after : (b : ℕ) → base_of s l ≡ some b → Handed-out L s flows m l b
+  pub after : (b : ℕ) → base_of s l ≡ some b → IsHandedOut L s flows m l b
 
 -- From memory on which opening has just answered 0, after every list of packet calls.
 abbrev pub HandsOut : Layout → Type 0

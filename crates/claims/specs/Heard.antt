@@ -10,7 +10,7 @@ use Rattle.history.specs.History.{Located, first, Consistent, source-call, locat
 use Rattle.receiver.specs.Promises.{Layout, AduAnswered}
 use Rattle.claims.specs.Run.{Step, read, history}
 use Rattle.claims.specs.Demand.{esi}
-use Rattle.claims.specs.Handing.{HoldsAdu, Handed-out}
+use Rattle.claims.specs.Handing.{HoldsAdu, IsHandedOut}
 
 -- Where a start has an ADU's symbols in every filling, inside the window, the position after its last symbol is a start too. Some filling satisfies the
 -- accepted packets by demand 3.
@@ -33,7 +33,7 @@ abbrev pub HeardHanded : Layout → Type 0
 HeardHanded L =
     (s : Setting) → Valid s → (flows : List ℕ) (before : List Step) (t : Step) (after : List Step) (m : List ℕ)
     → let l = history s flows (before ++ (t ∷ after)) in
-    (b : ℕ) → base_of s l ≡ some b → Handed-out L s flows m l b
+    (b : ℕ) → base_of s l ≡ some b → IsHandedOut L s flows m l b
     → (flow : ℕ) (packet : List ℕ) (q : Located) → t.call ≡ source-call flow packet → read s flows (history s flows before) t ≡ located q
     → IsValue (said t.answer) → b ≤ first q
     → (out out' : List ℕ) (a : Handed) → AduAnswered L m (esi (first q)) out out' a

@@ -2,7 +2,7 @@
 use Rattle.words.specs.Words.{ℕ, List, length, [], ◌∷◌}
 use Rattle.wire.specs.declared.Setting.{Setting}
 use Rattle.wire.specs.declared.Answer.{Answer}
-use Rattle.history.specs.History.{Call, OfBytes, Reading, Log, fresh, readAfter, logged}
+use Rattle.history.specs.History.{Call, OfBytes, Reading, Log, fresh, read_after, logged}
 use Rattle.wire.specs.Answers.{said}
 use Rattle.receiver.specs.Promises.{Layout, Received}
 
@@ -27,7 +27,7 @@ final m (t ∷ ts) = final t.memory ts
 module _ (s : Setting) (flows : List ℕ) where
   -- What the checks before 11 make of a call, where these flows are announced.
   abbrev pub read : Log → Step → Reading
-  read l t = readAfter s flows l (length t.working) t.call
+  read l t = read_after s flows l (length t.working) t.call
 
   -- The history of a list of calls, from their packets and answers alone.
   abbrev pub goes_on : Log → List Step → Log

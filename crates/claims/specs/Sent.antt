@@ -7,7 +7,7 @@ use Rattle.wire.specs.Packets.{symbol_count, source_adu, protected_count}
 use Rattle.wire.specs.Flows.{announced}
 use Rattle.wire.specs.declared.Answer.{Answer}
 use Rattle.wire.specs.Answers.{Said, value, refusal, said}
-use Rattle.history.specs.History.{Filling, All, Call, source-call, repair-call, working_size, Log, fresh, IsValue, readAfter, base_of, logged, Judged, joined_at}
+use Rattle.history.specs.History.{Filling, All, Call, source-call, repair-call, working_size, Log, fresh, IsValue, read_after, base_of, logged, Judged, joined_at}
 use Rattle.history.specs.History.{halfway, farthest}
 use Rattle.receiver.specs.Promises.{Layout, SymbolAnswered, PartShown}
 use Rattle.sender.specs.Run.{SenderCall, SenderRun, symbols_of}
@@ -76,7 +76,7 @@ SentAccepted =
     → (flows : List ℕ) (offset : ℕ) (ts : List Step) → AsWritten s flows (symbols_of s.size l) offset fresh ts
     → (x : Packet) (p : ℕ) → Wrote s.scheme s.size (symbols_of s.size l) x p → AnnouncedAt flows x
     → InReach (base_of s (history s flows ts)) offset p (named s.size x) → named s.size x ≤ s.width
-    → (room : ℕ) → working_size s ≤ room → (a : Said) → Judged s (history s flows ts) (readAfter s flows (history s flows ts) room (call_of x)) a → IsValue a
+    → (room : ℕ) → working_size s ≤ room → (a : Said) → Judged s (history s flows ts) (read_after s flows (history s flows ts) room (call_of x)) a → IsValue a
 
 -- Every such one that begins before the base, by no more than halfway, is behind: after joining, all that was sent or reaches back before it.
 abbrev pub SentBehind : Type 0
@@ -86,7 +86,7 @@ SentBehind =
     → (b : ℕ) → base_of s (history s flows ts) ≡ some b
     → (x : Packet) (p : ℕ) → Wrote s.scheme s.size (symbols_of s.size l) x p → AnnouncedAt flows x
     → p < b + offset → b + offset ≤ p + halfway → named s.size x ≤ s.width
-    → (room : ℕ) → working_size s ≤ room → (a : Said) → Judged s (history s flows ts) (readAfter s flows (history s flows ts) room (call_of x)) a → a ≡ refusal 8
+    → (room : ℕ) → working_size s ≤ room → (a : Said) → Judged s (history s flows ts) (read_after s flows (history s flows ts) room (call_of x)) a → a ≡ refusal 8
 
 -- And what is shown at a position of the sender's is the sender's symbol.
 abbrev pub SentShown : Layout → Type 0

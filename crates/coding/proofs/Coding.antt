@@ -77,6 +77,9 @@ refusal_negative Contradiction n = n
 refusal_negative Unknown n = n
 refusal_negative NoStart n = n
 refusal_negative Padding n = n
+refusal_negative Unannounced n = n
+refusal_negative Grid n = n
+refusal_negative Block n = n
 
 refusal_size : (n : ℕ) → nat_abs (coded (refusal n)) ≡ n
 refusal_size zero = refl

@@ -1,4 +1,6 @@
 // How what a call answers is coded as one signed number.
+#![tactic(auto)]
+
 ghost use Rattle.words.specs.Words.{◌≡◌, ◌+◌, ◌*◌};
 ghost use Rattle.wire.specs.Numbers.{number_of};
 ghost use Rattle.wire.specs.Answers.{value, refusal, said};

@@ -77,7 +77,7 @@ ones key (suc n) = rw (ones key n, replicate-append-replicate {A = ℕ} n 1 1, a
 
 pub length-keys : (key count : ℕ) → length (keys key count) ≡ count
 length-keys key zero = refl
-length-keys key (suc count) = ap suc (length-keys _ count)
+length-keys key (suc count) = ap suc (length-keys (key_after key) count)
 
 -- key i is i after the first, modulo 65,536
 pub key_at : (key count i : ℕ) → key < 2 ^ 16 → i < count → get_or (keys key count) i 0 ≡ (key + i) % 2 ^ 16

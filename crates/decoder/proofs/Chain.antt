@@ -11,9 +11,9 @@
 --   place_rows_same, chain_same, packet_implied, packet_contradicts, packet_places
 use Rattle.words.specs.Words.{◌≡◌, arith, ℕ, List, ◌<◌, refl, ◌∙◌, sym, ap, [], some, ◌∷◌, suc, zero, none, ◌++◌, subst, Option, ◌≢◌, ap₂, dec_lt}
 use Rattle.decoder.specs.Field.{Ops, Laws}
-use Rattle.decoder.specs.Model.{Row, State, Reduced, Rref, eval, axpy, scale, lead, at, symbol, reduce, place, settle-by, settle, insert}
+use Rattle.decoder.specs.Model.{Row, State, Reduced, Rref, eval, axpy, scale, lead, at, symbol, reduce, place, settle_by, settle, insert}
 use Rattle.decoder.specs.Receiver.{and_then, insert_all}
-use Rattle.decoder.specs.Chain.{Chain, place-rows, eliminate}
+use Rattle.decoder.specs.Chain.{Chain, place_rows, eliminate}
 use Rattle.decoder.proofs.Jump.{insert_all_append}
 use Rattle.decoder.proofs.Linear as lin
 use Rattle.decoder.proofs.Elimination as elimination
@@ -55,19 +55,19 @@ module _ {O : Ops} (L : Laws O) where
   -- What becomes of an equation, told by its reduction: implied, a contradiction, or a new row.
   module _ {n : ℕ} (T : State O n) (e : Row O n) where
     pub reduced_implied : lead O n (reduce T e) ≡ 𝟘 → symbol O n (reduce T e) ≡ null → insert T e ≡ some T
-    unfolding insert settle settle-by
+    unfolding insert settle settle_by
     reduced_implied z y = go (zero? (lead O n (reduce T e))) (null? (symbol O n (reduce T e)))
       where
-        go : (d : Dec (lead O n (reduce T e) ≡ 𝟘)) (d' : Dec (symbol O n (reduce T e) ≡ null)) → settle-by d d' T (reduce T e) ≡ some T
+        go : (d : Dec (lead O n (reduce T e) ≡ 𝟘)) (d' : Dec (symbol O n (reduce T e) ≡ null)) → settle_by d d' T (reduce T e) ≡ some T
         go (yes _) (yes _) = refl
         go (yes _) (no q) = absurd (q y)
         go (no p) _ = absurd (p z)
 
     pub reduced_contradicts : lead O n (reduce T e) ≡ 𝟘 → symbol O n (reduce T e) ≢ null → insert T e ≡ none
-    unfolding insert settle settle-by
+    unfolding insert settle settle_by
     reduced_contradicts z y = go (zero? (lead O n (reduce T e))) (null? (symbol O n (reduce T e)))
       where
-        go : (d : Dec (lead O n (reduce T e) ≡ 𝟘)) (d' : Dec (symbol O n (reduce T e) ≡ null)) → settle-by d d' T (reduce T e) ≡ none
+        go : (d : Dec (lead O n (reduce T e) ≡ 𝟘)) (d' : Dec (symbol O n (reduce T e) ≡ null)) → settle_by d d' T (reduce T e) ≡ none
         go (yes _) (yes q) = absurd (y q)
         go (yes _) (no _) = refl
         go (no p) _ = absurd (p z)
@@ -88,10 +88,10 @@ module _ {O : Ops} (L : Laws O) where
           elimination.lead_scale L n (inv a) (λ b. elimination.nonzero_cancel L a b z) (reduce T e) ∙ *-inv a z
 
       pub reduced_places : insert T e ≡ some (place T normal)
-      unfolding insert settle settle-by normal
+      unfolding insert settle settle_by normal
       reduced_places = go (zero? (lead O n (reduce T e)))
         where
-          go : (d : Dec (lead O n (reduce T e) ≡ 𝟘)) → settle-by d (null? (symbol O n (reduce T e))) T (reduce T e) ≡ some (place T normal)
+          go : (d : Dec (lead O n (reduce T e) ≡ 𝟘)) → settle_by d (null? (symbol O n (reduce T e))) T (reduce T e) ≡ some (place T normal)
           go (yes p) = absurd (z p)
           go (no _) = refl
 
@@ -103,35 +103,35 @@ module _ {O : Ops} (L : Laws O) where
     pub chain_before : (k : ℕ) → Chain S g (suc k) → Chain S g k
     chain_before k c = record { reduced = λ j l. c.reduced j (omega arith); leads = λ j l. c.leads j (omega arith) }
 
-    pub chain_more : (k : ℕ) → Chain S g k → Reduced (place-rows g k S) (g k) → lead O n (g k) ≡ 𝟙 → Chain S g (suc k)
+    pub chain_more : (k : ℕ) → Chain S g k → Reduced (place_rows g k S) (g k) → lead O n (g k) ≡ 𝟙 → Chain S g (suc k)
     chain_more k c r l = record {
       reduced = λ j m. go (dec_lt j k) m (c.reduced j);
       leads = λ j m. led (dec_lt j k) m (c.leads j);
     }
       where
-        go : {j : ℕ} → Dec (j < k) → j < suc k → (j < k → Reduced (place-rows g j S) (g j)) → Reduced (place-rows g j S) (g j)
+        go : {j : ℕ} → Dec (j < k) → j < suc k → (j < k → Reduced (place_rows g j S) (g j)) → Reduced (place_rows g j S) (g j)
         go (yes y) m h = h y
-        go {j} (no y) m h = let e : k ≡ j = omega arith in subst (λ i. Reduced (place-rows g i S) (g i)) e r
+        go {j} (no y) m h = let e : k ≡ j = omega arith in subst (λ i. Reduced (place_rows g i S) (g i)) e r
 
         led : {j : ℕ} → Dec (j < k) → j < suc k → (j < k → lead O n (g j) ≡ 𝟙) → lead O n (g j) ≡ 𝟙
         led (yes y) m h = h y
         led {j} (no y) m h = let e : k ≡ j = omega arith in subst (λ i. lead O n (g i) ≡ 𝟙) e l
 
     -- A chain keeps the reduced form.
-    pub chain_rref : (k : ℕ) → Rref S → Chain S g k → Rref (place-rows g k S)
-    unfolding place-rows
+    pub chain_rref : (k : ℕ) → Rref S → Chain S g k → Rref (place_rows g k S)
+    unfolding place_rows
     chain_rref zero f c = f
     chain_rref (suc k) f c =
-        elimination.place_rref L (place-rows g k S) (g k) (c.reduced k (omega arith)) (c.leads k (omega arith))
+        elimination.place_rref L (place_rows g k S) (g k) (c.reduced k (omega arith)) (c.leads k (omega arith))
         (chain_rref k f (chain_before k c))
 
     -- To reduce by the system, and then to eliminate the rows one after the other, is to reduce by the system with the rows placed.
-    pub chain_reduce : (k : ℕ) (e : Row O n) → Chain S g k → eliminate O n g k (reduce S e) ≡ reduce (place-rows g k S) e
-    unfolding place-rows eliminate
+    pub chain_reduce : (k : ℕ) (e : Row O n) → Chain S g k → eliminate O n g k (reduce S e) ≡ reduce (place_rows g k S) e
+    unfolding place_rows eliminate
     chain_reduce zero e c = refl
     chain_reduce (suc k) e c =
         ap (λ d. axpy O n (at O n (g k) d) (g k) d) (chain_reduce k e (chain_before k c))
-        ∙ sym (reduce_place (place-rows g k S) (g k) e (c.reduced k (omega arith)) (c.leads k (omega arith)))
+        ∙ sym (reduce_place (place_rows g k S) (g k) e (c.reduced k (omega arith)) (c.leads k (omega arith)))
 
   -- Only the first `k` rows count.
   pub eliminate_same : (n : ℕ) (g h : ℕ → Row O n) (k : ℕ) (e : Row O n) → ((j : ℕ) → j < k → g j ≡ h j) → eliminate O n g k e ≡ eliminate O n h k e
@@ -141,23 +141,23 @@ module _ {O : Ops} (L : Laws O) where
       ap₂ (λ r d. axpy O n (at O n r d) r d) (p k (omega arith)) (eliminate_same n g h k e (λ j l. p j (omega arith)))
 
   module _ {n : ℕ} (g h : ℕ → Row O n) where
-    pub place_rows_same : (k : ℕ) (S : State O n) → ((j : ℕ) → j < k → g j ≡ h j) → place-rows g k S ≡ place-rows h k S
-    unfolding place-rows
+    pub place_rows_same : (k : ℕ) (S : State O n) → ((j : ℕ) → j < k → g j ≡ h j) → place_rows g k S ≡ place_rows h k S
+    unfolding place_rows
     place_rows_same zero S p = refl
     place_rows_same (suc k) S p = ap₂ place (place_rows_same k S (λ j l. p j (omega arith))) (p k (omega arith))
 
     pub chain_same : (k : ℕ) (S : State O n) → ((j : ℕ) → j < k → g j ≡ h j) → Chain S g k → Chain S h k
     chain_same k S p c = record {
       reduced = λ j l.
-          subst (λ r. Reduced (place-rows h j S) r) (p j l)
+          subst (λ r. Reduced (place_rows h j S) r) (p j l)
           (subst (λ T. Reduced T (g j)) (place_rows_same j S (λ i m. p i (omega arith))) (c.reduced j l));
       leads = λ j l. subst (λ r. lead O n r ≡ 𝟙) (p j l) (c.leads j l);
     }
 
   -- One more equation of a packet: the equations `es` have become the first `k` rows of `g`.
   module _ {n : ℕ} (S : State O n) (g : ℕ → Row O n) (k : ℕ) (es : List (Row O n)) (c : Chain S g k)
-      (before : insert_all es S ≡ some (place-rows g k S)) (e : Row O n) where
-    next : (o : Option (State O n)) → insert (place-rows g k S) e ≡ o → insert_all (es ++ (e ∷ [])) S ≡ o
+      (before : insert_all es S ≡ some (place_rows g k S)) (e : Row O n) where
+    next : (o : Option (State O n)) → insert (place_rows g k S) e ≡ o → insert_all (es ++ (e ∷ [])) S ≡ o
     unfolding insert_all
     next o i =
         insert_all_append es (e ∷ []) S ∙ ap (λ a. and_then a (λ T. insert_all (e ∷ []) T)) before ∙ ap (λ a. and_then a some) i ∙ go o
@@ -166,19 +166,19 @@ module _ {O : Ops} (L : Laws O) where
         go none = refl
         go (some T) = refl
 
-    pub packet_implied : lead O n (reduce (place-rows g k S) e) ≡ 𝟘 → symbol O n (reduce (place-rows g k S) e) ≡ null
-        → insert_all (es ++ (e ∷ [])) S ≡ some (place-rows g k S)
-    packet_implied z y = next _ (reduced_implied (place-rows g k S) e z y)
+    pub packet_implied : lead O n (reduce (place_rows g k S) e) ≡ 𝟘 → symbol O n (reduce (place_rows g k S) e) ≡ null
+        → insert_all (es ++ (e ∷ [])) S ≡ some (place_rows g k S)
+    packet_implied z y = next _ (reduced_implied (place_rows g k S) e z y)
 
-    pub packet_contradicts : lead O n (reduce (place-rows g k S) e) ≡ 𝟘 → symbol O n (reduce (place-rows g k S) e) ≢ null
+    pub packet_contradicts : lead O n (reduce (place_rows g k S) e) ≡ 𝟘 → symbol O n (reduce (place_rows g k S) e) ≢ null
         → insert_all (es ++ (e ∷ [])) S ≡ none
-    packet_contradicts z y = next none (reduced_contradicts (place-rows g k S) e z y)
+    packet_contradicts z y = next none (reduced_contradicts (place_rows g k S) e z y)
 
-    pub packet_places : lead O n (reduce (place-rows g k S) e) ≢ 𝟘 → g k ≡ normal (place-rows g k S) e
-        → Chain S g (suc k) × (insert_all (es ++ (e ∷ [])) S ≡ some (place-rows g (suc k) S))
-    unfolding place-rows
+    pub packet_places : lead O n (reduce (place_rows g k S) e) ≢ 𝟘 → g k ≡ normal (place_rows g k S) e
+        → Chain S g (suc k) × (insert_all (es ++ (e ∷ [])) S ≡ some (place_rows g (suc k) S))
+    unfolding place_rows
     packet_places z q =
-        let T = place-rows g k S in (
+        let T = place_rows g k S in (
           chain_more S g k c (subst (Reduced T) (sym q) (normal_reduced T e)) (ap (lead O n) q ∙ normal_leads T e z),
           next _ (reduced_places T e z ∙ ap (λ r. some (place T r)) (sym q)),
         )

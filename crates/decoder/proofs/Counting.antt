@@ -3,14 +3,14 @@ use Rattle.words.specs.Words.{◌≡◌, arith, ℕ, ◌+◌, List, refl, ◌∙
 use mathlib.Core.Option.{some-ne-none}
 use Rattle.decoder.specs.Field.{Ops, Laws}
 use Rattle.decoder.specs.Model.{tail, Filling, Row, State, Sat, Rref, known}
-use Rattle.decoder.specs.Receiver.{is_new, count_new, advance-by, insert_all, newly}
+use Rattle.decoder.specs.Receiver.{is_new, count_new, advance_by, insert_all, newly}
 use Rattle.decoder.proofs.Elimination.{known_sound, known_complete}
 use Rattle.decoder.proofs.History as history
 
 module _ {A : Type 0} where
   -- How many of the first `m` are there.
-  abbrev pub count-all : ℕ → (ℕ → Option A) → ℕ
-  count-all m f = count_new m f (λ _. none)
+  abbrev pub count_all : ℕ → (ℕ → Option A) → ℕ
+  count_all m f = count_new m f (λ _. none)
 
   -- One more.
   pub count_more : (m : ℕ) (f g : ℕ → Option A) → count_new (suc m) f g ≡ count_new m f g + is_new (f m) (g m)
@@ -20,7 +20,7 @@ module _ {A : Type 0} where
       ap (λ k. is_new (f 0) (g 0) + k) (count_more m (tail f) (tail g)) ∙ sym (add_assoc (is_new (f 0) (g 0)) _ _)
 
   -- Where nothing is lost, those that are new and those that were there are all that are there.
-  pub count_split : (m : ℕ) (f g : ℕ → Option A) → ((i : ℕ) → f i ≡ none → g i ≡ none) → count_new m f g + count-all m g ≡ count-all m f
+  pub count_split : (m : ℕ) (f g : ℕ → Option A) → ((i : ℕ) → f i ≡ none → g i ≡ none) → count_new m f g + count_all m g ≡ count_all m f
   unfolding count_new is_new
   count_split zero f g h = refl
   count_split (suc m) f g h = go (f 0) (g 0) (h 0) _ _ _ (count_split m (tail f) (tail g) (λ i. h (suc i)))
@@ -48,13 +48,13 @@ module _ {O : Ops} (L : Laws O) where
   count_same (suc m) f g h e = ap₂ (λ o k. is_new (f 0) o + k) (e 0) (count_same m (tail f) (tail g) (tail h) (λ i. e (suc i)))
 
   -- The count of a packet: those known after it less those known before it, both over the new window.
-  pub newly_difference : {w : ℕ} (b d : ℕ) (S S' : State O w) (es : List (Row O w)) → Rref S → insert_all es (advance-by d S) ≡ some S'
-      → newly (record { base = b; window = S }) (record { base = b + d; window = S' }) + count-all w (known (advance-by d S)) ≡ count-all w (known S')
+  pub newly_difference : {w : ℕ} (b d : ℕ) (S S' : State O w) (es : List (Row O w)) → Rref S → insert_all es (advance_by d S) ≡ some S'
+      → newly (record { base = b; window = S }) (record { base = b + d; window = S' }) + count_all w (known (advance_by d S)) ≡ count_all w (known S')
   unfolding newly
   newly_difference {w} b d S S' es f i =
-      let added = subst (λ o. history.Added-all L (advance-by d S) es o) i (history.insert_all_added L es (advance-by d S) (history.advance_by_rref L d S f)) in
+      let added = subst (λ o. history.AddedAll L (advance_by d S) es o) i (history.insert_all_added L es (advance_by d S) (history.advance_by_rref L d S f)) in
       let rise : (b + d) - b ≡ d = omega arith in
-      ap (λ k. k + count-all w (known (advance-by d S)))
+      ap (λ k. k + count_all w (known (advance_by d S)))
       (ap (λ k. count_new w (known S') (λ j. known S (k + j))) rise
-      ∙ count_same w (known S') (λ j. known S (d + j)) (known (advance-by d S)) (λ j. sym (history.known_advance_by L d S j)))
-      ∙ count_split w (known S') (known (advance-by d S)) (known_grows (advance-by d S) S' added.0 (λ x t. ((added.1 x).0 t).0))
+      ∙ count_same w (known S') (λ j. known S (d + j)) (known (advance_by d S)) (λ j. sym (history.known_advance_by L d S j)))
+      ∙ count_split w (known S') (known (advance_by d S)) (known_grows (advance_by d S) S' added.0 (λ x t. ((added.1 x).0 t).0))

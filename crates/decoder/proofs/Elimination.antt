@@ -14,7 +14,7 @@ use mathlib.Core.Logic.Iff
 use mathlib.Core.Option.{some-ne-none}
 use Rattle.decoder.specs.Field.{Ops, Laws}
 use Rattle.decoder.specs.Model.{tail, ext, only_if, Filling, Row, State, end, free, pivot, Sat, Reduced, Rref, eval, axpy, scale, lead, at, symbol, push}
-use Rattle.decoder.specs.Model.{reduce, place-free, place, settle-by, settle, insert, known, extend, advance}
+use Rattle.decoder.specs.Model.{reduce, place_free, place, settle_by, settle, insert, known, extend, advance}
 use Rattle.decoder.proofs.Linear as lin
 
 module _ {O : Ops} (L : Laws O) where
@@ -89,13 +89,13 @@ module _ {O : Ops} (L : Laws O) where
 
   pub place_sat : {n : ℕ} (S : State O n) (e : Row O n) → Reduced S e → lead O n e ≡ 𝟙 → (x : Filling O)
       → Sat (place S e) x ↔ (Sat S x × (eval O n e x ≡ null))
-  unfolding place place-free lead eval
+  unfolding place place_free lead eval
   place_sat end e r l x = absurd (𝟙≢𝟘 (sym l))
   place_sat (free {n} S) e r l x = go (zero? e.0) (λ h. place_sat S e.1 r h (tail x))
     where
       go : (d : Dec (e.0 ≡ 𝟘))
           → (lead O n e.1 ≡ 𝟙 → Sat (place S e.1) (tail x) ↔ (Sat S (tail x) × (eval O n e.1 (tail x) ≡ null)))
-          → Sat (place-free d (place S e.1) e.1 S) x ↔ (Sat S (tail x) × (e.0 • x 0 ⊕ eval O n e.1 (tail x) ≡ null))
+          → Sat (place_free d (place S e.1) e.1 S) x ↔ (Sat S (tail x) × (e.0 • x 0 ⊕ eval O n e.1 (tail x) ≡ null))
       go (yes z) ih = simp (z, 𝟘-•, lin.null-⊕ O L) (ih (sym (lin.lead_later O L n e z) ∙ l))
       go (no z) ih = simp (sym (lin.lead_here O L n e z) ∙ l, 𝟙-•, lin.null_iff O L) ((λ s. (s.1, s.0)), (λ s. (s.1, s.0)))
   place_sat (pivot {n} t S) e r l x =
@@ -109,13 +109,13 @@ module _ {O : Ops} (L : Laws O) where
   -- Its column is clear in the older rows, and they stay clear of the other pivots.
   pub place_reduced : {n : ℕ} (S : State O n) (e r : Row O n) → Reduced S e → lead O n e ≡ 𝟙 → Reduced S r
       → Reduced (place S e) (axpy O n (at O n e r) e r)
-  unfolding place place-free lead at axpy
+  unfolding place place_free lead at axpy
   place_reduced end e r h l g = tt
   place_reduced (free {n} S) e r h l g = go (zero? e.0) (λ l'. place_reduced S e.1 r.1 h l' g)
     where
       go : (d : Dec (e.0 ≡ 𝟘))
           → (lead O n e.1 ≡ 𝟙 → Reduced (place S e.1) (axpy O n (at O n e.1 r.1) e.1 r.1))
-          → Reduced (place-free d (place S e.1) e.1 S) (axpy O (suc n) (at O (suc n) e r) e r)
+          → Reduced (place_free d (place S e.1) e.1 S) (axpy O (suc n) (at O (suc n) e r) e r)
       go (yes z) ih =
           subst (λ k. Reduced (place S e.1) (axpy O n k e.1 r.1)) (sym (lin.at_later O L n e r z)) (ih (sym (lin.lead_later O L n e z) ∙ l))
       go (no z) ih = (
@@ -129,11 +129,11 @@ module _ {O : Ops} (L : Laws O) where
       )
 
   pub place_rref : {n : ℕ} (S : State O n) (e : Row O n) → Reduced S e → lead O n e ≡ 𝟙 → Rref S → Rref (place S e)
-  unfolding place place-free lead
+  unfolding place place_free lead
   place_rref end e h l f = tt
   place_rref (free {n} S) e h l f = go (zero? e.0) (λ l'. place_rref S e.1 h l' f)
     where
-      go : (d : Dec (e.0 ≡ 𝟘)) → (lead O n e.1 ≡ 𝟙 → Rref (place S e.1)) → Rref (place-free d (place S e.1) e.1 S)
+      go : (d : Dec (e.0 ≡ 𝟘)) → (lead O n e.1 ≡ 𝟙 → Rref (place S e.1)) → Rref (place_free d (place S e.1) e.1 S)
       go (yes z) ih = ih (sym (lin.lead_later O L n e z) ∙ l)
       go (no _) ih = (h, f)
   place_rref (pivot {n} t S) e h l f =
@@ -157,13 +157,13 @@ module _ {O : Ops} (L : Laws O) where
   )
 
   settle_added : {n : ℕ} (S : State O n) (e : Row O n) → Rref S → Reduced S e → Added S e (settle S e)
-  unfolding settle settle-by
+  unfolding settle settle_by
   settle_added {n} S e f h = go (zero? (lead O n e)) (null? (symbol O n e))
     where
       k : K
       k = inv (lead O n e)
 
-      go : (d : Dec (lead O n e ≡ 𝟘)) (d' : Dec (symbol O n e ≡ null)) → Added S e (settle-by d d' S e)
+      go : (d : Dec (lead O n e ≡ 𝟘)) (d' : Dec (symbol O n e ≡ null)) → Added S e (settle_by d d' S e)
       go (yes z) (yes y) = (f, λ x. ((λ s. (s, lin.eval_lead O L n e x z ∙ y)), (λ s. s.0)))
       go (yes z) (no y) = λ x s q. y (sym (lin.eval_lead O L n e x z) ∙ q)
       go (no z) _ =

@@ -6,7 +6,7 @@ use Rattle.decoder.specs.Model.{Row, State, Reduced, Rref, place, known}
 use Rattle.decoder.specs.Receiver.{is_new, count_new}
 use Rattle.decoder.specs.Table.{Line, Table, read, view, Echelon}
 use Rattle.decoder.specs.TableSteps.{Leads, Places, total}
-use Rattle.decoder.specs.Chain.{Chain, place-rows}
+use Rattle.decoder.specs.Chain.{Chain, place_rows}
 use Rattle.decoder.proofs.Counting.{count_more, known_grows}
 use Rattle.decoder.proofs.Turns.{turns, turns_last, turn_rows}
 use Rattle.decoder.proofs.Chain.{chain_rref, chain_before}
@@ -70,14 +70,14 @@ module _ {O : Ops} (L : Laws O) where
 
   -- A chain of rows.
   module _ {n : ℕ} (S : State O n) (g : ℕ → Row O n) (f : Rref S) where
-    chain_step : (k : ℕ) → Chain S g (suc k) → (i : ℕ) → known (place-rows g (suc k) S) i ≡ none → known (place-rows g k S) i ≡ none
-    unfolding place-rows
+    chain_step : (k : ℕ) → Chain S g (suc k) → (i : ℕ) → known (place_rows g (suc k) S) i ≡ none → known (place_rows g k S) i ≡ none
+    unfolding place_rows
     chain_step k c i =
-        known_grows L (place-rows g k S) (place-rows g (suc k) S) (chain_rref L S g (suc k) f c)
-        (λ x s. ((elimination.place_sat L (place-rows g k S) (g k) (c.reduced k (omega arith)) (c.leads k (omega arith)) x).0 s).0) i
+        known_grows L (place_rows g k S) (place_rows g (suc k) S) (chain_rref L S g (suc k) f c)
+        (λ x s. ((elimination.place_sat L (place_rows g k S) (g k) (c.reduced k (omega arith)) (c.leads k (omega arith)) x).0 s).0) i
 
     -- What is known stays known.
-    pub chain_known : (k : ℕ) → Chain S g k → (i : ℕ) → known (place-rows g k S) i ≡ none → known S i ≡ none
-    unfolding place-rows
+    pub chain_known : (k : ℕ) → Chain S g k → (i : ℕ) → known (place_rows g k S) i ≡ none → known S i ≡ none
+    unfolding place_rows
     chain_known zero c i e = e
     chain_known (suc k) c i e = chain_known k (chain_before L S g k c) i (chain_step k c i e)

@@ -1,7 +1,7 @@
 -- The receiver against its whole history: it accepts what some filling allows, and shows what all fillings agree on.
 -- Index
 --   shift_at
---   Added-all: several equations at once
+--   AddedAll: several equations at once
 --   insert_all_added, advance_by_sat, advance_by_rref
 --   Received: a packet is refused where no filling satisfies it with all accepted before
 --   receive_follows, empty_rref, empty_sat, fresh_follows, faithful
@@ -15,7 +15,7 @@ use mathlib.Core.List.Memᴰ
 use mathlib.Core.List.{Memᴰ}
 use Rattle.decoder.specs.Field.{Ops, Laws}
 use Rattle.decoder.specs.Model.{tail, ext, Filling, Row, eval, symbol, State, end, free, pivot, extend, Sat, Rref, insert, known, advance}
-use Rattle.decoder.specs.Receiver.{shift, and_then, Packet, Hold, Satisfies, Satisfies-all, embed, over, Receiver, empty, fresh, advance-by, insert_all}
+use Rattle.decoder.specs.Receiver.{shift, and_then, Packet, Hold, Satisfies, SatisfiesAll, embed, over, Receiver, empty, fresh, advance_by, insert_all}
 use Rattle.decoder.specs.Receiver.{rise, receive, Fitting, Accepted, Log, opened, answered, called, run}
 use Rattle.decoder.specs.Promises.{Follows, Faithful, Demand3, Locates}
 use Rattle.decoder.proofs.Linear as lin
@@ -48,17 +48,17 @@ module _ {O : Ops} (L : Laws O) where
   hold_embed w d m (e ∷ es) x h = Iff.and (rw (eval_embed w d m e x h) Iff.rfl) (hold_embed w d m es x h)
 
   -- Several equations at once.
-  abbrev pub Added-all : {n : ℕ} → State O n → List (Row O n) → Option (State O n) → Type 0
-  Added-all {n} S es none = (x : Filling O) → Sat S x → ¬ Hold O n es x
-  Added-all {n} S es (some S') = Rref S' × ((x : Filling O) → Sat S' x ↔ (Sat S x × Hold O n es x))
+  abbrev pub AddedAll : {n : ℕ} → State O n → List (Row O n) → Option (State O n) → Type 0
+  AddedAll {n} S es none = (x : Filling O) → Sat S x → ¬ Hold O n es x
+  AddedAll {n} S es (some S') = Rref S' × ((x : Filling O) → Sat S' x ↔ (Sat S x × Hold O n es x))
 
-  pub insert_all_added : {n : ℕ} (es : List (Row O n)) (S : State O n) → Rref S → Added-all S es (insert_all es S)
+  pub insert_all_added : {n : ℕ} (es : List (Row O n)) (S : State O n) → Rref S → AddedAll S es (insert_all es S)
   unfolding insert_all
   insert_all_added [] S f = (f, λ x. ((λ s. (s, tt)), (λ s. s.0)))
   insert_all_added {n} (e ∷ es) S f = go (insert S e) (elimination.insert_added L S e f) (insert_all_added es)
     where
       rest : (S S' : State O n) → ((x : Filling O) → Sat S' x ↔ (Sat S x × (eval O n e x ≡ null)))
-          → (o : Option (State O n)) → Added-all S' es o → Added-all S (e ∷ es) o
+          → (o : Option (State O n)) → AddedAll S' es o → AddedAll S (e ∷ es) o
       rest S S' a none h = λ x s q. h x ((a x).1 (s, q.0)) q.1
       rest S S' a (some S'') h = (
         h.0,
@@ -68,13 +68,13 @@ module _ {O : Ops} (L : Laws O) where
         ),
       )
 
-      go : (o : Option (State O n)) → elimination.Added L S e o → ((S' : State O n) → Rref S' → Added-all S' es (insert_all es S'))
-          → Added-all S (e ∷ es) (and_then o (λ S'. insert_all es S'))
+      go : (o : Option (State O n)) → elimination.Added L S e o → ((S' : State O n) → Rref S' → AddedAll S' es (insert_all es S'))
+          → AddedAll S (e ∷ es) (and_then o (λ S'. insert_all es S'))
       go none h ih = λ x s q. h x s q.0
       go (some S') h ih = rest S S' h.1 (insert_all es S') (ih S' h.0)
 
-  pub advance_by_sat : {n : ℕ} (d : ℕ) (S : State O n) (y : Filling O) → Sat (advance-by d S) y ↔ ((x : Filling O) × Sat S x × (shift d x ≡ y))
-  unfolding advance-by
+  pub advance_by_sat : {n : ℕ} (d : ℕ) (S : State O n) (y : Filling O) → Sat (advance_by d S) y ↔ ((x : Filling O) × Sat S x × (shift d x ≡ y))
+  unfolding advance_by
   advance_by_sat zero S y = ((λ s. (y, s, refl)), (λ t. subst (λ z. Sat S z) t.2 t.1))
   advance_by_sat (suc d) S y =
       let ih = advance_by_sat d (advance S) y in (
@@ -85,14 +85,14 @@ module _ {O : Ops} (L : Laws O) where
         (λ t. ih.1 (tail t.0, (elimination.advance_sat L S (tail t.0)).1 (t.0, t.1, refl), t.2)),
       )
 
-  pub advance_by_rref : {n : ℕ} (d : ℕ) (S : State O n) → Rref S → Rref (advance-by d S)
-  unfolding advance-by
+  pub advance_by_rref : {n : ℕ} (d : ℕ) (S : State O n) → Rref S → Rref (advance_by d S)
+  unfolding advance_by
   advance_by_rref zero S f = f
   advance_by_rref (suc d) S f = advance_by_rref d (advance S) (elimination.advance_rref L S f)
 
   -- The system still describes the history when the window has moved on.
   advance_follows : {w : ℕ} (A : List (Packet O)) (r : Receiver O w) (d : ℕ) → Follows A r
-      → Follows A (record { base = r.base + d; window = advance-by d r.window })
+      → Follows A (record { base = r.base + d; window = advance_by d r.window })
   advance_follows A r d h = record {
     rref = advance_by_rref d r.window h.rref;
     sound = λ f a. (advance_by_sat d r.window _).1 (shift r.base f, h.sound f a, sym (shift-add r.base d f));
@@ -104,7 +104,7 @@ module _ {O : Ops} (L : Laws O) where
 
   -- A packet is refused where no filling satisfies it with all accepted before; else the receiver follows it too.
   abbrev pub Received : {w : ℕ} → List (Packet O) → Packet O → Option (Receiver O w) → Type 0
-  Received A p none = (f : Filling O) → Satisfies-all O A f → ¬ Satisfies O p f
+  Received A p none = (f : Filling O) → SatisfiesAll O A f → ¬ Satisfies O p f
   Received A p (some r) = Follows (p ∷ A) r
 
   -- The packet over the window, which fits it.
@@ -118,7 +118,7 @@ module _ {O : Ops} (L : Laws O) where
 
   insert_follows : {w : ℕ} (A : List (Packet O)) (r : Receiver O w) (p : Packet O) → Follows A r
       → r.base ≤ p.first → p.first + p.count ≤ r.base + w
-      → (o : Option (State O w)) → Added-all r.window (over O w r.base p) o
+      → (o : Option (State O w)) → AddedAll r.window (over O w r.base p) o
       → Received A p (and_then o (λ S. some (record { base = r.base; window = S })))
   insert_follows {w} A r p h b g none a = λ f s q. a (shift r.base f) (h.sound f s) ((satisfies_embed w r.base p f b g).1 q)
   insert_follows {w} A r p h b g (some S) a = record {
@@ -135,7 +135,7 @@ module _ {O : Ops} (L : Laws O) where
   unfolding receive rise
   receive_follows {w} A r p h (behind, long) =
       let d : ℕ = (p.first + p.count) - (r.base + w) in
-      let r' : Receiver O w = record { base = r.base + d; window = advance-by d r.window } in
+      let r' : Receiver O w = record { base = r.base + d; window = advance_by d r.window } in
       let h' = advance_follows A r d h in
       insert_follows A r' p h' (omega arith) (omega arith)
       (insert_all (over O w r'.base p) r'.window) (insert_all_added (over O w r'.base p) r'.window h'.rref)
@@ -181,11 +181,11 @@ module _ {O : Ops} (L : Laws O) where
       at : (i : ℕ) (f x : Filling O) → shift r.base f ≡ x → x i ≡ f (r.base + i)
       at i f x e = sym (ap (λ z. z i) e) ∙ shift_at r.base i f
 
-      shown : (i : ℕ) (v : Sym) → known r.window i ≡ some v → (f : Filling O) → Satisfies-all O A f → f (r.base + i) ≡ v
+      shown : (i : ℕ) (v : Sym) → known r.window i ≡ some v → (f : Filling O) → SatisfiesAll O A f → f (r.base + i) ≡ v
       shown i v k f a = sym (shift_at r.base i f) ∙ elimination.known_sound L r.window i v k (shift r.base f) (h.sound f a)
 
       hidden : (i : ℕ) → known r.window i ≡ none
-          → (f g : Filling O) × Satisfies-all O A f × Satisfies-all O A g × (f (r.base + i) ≢ g (r.base + i))
+          → (f g : Filling O) × SatisfiesAll O A f × SatisfiesAll O A g × (f (r.base + i) ≢ g (r.base + i))
       hidden i k =
           let (x, y, s, t, q) = elimination.known_complete L r.window i h.rref k in
           let (f, a, e) = h.complete x s in
@@ -193,13 +193,13 @@ module _ {O : Ops} (L : Laws O) where
           (f, g, a, b, λ z. q (at i f x e ∙ z ∙ sym (at i g y e')))
 
       agreed : (i : ℕ) (o : Option Sym) → known r.window i ≡ o
-          → Accepted o ↔ ((f g : Filling O) → Satisfies-all O A f → Satisfies-all O A g → f (r.base + i) ≡ g (r.base + i))
+          → Accepted o ↔ ((f g : Filling O) → SatisfiesAll O A f → SatisfiesAll O A g → f (r.base + i) ≡ g (r.base + i))
       agreed i none k = ((λ x. absurd x), (λ a. let (f, g, s, t, q) = hidden i k in q (a f g s t)))
       agreed i (some v) k = ((λ _ f g s t. shown i v k f s ∙ sym (shown i v k g t)), (λ _. tt))
 
   -- All packets of a list, each by itself: the order is nothing to it.
   pub satisfies_members : (A : List (Packet O)) (f : Filling O)
-      → Satisfies-all O A f ↔ ((p : Packet O) → Memᴰ p A → Satisfies O p f)
+      → SatisfiesAll O A f ↔ ((p : Packet O) → Memᴰ p A → Satisfies O p f)
   satisfies_members [] f = ((λ _ p m. absurd (Memᴰ.not-nil m)), (λ _. tt))
   satisfies_members (q ∷ A) f =
       let ih = satisfies_members A f in (
@@ -210,7 +210,7 @@ module _ {O : Ops} (L : Laws O) where
 
   -- Two receivers with one base whose accepted packets have the same fillings, in whatever order they came, show the same.
   pub same_known : {w : ℕ} (A B : List (Packet O)) (r s : Receiver O w) → Faithful A r → Faithful B s → r.base ≡ s.base
-      → ((f : Filling O) → Satisfies-all O A f ↔ Satisfies-all O B f) → (i : ℕ) → known r.window i ≡ known s.window i
+      → ((f : Filling O) → SatisfiesAll O A f ↔ SatisfiesAll O B f) → (i : ℕ) → known r.window i ≡ known s.window i
   same_known A B r s g h e t i = go (known r.window i) (known s.window i) refl refl
     where
       at : (f : Filling O) → f (r.base + i) ≡ f (s.base + i)
@@ -245,8 +245,8 @@ module _ {O : Ops} (L : Laws O) where
   known_advance (free S) i = known-extend S i
   known_advance (pivot r S) i = known-extend S i
 
-  pub known_advance_by : {n : ℕ} (d : ℕ) (S : State O n) (i : ℕ) → known (advance-by d S) i ≡ known S (d + i)
-  unfolding advance-by
+  pub known_advance_by : {n : ℕ} (d : ℕ) (S : State O n) (i : ℕ) → known (advance_by d S) i ≡ known S (d + i)
+  unfolding advance_by
   known_advance_by zero S i = rw zero-add
   known_advance_by (suc d) S i = known_advance_by d (advance S) i ∙ known_advance S (d + i) ∙ ap (known S) (sym (suc-add d i))
 
@@ -261,7 +261,7 @@ module _ {O : Ops} (L : Laws O) where
   }
     where
       go : (p : Packet O) (o : Option (Receiver O w)) → Received l.accepted p o
-          → Accepted o ↔ ((f : Filling O) × Satisfies O p f × Satisfies-all O l.accepted f)
+          → Accepted o ↔ ((f : Filling O) × Satisfies O p f × SatisfiesAll O l.accepted f)
       go p none k = ((λ a. absurd a), (λ (f, s, t). k f t s))
       go p (some r) k = ((λ _. let (f, s) = (faithful (p ∷ l.accepted) r k).filling in (f, s.0, s.1)), (λ _. tt))
 

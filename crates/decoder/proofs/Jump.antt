@@ -2,7 +2,7 @@
 use Rattle.words.specs.Words.{◌≡◌, arith, ℕ, ◌≤◌, List, refl, ap, [], some, ◌∷◌, suc, zero, none, ◌++◌, Option}
 use Rattle.decoder.specs.Field.{Ops}
 use Rattle.decoder.specs.Model.{Row, insert, State, end, free, pivot, extend, advance}
-use Rattle.decoder.specs.Receiver.{advance-by, empty, insert_all, and_then}
+use Rattle.decoder.specs.Receiver.{advance_by, empty, insert_all, and_then}
 
 module _ {O : Ops} where
   -- A loop over a packet's equations: what some have made, the rest go on with; and a contradiction stays one.
@@ -18,8 +18,8 @@ module _ {O : Ops} where
       go (some S') ih = ih S'
 
   -- A loop that moves on one position a turn.
-  pub advance_by_suc : {n : ℕ} (d : ℕ) (S : State O n) → advance-by (suc d) S ≡ advance (advance-by d S)
-  unfolding advance-by
+  pub advance_by_suc : {n : ℕ} (d : ℕ) (S : State O n) → advance_by (suc d) S ≡ advance (advance_by d S)
+  unfolding advance_by
   advance_by_suc zero S = refl
   advance_by_suc (suc d) S = advance_by_suc d (advance S)
 
@@ -66,13 +66,13 @@ module _ {O : Ops} where
   free_empty (free S) f = ap free (free_empty S f)
   free_empty (pivot r S) f = absurd f
 
-  empty_from : {n : ℕ} (d j : ℕ) (S : State O n) → j ≤ d → FreeFrom S j → FreeFrom (advance-by d S) zero
-  unfolding advance-by
+  empty_from : {n : ℕ} (d j : ℕ) (S : State O n) → j ≤ d → FreeFrom S j → FreeFrom (advance_by d S) zero
+  unfolding advance_by
   empty_from zero zero S h f = f
   empty_from zero (suc j) S h f = absurd (omega arith)
   empty_from (suc d) zero S h f = empty_from d zero (advance S) (omega arith) (free_stays S f)
   empty_from (suc d) (suc j) S h f = empty_from d j (advance S) (omega arith) (free_advance S j f)
 
   -- A jump of the window's width or more leaves it empty.
-  pub advance_by_empty : {n : ℕ} (d : ℕ) (S : State O n) → n ≤ d → advance-by d S ≡ empty O n
-  advance_by_empty {n} d S h = free_empty (advance-by d S) (empty_from d n S h (free_all S n (omega arith)))
+  pub advance_by_empty : {n : ℕ} (d : ℕ) (S : State O n) → n ≤ d → advance_by d S ≡ empty O n
+  advance_by_empty {n} d S h = free_empty (advance_by d S) (empty_from d n S h (free_all S n (omega arith)))

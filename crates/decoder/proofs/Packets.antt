@@ -4,7 +4,7 @@ use mathlib.Core.Logic.Iff
 use Rattle.decoder.specs.Field.{Ops, Laws}
 use Rattle.decoder.specs.Model.{tail, Filling, eval, symbol}
 use Rattle.decoder.specs.Receiver.{shift, Hold, Satisfies, embed}
-use Rattle.decoder.specs.Packets.{combine, row, only, source-rows, source, Repair, repair, Combined}
+use Rattle.decoder.specs.Packets.{combine, row, only, source_rows, source, Repair, repair, Combined}
 use Rattle.decoder.specs.Table.{Line, read}
 use Rattle.decoder.proofs.History.{shift_at}
 use Rattle.decoder.proofs.Linear as lin
@@ -35,8 +35,8 @@ module _ {O : Ops} (L : Laws O) where
   combine_only (suc n) (suc i) x h = ap₂ ◌⊕◌ (𝟘-• (x 0)) (combine_only n i (tail x) (omega arith)) ∙ lin.null-⊕ O L (x (suc i))
 
   source_hold : (n m i : ℕ) (s : ℕ → Sym) (x : Filling O) → i +ₙ m ≤ n
-      → Hold O n (source-rows O n m i s) x ↔ ((j : ℕ) → i ≤ j → j < i +ₙ m → x j ≡ s j)
-  unfolding source-rows
+      → Hold O n (source_rows O n m i s) x ↔ ((j : ℕ) → i ≤ j → j < i +ₙ m → x j ≡ s j)
+  unfolding source_rows
   source_hold n zero i s x h = ((λ _ j g l. absurd (omega arith)), (λ _. tt))
   source_hold n (suc m) i s x h =
       let here = row_holds n (only O i) (s i) x in

@@ -3,13 +3,13 @@
 --   read-add, read_scale, add-zero
 --   sweep_before: a sweep over later positions leaves an earlier cell
 --   sweep_reduce, lead_read, lead_none, at_read
---   add-line-zero: to add nothing changes nothing, so such rows may be passed over
+--   add_line-zero: to add nothing changes nothing, so such rows may be passed over
 --   view_place, view_advance
 use Rattle.words.specs.Words.{◌≡◌, arith, ℕ, ◌≤◌, ◌+◌ as ◌+ₙ◌, ◌<◌, refl, ◌∙◌, sym, ap, suc, true, zero, false, Bool, subst, ◌≢◌, ap₂, ℕ_discrete, true≢false}
 use Rattle.decoder.specs.Field.{Ops, Laws}
-use Rattle.decoder.specs.Model.{Row, State, end, free, pivot, axpy, scale, lead, at, push, reduce, place, place-free, extend, advance}
+use Rattle.decoder.specs.Model.{Row, State, end, free, pivot, axpy, scale, lead, at, push, reduce, place, place_free, extend, advance}
 use Rattle.decoder.specs.Table.{Line, Table, read, slot, view, Echelon}
-use Rattle.decoder.specs.TableSteps.{add-line, scale-line, step_by, sweep, Leads, Places, Moves}
+use Rattle.decoder.specs.TableSteps.{add_line, scale_line, step_by, sweep, Leads, Places, Moves}
 use Rattle.decoder.proofs.Linear as lin
 
 module _ {O : Ops} (L : Laws O) where
@@ -20,13 +20,13 @@ module _ {O : Ops} (L : Laws O) where
   infixl 60 ◌*◌
   infixl 50 ◌⊕◌
   infixr 60 ◌•◌
-  pub read-add : (k : K) (r e : Line O) (n q : ℕ) → read (add-line k r e) n q ≡ axpy O n k (read r n q) (read e n q)
-  unfolding read add-line axpy
+  pub read-add : (k : K) (r e : Line O) (n q : ℕ) → read (add_line k r e) n q ≡ axpy O n k (read r n q) (read e n q)
+  unfolding read add_line axpy
   read-add k r e zero q = refl
   read-add k r e (suc n) q = ap (λ t. (e.cells q + k * r.cells q, t)) (read-add k r e n (suc q))
 
-  pub read_scale : (k : K) (e : Line O) (n q : ℕ) → read (scale-line k e) n q ≡ scale O n k (read e n q)
-  unfolding read scale-line scale
+  pub read_scale : (k : K) (e : Line O) (n q : ℕ) → read (scale_line k e) n q ≡ scale O n k (read e n q)
+  unfolding read scale_line scale
   read_scale k e zero q = refl
   read_scale k e (suc n) q = ap (λ t. (k * e.cells q, t)) (read_scale k e n (suc q))
 
@@ -36,7 +36,7 @@ module _ {O : Ops} (L : Laws O) where
   -- A sweep over later positions leaves an earlier cell.
   pub sweep_before : (T : Table O) (b w : ℕ) → Echelon T b w → (n q : ℕ) (e : Line O) (j : ℕ) → b ≤ j → j < q → q +ₙ n ≤ b +ₙ w
       → (sweep T n q e).cells j ≡ e.cells j
-  unfolding sweep step_by add-line
+  unfolding sweep step_by add_line
   sweep_before T b w h zero q e j g l f = refl
   sweep_before T b w h (suc n) q e j g l f =
       sweep_before T b w h n (suc q) (step_by (T.has q) (e.cells q) (T.line q) e) j g (omega arith) (omega arith)
@@ -49,7 +49,7 @@ module _ {O : Ops} (L : Laws O) where
   -- The sweep reduces.
   sweep_from : (T : Table O) (b w : ℕ) → Echelon T b w → (n q : ℕ) (e : Line O) → b ≤ q → q +ₙ n ≤ b +ₙ w
       → read (sweep T n q e) n q ≡ reduce (view T n q) (read e n q)
-  unfolding sweep step_by add-line read view slot reduce
+  unfolding sweep step_by add_line read view slot reduce
   sweep_from T b w h zero q e g f = refl
   sweep_from T b w h (suc n) q e g f =
       go (T.has q) (h.one_at q g (omega arith))
@@ -98,9 +98,9 @@ module _ {O : Ops} (L : Laws O) where
       go (no c) ih = lin.at_later O L n _ _ (h.below q (omega arith) (omega arith)) ∙ ih (omega arith)
 
   -- To add nothing changes nothing, so such rows may be passed over.
-  pub add-line-zero : (k : K) (r e : Line O) → k ≡ 𝟘 → add-line k r e ≡ e
-  unfolding add-line
-  add-line-zero k r e z i = record {
+  pub add_line-zero : (k : K) (r e : Line O) → k ≡ 𝟘 → add_line k r e ≡ e
+  unfolding add_line
+  add_line-zero k r e z i = record {
     cells = λ j. (ap (λ a. e.cells j + a) (ap (λ c. c * r.cells j) z ∙ *-comm 𝟘 (r.cells j) ∙ *-𝟘 (r.cells j)) ∙ +-𝟘 (e.cells j)) i;
     sym = (ap (λ v. e.sym ⊕ v) (ap (λ c. c • r.sym) z ∙ 𝟘-• r.sym) ∙ ⊕-null e.sym) i;
   }
@@ -119,26 +119,26 @@ module _ {O : Ops} (L : Laws O) where
       slot_same (T.has q) (T'.has q) _ _ _ _
       (f.has_old q (omega arith) (omega arith) (omega arith))
       (λ t. ap (λ x. read x n (suc q)) (f.line_old q (omega arith) (omega arith) (omega arith) t
-      ∙ add-line-zero _ e (T.line q) (h.zero-before q (omega arith) (omega arith) t p g l)))
+      ∙ add_line-zero _ e (T.line q) (h.zero-before q (omega arith) (omega arith) t p g l)))
       (view_after T T' b w p e h f g n (suc q) (omega arith) (omega arith))
 
   slot_new : {n : ℕ} (t t' : Bool) (r r' R : Row O n) (S S' : State O n) (a : K) → t' ≡ true → t ≡ false → r' ≡ R → S' ≡ S → a ≢ 𝟘
       → slot t' r' S' ≡ place (slot t r S) (a, R)
-  unfolding slot place place-free
+  unfolding slot place place_free
   slot_new {n} t t' r r' R S S' a p u q s z =
       slot_same true t' R r' S S' p (λ _. q) s ∙ go (zero? a) ∙ ap (λ x. place (slot x r S) (a, R)) (sym u)
     where
-      go : (d : Dec (a ≡ 𝟘)) → pivot R S ≡ place-free d (place S R) R S
+      go : (d : Dec (a ≡ 𝟘)) → pivot R S ≡ place_free d (place S R) R S
       go (yes y) = absurd (z y)
       go (no _) = refl
 
   slot_old : {n : ℕ} (t t' : Bool) (r r' R : Row O n) (S S' : State O n) (a : K) → t' ≡ t → (t ≡ true → r' ≡ axpy O n (at O n R r) R r)
       → S' ≡ place S R → a ≡ 𝟘 → slot t' r' S' ≡ place (slot t r S) (a, R)
-  unfolding slot place place-free
+  unfolding slot place place_free
   slot_old {n} true t' r r' R S S' a p q s z = slot_same true t' _ r' _ S' p q s
   slot_old {n} false t' r r' R S S' a p q s z = slot_same false t' r r' _ S' p (λ x. absurd (true≢false (sym x))) s ∙ go (zero? a)
     where
-      go : (d : Dec (a ≡ 𝟘)) → free (place S R) ≡ place-free d (place S R) R S
+      go : (d : Dec (a ≡ 𝟘)) → free (place S R) ≡ place_free d (place S R) R S
       go (yes _) = refl
       go (no y) = absurd (y z)
 

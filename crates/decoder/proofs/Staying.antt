@@ -2,7 +2,7 @@
 use Rattle.words.specs.Words.{◌≡◌, arith, ℕ, ◌≤◌, ◌+◌ as ◌+ₙ◌, ◌<◌, refl, ◌∙◌, sym, ap, ◌-◌, suc, zero, false, Bool, subst, ap₂, add-zero, dec_lt}
 use Rattle.decoder.specs.Field.{Ops, Laws}
 use Rattle.decoder.specs.Model.{reduce, advance}
-use Rattle.decoder.specs.Receiver.{advance-by}
+use Rattle.decoder.specs.Receiver.{advance_by}
 use Rattle.decoder.specs.Table.{Line, Table, read, slot, view, Echelon}
 use Rattle.decoder.specs.TableSteps.{Moves, step_by, sweep}
 use Rattle.decoder.proofs.Jump.{advance_by_suc}
@@ -57,8 +57,8 @@ module _ {O : Ops} (L : Laws O) (T : Table O) (b w : ℕ) (wraps : (q j : ℕ) �
       let next : suc (b +ₙ d) ≡ b +ₙ suc d = omega arith in
       subst (λ k. Echelon cut k w) next (steps.moves_echelon L cut cut (b +ₙ d) w (stays_echelon d) (moves d))
 
-  stays_view : (d : ℕ) → view cut w (b +ₙ d) ≡ advance-by d (view T w b)
-  unfolding advance-by
+  stays_view : (d : ℕ) → view cut w (b +ₙ d) ≡ advance_by d (view T w b)
+  unfolding advance_by
   stays_view zero = ap (view cut w) (add-zero b) ∙ view_same w b (omega arith)
   stays_view (suc d) =
       let next : b +ₙ suc d ≡ suc (b +ₙ d) = omega arith in
@@ -87,7 +87,7 @@ module _ {O : Ops} (L : Laws O) (T : Table O) (b w : ℕ) (wraps : (q j : ℕ) �
 
   -- To sweep with the rows that stay reduces by the system moved on.
   pub stays_reduce : (d : ℕ) (e : Line O)
-      → read (sweep T (w - d) (b +ₙ d) e) w (b +ₙ d) ≡ reduce (advance-by d (view T w b)) (read e w (b +ₙ d))
+      → read (sweep T (w - d) (b +ₙ d) e) w (b +ₙ d) ≡ reduce (advance_by d (view T w b)) (read e w (b +ₙ d))
   stays_reduce d e =
       let count : (b +ₙ w) - (b +ₙ d) ≡ w - d = omega arith in
       ap (λ k. read (sweep T k (b +ₙ d) e) w (b +ₙ d)) (sym count)

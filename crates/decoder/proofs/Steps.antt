@@ -4,7 +4,7 @@ use Rattle.words.specs.Words.{add-zero, dec_lt, true≢false}
 use Rattle.decoder.specs.Field.{Ops, Laws}
 use Rattle.decoder.specs.Model.{Row, State, lead, symbol, known}
 use Rattle.decoder.specs.Table.{Line, Table, read, slot, view, Echelon}
-use Rattle.decoder.specs.TableSteps.{add-line, scale-line, Leads, Places, Moves}
+use Rattle.decoder.specs.TableSteps.{add_line, scale_line, Leads, Places, Moves}
 use Rattle.decoder.proofs.Linear as lin
 use Rattle.decoder.proofs.Refine as refine
 
@@ -19,8 +19,8 @@ module _ {O : Ops} (L : Laws O) where
   symbol_read e zero q = refl
   symbol_read e (suc n) q = symbol_read e n (suc q)
 
-  pub leads_scaled : (e : Line O) (q p : ℕ) → Leads e q p → Leads (scale-line (inv (e.cells p)) e) q p
-  unfolding scale-line
+  pub leads_scaled : (e : Line O) (q p : ℕ) → Leads e q p → Leads (scale_line (inv (e.cells p)) e) q p
+  unfolding scale_line
   leads_scaled e q p d = record {
     below = λ j g l. ap (λ a. inv (e.cells p) * a) (d.below j g l) ∙ *-𝟘 _;
     here = λ z. 𝟙≢𝟘 (sym (*-inv (e.cells p) d.here) ∙ z);
@@ -30,7 +30,7 @@ module _ {O : Ops} (L : Laws O) where
 
   pub places_echelon : (T T' : Table O) (b w p : ℕ) (e : Line O) → Echelon T b w → Places T T' b w p e → Leads e b p → e.cells p ≡ 𝟙
       → ((q : ℕ) → b ≤ q → q < b +ₙ w → T.has q ≡ true → e.cells q ≡ 𝟘) → b ≤ p → Echelon T' b w
-  unfolding add-line
+  unfolding add_line
   places_echelon T T' b w p e h f d o r g = record {
     one_at = λ q. one q (ℕ_discrete q p);
     zero-before = λ q. before q (ℕ_discrete q p);

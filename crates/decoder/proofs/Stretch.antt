@@ -6,7 +6,7 @@ use Rattle.field.specs.Gf256.{product}
 use Rattle.field.proofs.Laws.{product_lt}
 use Rattle.decoder.specs.Symbols.{nulls, adds, times}
 use Rattle.decoder.specs.Bytes.{byte, byte-sum, byte-product, bytes}
-use Rattle.decoder.specs.TableSteps.{add-line, scale-line}
+use Rattle.decoder.specs.TableSteps.{add_line, scale_line}
 use Rattle.decoder.specs.Stretch.{symbol_cut_at, Small, line_of}
 use Rattle.decoder.specs.Tuples.{bytes-of}
 use Rattle.decoder.proofs.Bytes.{byte-number, byte-zero, byte_nonzero}
@@ -85,16 +85,16 @@ module _ (w E : ℕ) (pos : 0 < w) where
   -- The loop that adds `k` times one row to another, byte by byte, is the row operation.
   pub line-add : (k : ℕ) (s r t : List ℕ) → Small s → Small r → k < 256
       → ((i : ℕ) → i < w + E → get_or t i 0 ≡ bit_xor (get_or s i 0) (product k (get_or r i 0)))
-      → line_of w E t ≡ add-line (byte k) (line_of w E r) (line_of w E s)
-  unfolding add-line
+      → line_of w E t ≡ add_line (byte k) (line_of w E r) (line_of w E s)
+  unfolding add_line
   line-add k s r t f g x h i = record {
     cells = λ j. (ap byte (h (j % w) (omega (arith, mod-lt j pos))) ∙ cell_add k _ _ x (f (j % w)) (g (j % w))) i;
     sym = symbol_add E w k s r t f g x (λ i c l. h i l) i;
   }
 
   pub line_scale : (k : ℕ) (s t : List ℕ) → Small s → k < 256 → ((i : ℕ) → i < w + E → get_or t i 0 ≡ product k (get_or s i 0))
-      → line_of w E t ≡ scale-line (byte k) (line_of w E s)
-  unfolding scale-line
+      → line_of w E t ≡ scale_line (byte k) (line_of w E s)
+  unfolding scale_line
   line_scale k s t f x h i = record {
     cells = λ j. (ap byte (h (j % w) (omega (arith, mod-lt j pos))) ∙ cell_times k _ x (f (j % w))) i;
     sym = symbol_times E w k s t f x (λ i c l. h i l) i;

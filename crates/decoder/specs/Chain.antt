@@ -14,11 +14,11 @@ module _ {O : Ops} {n : ℕ} where
   open O use {𝟙}
 
   -- The system with the first `k` of the rows `g` placed, in order.
-  unfoldable pub place-rows : (ℕ → Row O n) → ℕ → State O n → State O n
-  place-rows g zero S = S
-  place-rows g (suc k) S = place (place-rows g k S) (g k)
+  unfoldable pub place_rows : (ℕ → Row O n) → ℕ → State O n → State O n
+  place_rows g zero S = S
+  place_rows g (suc k) S = place (place_rows g k S) (g k)
 
   -- The first `k` of the rows `g` can be placed: each is reduced by the system with those before it, and leads with one.
   pub record Chain (S : State O n) (g : ℕ → Row O n) (k : ℕ) : Type 0 where
-    pub reduced : (j : ℕ) → j < k → Reduced (place-rows g j S) (g j)
+    pub reduced : (j : ℕ) → j < k → Reduced (place_rows g j S) (g j)
     pub leads : (j : ℕ) → j < k → lead O n (g j) ≡ 𝟙

@@ -99,24 +99,24 @@ module _ {O : Ops} where
   reduce (pivot {n} r S) e = (𝟘, reduce S (axpy O n e.0 r e.1))
 
   -- Store a reduced equation that leads with one as a new row, and clear its column in the older rows.
-  unfoldable pub place-free : {n : ℕ} {a : K} → Dec (a ≡ 𝟘) → State O n → Row O n → State O n → State O (suc n)
-  place-free (yes _) S' e S = free S'
-  place-free (no _) S' e S = pivot e S
+  unfoldable pub place_free : {n : ℕ} {a : K} → Dec (a ≡ 𝟘) → State O n → Row O n → State O n → State O (suc n)
+  place_free (yes _) S' e S = free S'
+  place_free (no _) S' e S = pivot e S
 
   unfoldable pub place : {n : ℕ} → State O n → Row O n → State O n
   place end e = end
-  place (free S) e = place-free (zero? e.0) (place S e.1) e.1 S
+  place (free S) e = place_free (zero? e.0) (place S e.1) e.1 S
   place (pivot {n} r S) e = pivot (axpy O n (at O n e.1 r) e.1 r) (place S e.1)
 
   -- What becomes of a reduced equation: implied where nothing is left of it, a contradiction, `none`, where only a symbol is left,
   -- else a new row, scaled to lead with one.
-  unfoldable pub settle-by : {n : ℕ} {a : K} {v : Sym} → Dec (a ≡ 𝟘) → Dec (v ≡ null) → State O n → Row O n → Option (State O n)
-  settle-by (yes _) (yes _) S e = some S
-  settle-by (yes _) (no _) S e = none
-  settle-by {n} (no _) _ S e = some (place S (scale O n (inv (lead O n e)) e))
+  unfoldable pub settle_by : {n : ℕ} {a : K} {v : Sym} → Dec (a ≡ 𝟘) → Dec (v ≡ null) → State O n → Row O n → Option (State O n)
+  settle_by (yes _) (yes _) S e = some S
+  settle_by (yes _) (no _) S e = none
+  settle_by {n} (no _) _ S e = some (place S (scale O n (inv (lead O n e)) e))
 
   unfoldable pub settle : {n : ℕ} → State O n → Row O n → Option (State O n)
-  settle {n} S e = settle-by (zero? (lead O n e)) (null? (symbol O n e)) S e
+  settle {n} S e = settle_by (zero? (lead O n e)) (null? (symbol O n e)) S e
 
   -- Add an equation.
   unfoldable pub insert : {n : ℕ} → State O n → Row O n → Option (State O n)

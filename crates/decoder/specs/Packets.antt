@@ -27,13 +27,13 @@ module _ (O : Ops) where
   only (suc i) (suc j) = only i j
 
   -- Rows for the `m` symbols from the `i`th on.
-  unfoldable pub source-rows : (n m i : ℕ) → (ℕ → Sym) → List (Row O n)
-  source-rows n zero i s = []
-  source-rows n (suc m) i s = row n (only i) (s i) ∷ source-rows n m (suc i) s
+  unfoldable pub source_rows : (n m i : ℕ) → (ℕ → Sym) → List (Row O n)
+  source_rows n zero i s = []
+  source_rows n (suc m) i s = row n (only i) (s i) ∷ source_rows n m (suc i) s
 
   -- The source packet of `n` symbols from position `p` on.
   unfoldable pub source : (first n : ℕ) → (ℕ → Sym) → Packet O
-  source p n s = record { first = p; count = n; rows = source-rows n n 0 s }
+  source p n s = record { first = p; count = n; rows = source_rows n n 0 s }
 
   -- A repair symbol and its coefficients.
   pub record Repair : Type 0 where

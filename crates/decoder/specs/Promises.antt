@@ -4,7 +4,7 @@ use Rattle.words.specs.Words.{◌≡◌, ℕ, ◌≤◌, ◌+◌, List, ◌<◌,
 use Rattle.std.specs.Int.Bits.{bit_and}
 use Rattle.decoder.specs.Field.{Ops}
 use Rattle.decoder.specs.Model.{Filling, Row, eval, State, Sat, Rref, insert, known}
-use Rattle.decoder.specs.Receiver.{shift, Accepted, Packet, Satisfies, Satisfies-all, Receiver, advance-by, receive, Fitting, Log, opened, run}
+use Rattle.decoder.specs.Receiver.{shift, Accepted, Packet, Satisfies, SatisfiesAll, Receiver, advance_by, receive, Fitting, Log, opened, run}
 use Rattle.decoder.specs.Packets.{source, Repair, repair, Combined}
 use Rattle.decoder.specs.Bytes.{byte, Coded}
 use Rattle.decoder.specs.Tuples.{Byte}
@@ -16,21 +16,21 @@ module _ {O : Ops} where
   -- and every filling of it is that of a filling of the accepted packets.
   pub record Follows {w : ℕ} (A : List (Packet O)) (r : Receiver O w) : Type 0 where
     pub rref : Rref r.window
-    pub sound : (f : Filling O) → Satisfies-all O A f → Sat r.window (shift r.base f)
-    pub complete : (x : Filling O) → Sat r.window x → (f : Filling O) × Satisfies-all O A f × (shift r.base f ≡ x)
+    pub sound : (f : Filling O) → SatisfiesAll O A f → Sat r.window (shift r.base f)
+    pub complete : (x : Filling O) → Sat r.window x → (f : Filling O) × SatisfiesAll O A f × (shift r.base f ≡ x)
 
   -- What it shows is right, and all that can be shown.
   pub record Faithful {w : ℕ} (A : List (Packet O)) (r : Receiver O w) : Type 0 where
     -- Some filling satisfies all accepted packets.
-    pub filling : (f : Filling O) × Satisfies-all O A f
+    pub filling : (f : Filling O) × SatisfiesAll O A f
     -- What is shown is what every such filling has there, a sender's among them.
-    pub shown : (i : ℕ) (v : Sym) → known r.window i ≡ some v → (f : Filling O) → Satisfies-all O A f → f (r.base + i) ≡ v
+    pub shown : (i : ℕ) (v : Sym) → known r.window i ≡ some v → (f : Filling O) → SatisfiesAll O A f → f (r.base + i) ≡ v
     -- Where nothing is shown, two such fillings differ.
     pub hidden : (i : ℕ) → known r.window i ≡ none
-        → (f g : Filling O) × Satisfies-all O A f × Satisfies-all O A g × (f (r.base + i) ≢ g (r.base + i))
+        → (f g : Filling O) × SatisfiesAll O A f × SatisfiesAll O A g × (f (r.base + i) ≢ g (r.base + i))
     -- So a position is known exactly if all such fillings agree there.
     pub exactly : (i : ℕ)
-        → Accepted (known r.window i) ↔ ((f g : Filling O) → Satisfies-all O A f → Satisfies-all O A g → f (r.base + i) ≡ g (r.base + i))
+        → Accepted (known r.window i) ↔ ((f g : Filling O) → SatisfiesAll O A f → SatisfiesAll O A g → f (r.base + i) ≡ g (r.base + i))
 
   -- Demand 3 of a receiver and the packets that it has accepted: besides, the next packet is accepted exactly if some filling satisfies it
   -- and all accepted before.
@@ -38,7 +38,7 @@ module _ {O : Ops} where
     pub follows : Follows l.accepted l.receiver
     pub answers : Faithful l.accepted l.receiver
     pub verdict : (p : Packet O) → Fitting l.receiver p
-        → Accepted (receive l.receiver p) ↔ ((f : Filling O) × Satisfies O p f × Satisfies-all O l.accepted f)
+        → Accepted (receive l.receiver p) ↔ ((f : Filling O) × Satisfies O p f × SatisfiesAll O l.accepted f)
 
   -- Every packet that a call locates lies ahead of the base and is no longer than the window.
   abbrev pub Locates : {Call : Type 0} → ℕ → (Call → ℕ → Option (Packet O)) → Type 0
@@ -56,7 +56,7 @@ pub record Decoder (O : Ops) : Type 1 where
       → Rref S' × ((x : Filling O) → Sat S' x ↔ (Sat S x × (eval O n e x ≡ O.null)))
   -- Projection: when the `d` oldest positions depart, the fillings of what is left are those of the system, without the first `d` symbols.
   pub projection : {n : ℕ} (d : ℕ) (S : State O n) (y : Filling O)
-      → Sat (advance-by d S) y ↔ ((x : Filling O) × Sat S x × (shift d x ≡ y))
+      → Sat (advance_by d S) y ↔ ((x : Filling O) × Sat S x × (shift d x ≡ y))
   -- A position is known exactly if all fillings agree there, and then with their symbol.
   pub known_exactly : {n : ℕ} (S : State O n) → Rref S → (i : ℕ)
       → Accepted (known S i) ↔ ((x y : Filling O) → Sat S x → Sat S y → x i ≡ y i)
@@ -68,7 +68,7 @@ pub record Decoder (O : Ops) : Type 1 where
   pub repair-says : (p n : ℕ) (es : List (Repair O)) (f : Filling O) → Satisfies O (repair O p n es) f ↔ Combined O n es (shift p f)
   -- Two receivers with one base whose accepted packets have the same fillings, in whatever order they came, know the same.
   pub order : {w : ℕ} (A B : List (Packet O)) (r s : Receiver O w) → Faithful A r → Faithful B s → r.base ≡ s.base
-      → ((f : Filling O) → Satisfies-all O A f ↔ Satisfies-all O B f) → (i : ℕ) → known r.window i ≡ known s.window i
+      → ((f : Filling O) → SatisfiesAll O A f ↔ SatisfiesAll O B f) → (i : ℕ) → known r.window i ≡ known s.window i
   -- Demand 3, after every list of calls, at whatever base the first finds the receiver.
   pub demand_3 : {w : ℕ} {Call : Type 0} (locate : Call → ℕ → Option (Packet O)) → Locates w locate
       → (base : ℕ) (cs : List Call) → Demand3 (run locate (opened O w base) cs)

@@ -46,9 +46,9 @@ module _ (O : Ops) where
   abbrev pub Satisfies : Packet → Filling O → Type 0
   Satisfies p f = Hold p.count p.rows (shift p.first f)
 
-  abbrev pub Satisfies-all : List Packet → Filling O → Type 0
-  Satisfies-all [] f = Unit {0}
-  Satisfies-all (p ∷ ps) f = Satisfies p f × Satisfies-all ps f
+  abbrev pub SatisfiesAll : List Packet → Filling O → Type 0
+  SatisfiesAll [] f = Unit {0}
+  SatisfiesAll (p ∷ ps) f = Satisfies p f × SatisfiesAll ps f
 
   -- The row over a window of `w`, of which it covers `m` positions from the `d`th on.
   unfoldable pub embed : (w d m : ℕ) → Row O m → Row O w
@@ -77,9 +77,9 @@ module _ (O : Ops) where
 
 module _ {O : Ops} where
   -- The window moves on by several positions.
-  unfoldable pub advance-by : {n : ℕ} → ℕ → State O n → State O n
-  advance-by zero S = S
-  advance-by (suc d) S = advance-by d (advance S)
+  unfoldable pub advance_by : {n : ℕ} → ℕ → State O n → State O n
+  advance_by zero S = S
+  advance_by (suc d) S = advance_by d (advance S)
 
   -- Add the equations, all or none.
   unfoldable pub insert_all : {n : ℕ} → List (Row O n) → State O n → Option (State O n)
@@ -95,7 +95,7 @@ module _ {O : Ops} where
   receive {w} r p =
       let d = rise r p in
       let base = r.base + d in
-      and_then (insert_all (over O w base p) (advance-by d r.window))
+      and_then (insert_all (over O w base p) (advance_by d r.window))
       (λ S. some (record { base = base; window = S }))
 
   -- Refusals that come before: 8 where it lies behind, 4 and 6 where it is longer than the window.

@@ -17,20 +17,20 @@ module _ {O : Ops} where
   infixl 50 ◌⊕◌
   infixr 60 ◌•◌
   -- The row operations, on every cell: `e + k · r`, and `k · e`.
-  unfoldable pub add-line : K → Line O → Line O → Line O
-  add-line k r e = record { cells = λ j. e.cells j + k * r.cells j; sym = e.sym ⊕ k • r.sym }
+  unfoldable pub add_line : K → Line O → Line O → Line O
+  add_line k r e = record { cells = λ j. e.cells j + k * r.cells j; sym = e.sym ⊕ k • r.sym }
 
-  unfoldable pub scale-line : K → Line O → Line O
-  scale-line k e = record { cells = λ j. k * e.cells j; sym = k • e.sym }
+  unfoldable pub scale_line : K → Line O → Line O
+  scale_line k e = record { cells = λ j. k * e.cells j; sym = k • e.sym }
 
   -- `e` plus the sum of `m r · l r` over the `r` below `n`.
-  unfoldable pub add-lines : (ℕ → K) → (ℕ → Line O) → ℕ → Line O → Line O
-  add-lines m l zero e = e
-  add-lines m l (suc n) e = add-line (m n) (l n) (add-lines m l n e)
+  unfoldable pub add_lines : (ℕ → K) → (ℕ → Line O) → ℕ → Line O → Line O
+  add_lines m l zero e = e
+  add_lines m l (suc n) e = add_line (m n) (l n) (add_lines m l n e)
 
   -- The loop that reduces an equation, position by position.
   unfoldable pub step_by : Bool → K → Line O → Line O → Line O
-  step_by true k r e = add-line k r e
+  step_by true k r e = add_line k r e
   step_by false k r e = e
 
   unfoldable pub sweep : Table O → (n q : ℕ) → Line O → Line O
@@ -48,7 +48,7 @@ module _ {O : Ops} where
     pub line_new : T'.line p ≡ e
     pub has_old : (q : ℕ) → b ≤ q → q < b +ₙ w → q ≢ p → T'.has q ≡ T.has q
     pub line_old : (q : ℕ) → b ≤ q → q < b +ₙ w → q ≢ p → T.has q ≡ true
-        → T'.line q ≡ add-line ((T.line q).cells p) e (T.line q)
+        → T'.line q ≡ add_line ((T.line q).cells p) e (T.line q)
 
   -- The base rises by one: its row leaves, and its column, which is zero in every other row, is that of the position that joins.
   pub record Moves (T T' : Table O) (b w : ℕ) : Type 0 where

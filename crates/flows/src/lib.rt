@@ -1,4 +1,6 @@
 // Flows that an end announces when it is opened (document 02, No. 7), in 32 bytes: one flow more, and all.
+#![tactic(auto)]
+
 ghost use Rattle.words.specs.Words.{◌≡◌, length};
 ghost use Rattle.flows.specs.Promises.{Announces, AnnouncesAll};
 

@@ -15,10 +15,10 @@ use Rattle.rows.proofs.Sums.{length-scaled, get_or-scaled, scaled-one}
 use Rattle.decoder.specs.Field.{Laws}
 use Rattle.decoder.specs.Bytes.{byte, Coded}
 use Rattle.decoder.specs.Model.{Row, State, Rref, scale, lead, symbol, reduce}
-use Rattle.decoder.specs.Receiver.{advance-by, insert_all}
+use Rattle.decoder.specs.Receiver.{advance_by, insert_all}
 use Rattle.decoder.specs.Table.{read}
-use Rattle.decoder.specs.TableSteps.{Leads, scale-line}
-use Rattle.decoder.specs.Chain.{Chain, place-rows, eliminate}
+use Rattle.decoder.specs.TableSteps.{Leads, scale_line}
+use Rattle.decoder.specs.Chain.{Chain, place_rows, eliminate}
 use Rattle.decoder.proofs.Bytes.{byte-inverse, laws, byte-zero, byte_nonzero}
 use Rattle.decoder.proofs.Stretch.{line_scale, symbol_null, symbol_nonnull}
 use Rattle.decoder.proofs.Chain.{chain_none, chain_same, place_rows_same, eliminate_same, chain_reduce, normal, packet_implied, packet_contradicts}
@@ -210,11 +210,11 @@ module _ (w E first k : ℕ) (m : List ℕ) (g : Works w E k m) (bytes : Bytes m
       line_led : Leads (line w E (row w E k m)) b p
       line_led = leads w E first i (row w E k m) b d near q front led row-bytes h
 
-      new : line w E (row w E k m') ≡ scale-line ((Coded E).inv ((line w E (row w E k m)).cells p)) (line w E (row w E k m))
+      new : line w E (row w E k m') ≡ scale_line ((Coded E).inv ((line w E (row w E k m)).cells p)) (line w E (row w E k m))
       new =
           done.scaled
-          ∙ ap (λ x. scale-line x (line w E (row w E k m))) (byte-inverse E (get_or (row w E k m) c 0) (row-bytes c))
-          ∙ ap (λ x. scale-line ((Coded E).inv (byte (get_or (row w E k m) x 0))) (line w E (row w E k m))) at
+          ∙ ap (λ x. scale_line x (line w E (row w E k m))) (byte-inverse E (get_or (row w E k m) c 0) (row-bytes c))
+          ∙ ap (λ x. scale_line ((Coded E).inv (byte (get_or (row w E k m) x 0))) (line w E (row w E k m))) at
 
       kept : Outcome w E b k m m' Kept
       kept = (
@@ -293,7 +293,7 @@ gathered_only w E b kept z S m m' es pos f h =
 
 -- Before the first equation.
 pub gathered_none : (w E b : ℕ) (S : State (Coded E) w) (m : List ℕ) → 0 < E → Gathered w E b S m 0 []
-unfolding insert_all place-rows
+unfolding insert_all place_rows
 gathered_none w E b S m pos = record {
   chain = chain_none (laws E pos) S (spelled w E b m);
   marked = λ j l. absurd (omega arith);
@@ -319,9 +319,9 @@ module _ (w E oldest stay kept first count n : ℕ) (verdict : Verdict) (m work 
   module _ (b rise d : ℕ) (S : State (Coded E) w) (es : List (Row (Coded E) w)) (here : (b + rise) % w ≡ oldest) (stays : stay ≡ w - rise)
       (from : (b + rise + d) % w ≡ first) (in_window : d < w) (room : d + count ≤ w) (held : Window w E m b S) (rref : Rref S)
       (spans : Spans w first count (row w E kept work))
-      (f : Gathered w E (b + rise) (advance-by rise S) work kept es) where
+      (f : Gathered w E (b + rise) (advance_by rise S) work kept es) where
     abbrev S₀ : State (Coded E) w
-    S₀ = advance-by rise S
+    S₀ = advance_by rise S
 
     abbrev q : ℕ
     q = b + rise
@@ -335,7 +335,7 @@ module _ (w E oldest stay kept first count n : ℕ) (verdict : Verdict) (m work 
         gathered_only w E q kept (row_offset w E kept + (w + E + 1)) S₀ work work' es (omega (arith, fits.some_symbol)) only₃ (omega (arith, flags_fit w E)) f
 
     abbrev T : State (Coded E) w
-    T = place-rows (spelled w E q work') kept S₀
+    T = place_rows (spelled w E q work') kept S₀
 
     row_before : (j : ℕ) → j < kept → row w E j work₁ ≡ row w E j work
     row_before j l = only_row w E kept j (row_offset w E kept + (w + E)) work work₁ only₁ (omega (arith, flags_fit w E)) (omega arith)
@@ -382,7 +382,7 @@ module _ (w E oldest stay kept first count n : ℕ) (verdict : Verdict) (m work 
         record {
           chain = subst (Chain S₀ (spelled w E q work')) (sym (add-one kept)) more.0;
           marked = λ j l. go j l (ℕ_discrete j kept);
-          inserted = more.1 ∙ ap (λ j. some (place-rows (spelled w E q work') j S₀)) (sym (add-one kept));
+          inserted = more.1 ∙ ap (λ j. some (place_rows (spelled w E q work') j S₀)) (sym (add-one kept));
         }
       where
         becomes : spelled w E q work' kept ≡ scale (Coded E) w ((Coded E).inv (lead (Coded E) w (spelled w E q work₂ kept))) (spelled w E q work₂ kept)

@@ -20,9 +20,9 @@ use Rattle.rows.proofs.Sums.{length_add_scaled, get_or_add_scaled, add_scaled_ze
 use Rattle.rows.proofs.Combinations.{length-combined}
 use Rattle.decoder.specs.Bytes.{byte, Coded}
 use Rattle.decoder.specs.Model.{State, Rref, axpy, at, reduce}
-use Rattle.decoder.specs.Receiver.{advance-by}
+use Rattle.decoder.specs.Receiver.{advance_by}
 use Rattle.decoder.specs.Table.{read}
-use Rattle.decoder.specs.TableSteps.{add-line, add-lines}
+use Rattle.decoder.specs.TableSteps.{add_line, add_lines}
 use Rattle.decoder.specs.Chain.{eliminate}
 use Rattle.decoder.proofs.Bytes.{laws, byte-zero}
 use Rattle.decoder.proofs.Stretch.{remainders, line_same, line-add}
@@ -108,7 +108,7 @@ module _ (w E k : ℕ) (work : List ℕ) where
     length-sum : length sum ≡ w + E
     length-sum = length_add_scaled factor (part (row_offset w E k) (w + E) m) (part (row_offset w E j) (w + E) m) ∙ length_k
 
-    line-sum : line w E (row w E k m') ≡ add-line (byte factor) (line w E (row w E j m)) (line w E (row w E k m))
+    line-sum : line w E (row w E k m') ≡ add_line (byte factor) (line w E (row w E j m)) (line w E (row w E k m))
     line-sum =
         ap (λ y. line w E (row w E k y)) s
         ∙ new_line w E k sum m (omega (arith, room)) g.some_width length-sum
@@ -129,7 +129,7 @@ module _ (w E k : ℕ) (work : List ℕ) where
       next : spelled w E b m' k ≡ axpy (Coded E) w (at (Coded E) w (spelled w E b work j) (spelled w E b m k)) (spelled w E b work j) (spelled w E b m k)
       next =
           ap (λ z. read z w b) line-sum
-          ∙ ap (λ c. read (add-line (byte (get_or (row w E k m) c 0)) (line w E (row w E j m)) (line w E (row w E k m))) w b) mark.column
+          ∙ ap (λ c. read (add_line (byte (get_or (row w E k m) c 0)) (line w E (row w E j m)) (line w E (row w E k m))) w b) mark.column
           ∙ eliminate_line (laws E (omega (arith, g.some_symbol))) w b mark.position mark.from mark.before
           (line w E (row w E j m)) (line w E (row w E k m)) mark.leads
           ∙ ap (λ r. axpy (Coded E) w (at (Coded E) w (equation w E b r) (spelled w E b m k)) (equation w E b r) (spelled w E b m k)) same_row
@@ -293,8 +293,8 @@ module _ (w E : ℕ) (m : List ℕ) (fits : Fits w E m) (bytes : Bytes m) where
 
   combined-line : (cs : List ℕ) → Bytes cs → (n : ℕ) → n ≤ w → (d : List ℕ) → Bytes d → length d ≡ w + E
       → line w E (combined (coefficient cs) (row_at m header_size (stride w E) (w + E)) n d)
-      ≡ add-lines (λ r. byte (get_or cs r 0)) (λ r. line w E (row w E r m)) n (line w E d)
-  unfolding combined add-lines
+      ≡ add_lines (λ r. byte (get_or cs r 0)) (λ r. line w E (row w E r m)) n (line w E d)
+  unfolding combined add_lines
   combined-line cs small zero h d f n = refl
   combined-line cs small (suc k) h d f n =
       let x = combined (coefficient cs) (row_at m header_size (stride w E) (w + E)) k d in
@@ -305,7 +305,7 @@ module _ (w E : ℕ) (m : List ℕ) (fits : Fits w E m) (bytes : Bytes m) where
       (λ i l.
       get_or_add_scaled (get_or cs k 0) x y i (omega arith) (omega (arith, length_state k (omega arith)))
       ∙ ap (λ z. bit_xor (get_or x i 0) (product (get_or cs k 0) z)) (state_cell k i l))
-      ∙ ap (add-line (byte (get_or cs k 0)) (line w E (row w E k m))) (combined-line cs small k (omega arith) d f n)
+      ∙ ap (add_line (byte (get_or cs k 0)) (line w E (row w E k m))) (combined-line cs small k (omega arith) d f n)
 
 -- The row with the rows of the state added.
 module _ (w E k first n : ℕ) (m work work' : List ℕ) (g : Works w E k work) (f : StateReduced w E k first n m work work') where
@@ -328,12 +328,12 @@ module _ (w E k first n : ℕ) (m work work' : List ℕ) (g : Works w E k work) 
       (omega (arith, flags_fit w E, row_room w E k work g)))
 
   state_line : Fits w E m → Bytes m → Bytes work
-      → line w E (row w E k work') ≡ add-lines (λ r. byte (get_or f.multipliers r 0)) (λ r. line w E (row w E r m)) w (line w E (row w E k work))
+      → line w E (row w E k work') ≡ add_lines (λ r. byte (get_or f.multipliers r 0)) (λ r. line w E (row w E r m)) w (line w E (row w E k work))
   state_line fits bytes small =
       ap (λ x. line w E (row w E k x)) f.sum
       ∙ new_line w E k after work (omega (arith, row_room w E k work g)) fits.some_width length-after
       ∙ combined-line w E m fits bytes f.multipliers f.small w (omega arith) before (bytes-part (row_offset w E k) (w + E) work small) length_before
-      ∙ ap (add-lines (λ r. byte (get_or f.multipliers r 0)) (λ r. line w E (row w E r m)) w)
+      ∙ ap (add_lines (λ r. byte (get_or f.multipliers r 0)) (λ r. line w E (row w E r m)) w)
       (line_same w E fits.some_width before (row w E k work) (λ i l. part-row w E k i work l))
 
 -- Where the coefficients of the rows that stay are the multipliers, that reduces it by the system moved on.
@@ -399,7 +399,7 @@ module _ (w E k first n oldest count stay : ℕ) (m work work' : List ℕ) (fits
     at_position : (P : ℕ → Type 0) (p : ℕ) → b + rise ≤ p → P ((b + rise + (p - (b + rise))) % w) → P (p % w)
     at_position P p h = let e : b + rise + (p - (b + rise)) ≡ p = omega arith in subst (λ x. P (x % w)) e
 
-    pub state_reduced : spelled w E (b + rise) work' k ≡ reduce (advance-by rise S) (spelled w E (b + rise) work k)
+    pub state_reduced : spelled w E (b + rise) work' k ≡ reduce (advance_by rise S) (spelled w E (b + rise) work k)
     state_reduced =
         let T = table w E m in
         let L = laws E (omega (arith, fits.some_symbol)) in
@@ -416,4 +416,4 @@ module _ (w E k first n oldest count stay : ℕ) (m work work' : List ℕ) (fits
         (at_position (λ c. in_use w E (row w E c m) ≡ false → get_or f.multipliers c 0 ≡ 0) p l
         (λ v. unused (p - (b + rise)) (omega arith) (omega arith) v (dec_le d (p - (b + rise))) (dec_lt (p - (b + rise)) (d + count))) t))
         (λ p l u v. byte-zero _ (at_position (λ c. get_or f.multipliers c 0 ≡ 0) p l (joins (p - (b + rise)) (omega arith) (omega arith))))
-        ∙ ap (λ X. reduce (advance-by rise X) (spelled w E (b + rise) work k)) held.reads
+        ∙ ap (λ X. reduce (advance_by rise X) (spelled w E (b + rise) work k)) held.reads

@@ -3,7 +3,7 @@
 use Rattle.words.specs.Words.{◌≡◌, ℕ, ◌≤◌, ◌+◌, List, length, ◌<◌, ◌-◌, [], ◌%◌, ◌∷◌, none, get_or, ◌++◌, drop, ◌≢◌, take}
 use Rattle.decoder.specs.Bytes.{Coded}
 use Rattle.decoder.specs.Model.{Row, State, Rref}
-use Rattle.decoder.specs.Receiver.{advance-by, insert_all}
+use Rattle.decoder.specs.Receiver.{advance_by, insert_all}
 use Rattle.table.specs.Window.{row_offset, row, equation, Window}
 use Rattle.table.specs.Packet.{Works, Gathered}
 use Rattle.gather.specs.declared.Verdict.{Verdict}
@@ -48,5 +48,5 @@ pub record Admitted (w E oldest stay kept first n : ℕ) (verdict : Verdict) (m 
   pub works : Works w E (count_kept kept verdict) work'
   pub outcome : (b rise d : ℕ) (S : State (Coded E) w) (es : List (Row (Coded E) w)) → (b + rise) % w ≡ oldest → stay ≡ w - rise
       → (b + rise + d) % w ≡ first → d < w → d + n ≤ w → Window w E m b S → Rref S → Spans w first n (row w E kept work)
-      → Gathered w E (b + rise) (advance-by rise S) work kept es
-      → Agrees w E (b + rise) (advance-by rise S) work' kept (es ++ (equation w E (b + rise) (row w E kept work) ∷ [])) verdict
+      → Gathered w E (b + rise) (advance_by rise S) work kept es
+      → Agrees w E (b + rise) (advance_by rise S) work' kept (es ++ (equation w E (b + rise) (row w E kept work) ∷ [])) verdict

@@ -9,7 +9,7 @@ use Rattle.rows.specs.Combination.{coefficient}
 use Rattle.rows.specs.Sums.{combined, row_at}
 use Rattle.decoder.specs.Bytes.{byte, Coded}
 use Rattle.decoder.specs.Model.{lead, symbol, scale}
-use Rattle.decoder.specs.TableSteps.{scale-line}
+use Rattle.decoder.specs.TableSteps.{scale_line}
 use Rattle.decoder.specs.Chain.{eliminate}
 use Rattle.table.specs.Window.{header_size, stride, row_offset, row, in_use, line}
 use Rattle.table.specs.Packet.{Works, spelled, PivotMarked}
@@ -89,7 +89,7 @@ Divided at n k work work' = work' ≡ splice at (scaled (inverse k) (part at n w
 -- The row `k` has been divided by its coefficient in the column `c`, and this is in its flag.
 pub record Normalised (w E k c : ℕ) (work work' : List ℕ) : Type 0 where
   pub only : Only (row_offset w E k) (row_offset w E k + (w + E + 1)) work work'
-  pub scaled : line w E (row w E k work') ≡ scale-line (byte (inverse (get_or (row w E k work) c 0))) (line w E (row w E k work))
+  pub scaled : line w E (row w E k work') ≡ scale_line (byte (inverse (get_or (row w E k work) c 0))) (line w E (row w E k work))
   pub flag : get_or (row w E k work') (w + E) 0 ≡ c
 
 -- The reduced equation in the row `k` has become a row that leads with one, or has no coefficient. In the row `w` no coefficient is looked for.

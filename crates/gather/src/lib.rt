@@ -1,5 +1,7 @@
 // An equation of a packet in working memory. It is laid in a row, reduced there by the state's rows that stay and by the packet's rows before
 // it, and kept as the packet's next row, unless it is implied by these or contradicts them. The state is only read.
+#![tactic(auto)]
+
 ghost use Rattle.words.specs.Words.{◌≡◌, ◌≤◌, ◌+◌, length, ◌<◌, ◌%◌, take};
 ghost use Rattle.table.specs.Window.{row, in_use, Fits};
 ghost use Rattle.table.specs.Packet.{Works};
@@ -11,7 +13,7 @@ use field::Gf256;
 use table::Shape;
 
 // What becomes of an equation: it is kept, it is implied by the others, or it contradicts them.
-#[derive(Drop)]
+#[derive(Clone, Copy)]
 pub enum Verdict {
     Kept,
     Implied,
@@ -19,7 +21,7 @@ pub enum Verdict {
 }
 
 // The row and the column of a pivot.
-#[derive(Drop)]
+#[derive(Clone, Copy)]
 enum Pivot {
     At(usize, usize),
     Nothing,

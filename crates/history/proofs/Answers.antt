@@ -22,7 +22,7 @@ use Rattle.history.specs.Symbol.{Symbol}
 use Rattle.history.specs.History.{Filling, Located, source, repair, first, named, All, Consistent, Known, Reading, fails, located, base_for, Log, fresh}
 use Rattle.history.specs.History.{raised, base_of, logged, Counted, New, Judged}
 use Rattle.wire.specs.Answers.{refusal}
-use Rattle.history.specs.Model.{packetOf, Joined, State, opened, found_by, said_of, stateAfter, added, responds}
+use Rattle.history.specs.Model.{packet_of, Joined, State, opened, found_by, said_of, state_after, added, responds}
 use Rattle.history.proofs.Cases.{IsRefusal, numeral, IsLocated, packet_path, number_in}
 use Rattle.history.proofs.Counting.{count_counted}
 use Rattle.history.proofs.Says.{Formed, says}
@@ -47,16 +47,16 @@ module _ (s : Setting) (some_bytes : 0 < s.size) where
   abbrev rules : Laws (Coded E)
   rules = laws E some_bytes
 
-  pub all : (A : List Located) → AllFormed E A → (f : Filling E) → decoder.Satisfies-all (Coded E) (map (packetOf E) A) f ↔ All E A f
+  pub all : (A : List Located) → AllFormed E A → (f : Filling E) → decoder.SatisfiesAll (Coded E) (map (packet_of E) A) f ↔ All E A f
   all [] g f = Iff.rfl
   all (q ∷ A) g f = Iff.and (says E some_bytes q g.0 f) (all A g.1 f)
 
-  first_of : (q : Located) → (packetOf E q).first ≡ first q
+  first_of : (q : Located) → (packet_of E q).first ≡ first q
   unfolding packets.source packets.repair
   first_of (source p vs) = refl
   first_of (repair p n cs vs) = refl
 
-  named-of : (q : Located) → (packetOf E q).count ≡ named q
+  named-of : (q : Located) → (packet_of E q).count ≡ named q
   unfolding packets.source packets.repair
   named-of (source p vs) = refl
   named-of (repair p n cs vs) = refl
@@ -64,7 +64,7 @@ module _ (s : Setting) (some_bytes : 0 < s.size) where
   -- The window says what the packets qs say of the positions from its base on.
   pub record TracksFrom (qs : List Located) (t : Joined s) : Type 0 where
     pub formed : AllFormed E qs
-    pub follows : Follows (map (packetOf E) qs) t
+    pub follows : Follows (map (packet_of E) qs) t
 
   -- The base of a state.
   abbrev pub base_in : State s → Option ℕ
@@ -85,9 +85,9 @@ module _ (s : Setting) (some_bytes : 0 < s.size) where
 
   module _ (qs : List Located) (t : Joined s) (k : TracksFrom qs t) where
     abbrev A : List (decoder.Packet (Coded E))
-    A = map (packetOf E) qs
+    A = map (packet_of E) qs
 
-    abbrev same : (f : Filling E) → decoder.Satisfies-all (Coded E) A f ↔ All E qs f
+    abbrev same : (f : Filling E) → decoder.SatisfiesAll (Coded E) A f ↔ All E qs f
     same = all qs k.formed
 
     pub known_exactly : (i : ℕ) → decoder.Accepted (known t.window i) ↔ Known E qs (t.base + i)
@@ -109,11 +109,11 @@ module _ (s : Setting) (some_bytes : 0 < s.size) where
   base_after b (some S) t' h = sym (ap (λ (x : Joined s). x.base) (some-injective _ _ h))
 
   -- The model's base rises as the history says.
-  pub rises : (t t' : Joined s) (q : Located) → decoder.receive t (packetOf E q) ≡ some t' → t'.base ≡ max t.base (first q + named q - width)
+  pub rises : (t t' : Joined s) (q : Located) → decoder.receive t (packet_of E q) ≡ some t' → t'.base ≡ max t.base (first q + named q - width)
   unfolding decoder.receive decoder.rise
   rises t t' q h =
-      let d : ℕ = ((packetOf E q).first + (packetOf E q).count) - (t.base + width) in
-      let o = decoder.insert_all (decoder.over (Coded E) width (t.base + d) (packetOf E q)) (decoder.advance-by d t.window) in
+      let d : ℕ = ((packet_of E q).first + (packet_of E q).count) - (t.base + width) in
+      let o = decoder.insert_all (decoder.over (Coded E) width (t.base + d) (packet_of E q)) (decoder.advance_by d t.window) in
       let z = base_after (t.base + d) o t' h in
       omega (arith, z, first_of q, named-of q)
 
@@ -135,9 +135,9 @@ module _ (s : Setting) (some_bytes : 0 < s.size) where
 
   -- A packet at its place, which finds the receiver as t: what the model answers, and the model after it.
   received : (l : Log) (x : State s) (t : Joined s) (q : Located) → Formed E q → Tracks l x → TracksFrom l t → base_for (base_of s l) (first q) ≡ t.base
-      → (o : Option (Joined s)) → decoder.receive t (packetOf E q) ≡ o
-      → history.Received rules (map (packetOf E) l) (packetOf E q) o
-      → Judged s l (located q) (said_of (added s t o)) × Tracks (logged s l (located q) (said_of (added s t o))) (stateAfter x (added s t o))
+      → (o : Option (Joined s)) → decoder.receive t (packet_of E q) ≡ o
+      → history.Received rules (map (packet_of E) l) (packet_of E q) o
+      → Judged s l (located q) (said_of (added s t o)) × Tracks (logged s l (located q) (said_of (added s t o))) (state_after x (added s t o))
   received l x t q w g k at none e h =
       let never : ¬ Consistent E (q ∷ l) = λ (f, a). h f ((all l k.formed f).1 a.1) ((says E some_bytes q w f).1 a.0) in (
         record {
@@ -176,7 +176,7 @@ module _ (s : Setting) (some_bytes : 0 < s.size) where
   pub judged : (l : Log) (t : State s) (e : ℕ) (r : Reading) → Tracks l t
       → let j = found_by s t e in
       ((q : Located) → r ≡ located q → Passes l j.base q)
-      → Judged s l r (said_of (responds s j r)) × Tracks (logged s l r (said_of (responds s j r))) (stateAfter t (responds s j r))
+      → Judged s l r (said_of (responds s j r)) × Tracks (logged s l r (said_of (responds s j r))) (state_after t (responds s j r))
   judged l t e (fails m) k fit = (
     record {
       accepted = ((λ a. absurd a), (λ (q, p, c). absurd (subst IsLocated (sym p) tt)));
@@ -189,8 +189,8 @@ module _ (s : Setting) (some_bytes : 0 < s.size) where
   judged l t e (located q) k fit =
       let j = found_by s t e in
       let (g, at) = fit q refl in
-      received l t j q g.formed k (k.from e) at (decoder.receive j (packetOf E q)) refl
-      (history.receive_follows rules (map (packetOf E) l) j (packetOf E q) (k.from e).follows
+      received l t j q g.formed k (k.from e) at (decoder.receive j (packet_of E q)) refl
+      (history.receive_follows rules (map (packet_of E) l) j (packet_of E q) (k.from e).follows
       (omega (arith, g.ahead, first_of q), omega (arith, g.short, named-of q)))
 
   -- A fresh receiver follows the empty history.

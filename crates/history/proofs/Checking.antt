@@ -16,9 +16,9 @@ use Rattle.wire.proofs.Flows.{announced_exactly}
 use Rattle.wire.proofs.Settings.{both, within_true, within_bounds}
 use Rattle.wire.proofs.Adui.{room, least}
 use Rattle.coefficients.specs.Coefficients.{all_ok}
-use Rattle.history.specs.History.{side_of, Call, source-call, repair-call, esi_of, Reading, fails, located, check, from_side, readSource, readRepair}
+use Rattle.history.specs.History.{side_of, Call, source-call, repair-call, esi_of, Reading, fails, located, check, from_side, read_source, read_repair}
 use Rattle.history.specs.History.{reading, working_size, halfway, farthest}
-use Rattle.history.specs.Checking.{distance, Lent, Formed, FlowAnnounced, Few, fourOrSix, named_by, keysIn, Drawn, saysAt, Checked, ReadingChecked}
+use Rattle.history.specs.Checking.{distance, Lent, Formed, FlowAnnounced, Few, four_or_six, named_by, keys_in, Drawn, says_at, Checked, ReadingChecked}
 use Rattle.history.proofs.Readings.{check_stops, check_goes}
 
 -- An ADU fits so many symbols exactly where it takes no more.
@@ -106,16 +106,16 @@ module _ (s : Setting) (z : 0 < s.size) where
   module _ (flows : List ℕ) (b room : ℕ) where
     -- What comes after the place.
     last_of : Call → (d : ℕ) → Reading
-    last_of (source-call flow p) d = located (saysAt s (b + d) (source-call flow p))
+    last_of (source-call flow p) d = located (says_at s (b + d) (source-call flow p))
     last_of (repair-call p) d =
-        check (all_ok scheme (density_threshold p) (protected_count p) (keysIn s p)) 10 (located (saysAt s (b + d) (repair-call p)))
+        check (all_ok scheme (density_threshold p) (protected_count p) (keys_in s p)) 10 (located (says_at s (b + d) (repair-call p)))
 
     -- The checks, one after the other.
     in_order : (c : Call)
         → reading s flows b room c
         ≡ check (leb (working_size s) room) 2
-        (check (form_of c) 5 (check (flow_of flows c) 16 (check (size_of c) (fourOrSix s c) (from_side (count_of c) (side_of b (esi_of c)) (last_of c)))))
-    unfolding check reading readSource readRepair form_of flow_of size_of count_of last_of source_adu
+        (check (form_of c) 5 (check (flow_of flows c) 16 (check (size_of c) (four_or_six s c) (from_side (count_of c) (side_of b (esi_of c)) (last_of c)))))
+    unfolding check reading read_source read_repair form_of flow_of size_of count_of last_of source_adu
     in_order (source-call flow p) = refl
     in_order (repair-call p) = refl
 
@@ -130,7 +130,7 @@ module _ (s : Setting) (z : 0 < s.size) where
       placed = from_side (count_of c) (side_of b (esi_of c)) (last_of c)
 
       abbrev sized : Reading
-      sized = check (size_of c) (fourOrSix s c) placed
+      sized = check (size_of c) (four_or_six s c) placed
 
       abbrev of_flow : Reading
       of_flow = check (flow_of flows c) 16 sized
@@ -156,7 +156,7 @@ module _ (s : Setting) (z : 0 < s.size) where
       of-announced h f a = well_formed h f ∙ check_goes (flow_of flows c) 16 sized (flow_true flows c a)
 
       few : Lent s room → Formed s c → FlowAnnounced s flows c → Few s c → reading s flows b room c ≡ placed
-      few h f a k = of-announced h f a ∙ check_goes (size_of c) (fourOrSix s c) placed (few_true c k)
+      few h f a k = of-announced h f a ∙ check_goes (size_of c) (four_or_six s c) placed (few_true c k)
 
       near : Lent s room → Formed s c → FlowAnnounced s flows c → Few s c → d < 2 ^ 31 → d + n ≤ 65536 → reading s flows b room c ≡ last_of c d
       near h f a k l g = few h f a k ∙ side_ahead l ∙ check_goes (leb (d + n) 65536) 9 (last_of c d) (le-leb (d + n) 65536 g)
@@ -166,7 +166,7 @@ module _ (s : Setting) (z : 0 < s.size) where
     last_stops (source-call flow p) d n = absurd (n tt)
     last_stops (repair-call p) d n = check_stops _ 10 _ n
 
-    last_goes : (c : Call) (d : ℕ) → Drawn s c → last_of c d ≡ located (saysAt s (b + d) c)
+    last_goes : (c : Call) (d : ℕ) → Drawn s c → last_of c d ≡ located (says_at s (b + d) c)
     unfolding last_of
     last_goes (source-call flow p) d k = refl
     last_goes (repair-call p) d k = check_goes _ 10 _ k
@@ -176,7 +176,7 @@ module _ (s : Setting) (z : 0 < s.size) where
       short = λ n. in_order c ∙ check_stops (leb (working_size s) room) 2 (formed c) (λ e. n (omega (arith, leb-true (working_size s) room e)));
       form = λ h n. lent c h ∙ check_stops (form_of c) 5 (of_flow c) (λ e. n (form_is c e));
       stray = λ h f n. well_formed c h f ∙ check_stops (flow_of flows c) 16 (sized c) (λ e. n (flow_is flows c e));
-      many = λ h f a n. of-announced c h f a ∙ check_stops (size_of c) (fourOrSix s c) (placed c) (λ e. n (few_is c e));
+      many = λ h f a n. of-announced c h f a ∙ check_stops (size_of c) (four_or_six s c) (placed c) (λ e. n (few_is c e));
       behind = λ h f a k l. few c h f a k ∙ side_behind c l;
       far = λ h f a k l g. few c h f a k ∙ side_ahead c l
           ∙ check_stops (leb (d c + n c) 65536) 9 (last_of c (d c)) (λ e. omega (arith, g, leb-true (d c + n c) 65536 e));

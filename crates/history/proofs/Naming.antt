@@ -9,8 +9,8 @@ use Rattle.decoder.specs.Bytes.{Coded}
 use Rattle.decoder.specs.Model.{Rref}
 use Rattle.decoder.proofs.Bytes.{laws}
 use Rattle.history.specs.History.{Side, behind, ahead, side_of, Call, source-call, repair-call, Reading, fails, located, check, farthest, from_side}
-use Rattle.history.specs.History.{readSource, readRepair, reading}
-use Rattle.history.specs.Model.{packetOf, Joined, Outcome, refused, done, added, responds, answering}
+use Rattle.history.specs.History.{read_source, read_repair, reading}
+use Rattle.history.specs.Model.{packet_of, Joined, Outcome, refused, done, added, responds, answering}
 use Rattle.decoder.specs.Model as model
 use Rattle.decoder.specs.Receiver as decoder
 use Rattle.decoder.proofs.History as history
@@ -39,7 +39,7 @@ placed_named n behind f k = named Behind (λ e. absurd (omega (arith, e)))
 placed_named n (ahead d) f k = check-named (leb (d + n) farthest) 9 (f d) (named Ahead (λ e. absurd (omega (arith, e)))) (k d)
 
 reading-named : (s : Setting) (flows : List ℕ) (base room : ℕ) (c : Call) → NamedReading (reading s flows base room c)
-unfolding reading readSource readRepair
+unfolding reading read_source read_repair
 reading-named s flows base room (source-call flow p) =
     check-named _ 2 _ (named Short (λ e. absurd (omega (arith, e))))
     (check-named _ 5 _ (named Form (λ e. absurd (omega (arith, e))))
@@ -59,7 +59,7 @@ module _ (s : Setting) (e : 0 < s.size) where
   Sound (done n t) = Rref t.window
 
   inserted_sound : (t : Joined s) (b : ℕ) (S : model.State (Coded E) w) (es : List (model.Row (Coded E) w)) (o : Option (model.State (Coded E) w))
-      → history.Added-all (laws E e) S es o → Sound (added s t (decoder.and_then o (λ T. some (record { base = b; window = T }))))
+      → history.AddedAll (laws E e) S es o → Sound (added s t (decoder.and_then o (λ T. some (record { base = b; window = T }))))
   inserted_sound t b S es none h = named Contradiction (λ e. absurd (omega (arith, e)))
   inserted_sound t b S es (some T) h = h.0
 
@@ -67,9 +67,9 @@ module _ (s : Setting) (e : 0 < s.size) where
   unfolding decoder.receive
   responds_sound t k (fails n) h = h
   responds_sound t k (located q) h =
-      let d = decoder.rise t (packetOf E q) in
-      let S = decoder.advance-by d t.window in
-      let es = decoder.over (Coded E) w (t.base + d) (packetOf E q) in
+      let d = decoder.rise t (packet_of E q) in
+      let S = decoder.advance_by d t.window in
+      let es = decoder.over (Coded E) w (t.base + d) (packet_of E q) in
       inserted_sound t (t.base + d) S es (decoder.insert_all es S)
       (history.insert_all_added (laws E e) es S (history.advance_by_rref (laws E e) d t.window k))
 

@@ -6,7 +6,7 @@ use Rattle.starts.proofs.Tests.{or_true, and-true}
 use Rattle.wire.specs.declared.Setting.{Setting}
 use Rattle.history.specs.History.{Located, source, repair, first, named, Reading, fails, located, Log, logged}
 use Rattle.history.specs.Origins.{Brought}
-use Rattle.history.specs.Model.{Joined, packetOf, Outcome, refused, done, added, responds, said_of, Origins, unheard, bringing, hearing, origins_after}
+use Rattle.history.specs.Model.{Joined, packet_of, Outcome, refused, done, added, responds, said_of, Origins, unheard, bringing, hearing, origins_after}
 use Rattle.history.proofs.Answers.{rises}
 use Rattle.decoder.specs.Receiver as decoder
 
@@ -75,9 +75,9 @@ module _ (s : Setting) (some_bytes : 0 < s.size) where
   IsDone (refused n) = ⊥
   IsDone (done n y) = Unit {0}
 
-  abbrev its-state : Outcome s → Option (Joined s)
-  its-state (refused n) = none
-  its-state (done n y) = some y
+  abbrev its_state : Outcome s → Option (Joined s)
+  its_state (refused n) = none
+  its_state (done n y) = some y
 
   -- None is past the window after a packet that raises the base so: of those before, and of a stretch that ends in it.
   same_inside : (b b' : ℕ) (H : Origins) → b ≤ b' → ((i : ℕ) → width ≤ i → H (b + i) ≡ false) → (i : ℕ) → width ≤ i → H (b' + i) ≡ false
@@ -101,11 +101,11 @@ module _ (s : Setting) (some_bytes : 0 < s.size) where
   pub origins-inside : (j : Joined s) (r : Reading) (n : ℕ) (y : Joined s) (H : Origins) → responds s j r ≡ done n y
       → ((i : ℕ) → width ≤ i → H (j.base + i) ≡ false) → (i : ℕ) → width ≤ i → origins_after {s = s} r (done n y) H (y.base + i) ≡ false
   origins-inside j (fails m) n y H e f = absurd (subst IsDone (sym e) tt)
-  origins-inside j (located q) n y H e f = go (decoder.receive j (packetOf E q)) refl e
+  origins-inside j (located q) n y H e f = go (decoder.receive j (packet_of E q)) refl e
     where
-      go : (o : Option (Joined s)) → decoder.receive j (packetOf E q) ≡ o → added s j o ≡ done n y → (i : ℕ) → width ≤ i
+      go : (o : Option (Joined s)) → decoder.receive j (packet_of E q) ≡ o → added s j o ≡ done n y → (i : ℕ) → width ≤ i
           → hearing q H (y.base + i) ≡ false
       go none x z = absurd (subst IsDone (sym z) tt)
       go (some t) x z =
-          let same : t ≡ y = some-injective t y (ap its-state z) in
+          let same : t ≡ y = some-injective t y (ap its_state z) in
           hearing-inside q j.base y.base H (ap (λ (u : Joined s). u.base) (sym same) ∙ rises s some_bytes j t q x) f

@@ -28,8 +28,8 @@ use Rattle.wire.proofs.Settings.{both, within_bounds}
 use Rattle.wire.proofs.Adui.{length-adui, symbols_count}
 use Rattle.coefficients.specs.Coefficients.{keys, lists_of}
 use Rattle.coefficients.proofs.Lists.{length-keys, list_bytes}
-use Rattle.history.specs.History.{Located, source, repair, first, ahead, side_of, Call, source-call, repair-call, base_for, Log, base_of, readAfter, halfway}
-use Rattle.history.specs.History.{farthest, OfBytes, esi_of, Reading, fails, located, check, from_side, readSource, readRepair, working_size, read_packet}
+use Rattle.history.specs.History.{Located, source, repair, first, ahead, side_of, Call, source-call, repair-call, base_for, Log, base_of, read_after, halfway}
+use Rattle.history.specs.History.{farthest, OfBytes, esi_of, Reading, fails, located, check, from_side, read_source, read_repair, working_size, read_packet}
 use Rattle.history.specs.History.{reading}
 use Rattle.history.proofs.Cases.{IsLocated, packet_path, number_in}
 use Rattle.history.proofs.Sides.{limits, side_taken}
@@ -128,8 +128,8 @@ module _ (s : Setting) where
     pub near : distance_of (source_esi p) (base % 2 ^ 32) < halfway
     pub says : source (base + distance_of (source_esi p) (base % 2 ^ 32)) (source_symbols flow (source_adu p) E) ≡ q
 
-  pub source-read : (flows : List ℕ) (base flow : ℕ) (p : List ℕ) (q : Located) → readSource s flows base flow p ≡ located q → SourceRead base flow p q
-  unfolding readSource
+  pub source-read : (flows : List ℕ) (base flow : ℕ) (p : List ℕ) (q : Located) → read_source s flows base flow p ≡ located q → SourceRead base flow p q
+  unfolding read_source
   source-read flows base flow p q h =
       let (a, f) = check_passed _ 5 _ q h in
       let (_, g) = check_passed _ 16 _ q f in
@@ -147,8 +147,8 @@ module _ (s : Setting) where
         repair (base + distance_of (first_esi p) (base % 2 ^ 32)) (protected_count p)
         (lists_of scheme (density_threshold p) (protected_count p) (keys (repair_key p) (length (repair_symbols E p)))) (repair_symbols E p) ≡ q
 
-  pub repair-read : (base : ℕ) (p : List ℕ) (q : Located) → readRepair s base p ≡ located q → RepairRead base p q
-  unfolding readRepair
+  pub repair-read : (base : ℕ) (p : List ℕ) (q : Located) → read_repair s base p ≡ located q → RepairRead base p q
+  unfolding read_repair
   repair-read base p q h =
       let (a, g) = check_passed _ 5 _ q h in
       let (b, j) = check_passed _ 6 _ q g in
@@ -233,7 +233,7 @@ side_here n e next small h =
 -- Neither 8 nor 9 can stop it.
 pub joins_near : (s : Setting) (flows : List ℕ) → Valid s → (room : ℕ) (c : Call) → OfBytes c → (k : ℕ) → 8 ≤ k → k ≤ 9
     → reading s flows (esi_of c) room c ≡ fails k → ⊥
-unfolding reading readSource readRepair
+unfolding reading read_source read_repair
 joins_near s flows v room (source-call flow p) (f, b) k lo hi =
     let n = symbol_count s.size (length (source_adu p)) in
     not-check k _ 2 _ (λ e. omega (arith, e))
@@ -254,7 +254,7 @@ joins_near s flows v room (repair-call p) b k lo hi =
 
 -- What a call's packet has passed after a history.
 pub reading_passes : (s : Setting) (flows : List ℕ) → 0 < s.size → (l : Log) (room : ℕ) (c : Call) (q : Located) → OfBytes c
-    → readAfter s flows l room c ≡ located q
+    → read_after s flows l room c ≡ located q
     → Fits s (base_for (base_of s l) (esi_of c)) q × (base_for (base_of s l) (first q) ≡ base_for (base_of s l) (esi_of c))
 reading_passes s flows z l room c q b h =
     (reading_fits s flows z (base_for (base_of s l) (esi_of c)) room c q b h, go (base_of s l) h)

@@ -6,7 +6,7 @@ use Rattle.wire.specs.Packets.{symbol_count, source_adu}
 use Rattle.wire.specs.Answers.{Said, value, refusal}
 use Rattle.wire.proofs.Adui.{symbols_count}
 use Rattle.history.specs.History.{Located, first, named, Call, source-call, repair-call, OfBytes, esi_of, Reading, fails, located, reading, base_for, Log}
-use Rattle.history.specs.History.{IsValue, raised, base_of, readAfter, logged, Judged}
+use Rattle.history.specs.History.{IsValue, raised, base_of, read_after, logged, Judged}
 use Rattle.history.specs.Checking.{distance, named_by}
 use Rattle.history.specs.Rising.{ends_at, BaseAfter, BaseRaised}
 use Rattle.history.proofs.Readings.{source-read, repair-read, reading_passed, reading_fits, joins_at}
@@ -25,11 +25,11 @@ lies_at s flows b room (repair-call p) q h =
 
 module _ (s : Setting) (v : Valid s) (flows : List ℕ) (l : Log) (room : ℕ) (c : Call) (bytes : OfBytes c) where
   -- What is read of the call, at the base that it finds.
-  at_base : (o : Option ℕ) → base_of s l ≡ o → readAfter s flows l room c ≡ reading s flows (base_for o (esi_of c)) room c
+  at_base : (o : Option ℕ) → base_of s l ≡ o → read_after s flows l room c ≡ reading s flows (base_for o (esi_of c)) room c
   at_base o e = ap (λ o. reading s flows (base_for o (esi_of c)) room c) e
 
-  module _ (q : Located) (x : readAfter s flows l room c ≡ located q) where
-    accepted : (a : Said) → IsValue a → base_of s (logged s l (readAfter s flows l room c) a) ≡ some (raised s (base_of s l) q)
+  module _ (q : Located) (x : read_after s flows l room c ≡ located q) where
+    accepted : (a : Said) → IsValue a → base_of s (logged s l (read_after s flows l room c) a) ≡ some (raised s (base_of s l) q)
     accepted (value n) i = ap (λ r. base_of s (logged s l r (value n))) x
     accepted (refusal n) i = absurd i
 
@@ -49,7 +49,7 @@ module _ (s : Setting) (v : Valid s) (flows : List ℕ) (l : Log) (room : ℕ) (
   stays (fails m) a n e = refl
   stays (located q) a n e = ap (λ a. base_of s (logged s l (located q) a)) e
 
-  base_after : (a : Said) → Judged s l (readAfter s flows l room c) a → BaseAfter s (base_of s l) c a (base_of s (logged s l (readAfter s flows l room c) a))
+  base_after : (a : Said) → Judged s l (read_after s flows l room c) a → BaseAfter s (base_of s l) c a (base_of s (logged s l (read_after s flows l room c) a))
   base_after a j = record {
     joins = λ e i. let (q, x, k) = j.accepted.0 i in accepted q x a i ∙ ap some (joined q x e);
     rises = λ b e i. (
@@ -58,10 +58,10 @@ module _ (s : Setting) (v : Valid s) (flows : List ℕ) (l : Log) (room : ℕ) (
       record { rises = omega arith; fits = omega arith; least = λ x h k. omega arith },
     );
     outright = outright;
-    refused = stays (readAfter s flows l room c) a;
+    refused = stays (read_after s flows l room c) a;
   }
     where
-      outright : (b : ℕ) → base_of s l ≡ some b → IsValue a → base_of s (logged s l (readAfter s flows l room c) a) ≡ some (max b (ends_at s b c - s.width))
+      outright : (b : ℕ) → base_of s l ≡ some b → IsValue a → base_of s (logged s l (read_after s flows l room c) a) ≡ some (max b (ends_at s b c - s.width))
       outright b e i = let (q, x, k) = j.accepted.0 i in accepted q x a i ∙ ap some (rose q x b e)
 
 pub base_raised : BaseRaised

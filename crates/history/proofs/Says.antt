@@ -23,8 +23,8 @@ use Rattle.decoder.proofs.Stretch.{bytes-of_symbol}
 use Rattle.decoder.proofs.History.{shift_at}
 use Rattle.decoder.proofs.Packets.{source_satisfies, repair_satisfies}
 use Rattle.history.specs.Symbol.{Symbol, bytes_of, symbol_of}
-use Rattle.history.specs.History.{Filling, Located, source, repair, symbolsAt, Satisfied}
-use Rattle.history.specs.Model.{equations, packetOf}
+use Rattle.history.specs.History.{Filling, Located, source, repair, symbols_at, Satisfied}
+use Rattle.history.specs.Model.{equations, packet_of}
 use Rattle.decoder.specs.Receiver as decoder
 use Rattle.decoder.specs.Packets as packets
 
@@ -120,23 +120,23 @@ combine_tuple E (suc n) c x h =
 -- ---- The symbols at some positions
 
 module _ (E : ℕ) (f : Filling E) where
-  pub length_at : (p n : ℕ) → length (symbolsAt E f p n) ≡ n
+  pub length_at : (p n : ℕ) → length (symbols_at E f p n) ≡ n
   length_at p zero = refl
   length_at p (suc n) = ap suc (length_at (suc p) n)
 
-  pub get_d_at : (p n k : ℕ) → k < n → get_or (symbolsAt E f p n) k [] ≡ bytes_of E (f (p + k))
+  pub get_d_at : (p n k : ℕ) → k < n → get_or (symbols_at E f p n) k [] ≡ bytes_of E (f (p + k))
   get_d_at p zero k h = absurd (omega arith)
   get_d_at p (suc n) zero h = ap (λ q. bytes_of E (f q)) (sym (add-zero p))
   get_d_at p (suc n) (suc k) h = get_d_at (suc p) n k (omega arith) ∙ ap (λ q. bytes_of E (f q)) (suc-add p k ∙ sym (add-suc p k))
 
   -- The decoder's combination of the symbols from p on is the combination of their bytes.
   combination-is : (p n : ℕ) (c : List ℕ) → Bytes c
-      → packets.combine (Coded E) n (λ k. byte (get_or c k 0)) (decoder.shift p f) ≡ symbol_of E (combination E c (symbolsAt E f p n))
+      → packets.combine (Coded E) n (λ k. byte (get_or c k 0)) (decoder.shift p f) ≡ symbol_of E (combination E c (symbols_at E f p n))
   combination-is p n c h =
       combine_tuple E n (coefficient c) (decoder.shift p f) h
-      ∙ sym (spelled E (combination E c (symbolsAt E f p n)) _
+      ∙ sym (spelled E (combination E c (symbols_at E f p n)) _
       (λ i l.
-      get_or-combination E c (symbolsAt E f p n) i l ∙ ap (dot (coefficient c) (λ k. get_or (get_or (symbolsAt E f p n) k []) i 0)) (length_at p n)
+      get_or-combination E c (symbols_at E f p n) i l ∙ ap (dot (coefficient c) (λ k. get_or (get_or (symbols_at E f p n) k []) i 0)) (length_at p n)
       ∙ dot_same (coefficient c) _ (coefficient c) _ n (λ k m. refl)
       (λ k m. ap (λ (v : List ℕ). get_or v i 0) (get_d_at p n k m ∙ ap (bytes_of E) (sym (shift_at p k f))))))
 
@@ -171,7 +171,7 @@ module _ (E : ℕ) where
   same_bytes u v w = ((λ e. ap (bytes_of E) e ∙ bytes_symbol E v w), (λ e. sym (symbol_bytes E u) ∙ ap (symbol_of E) e))
 
   pub holds : (f : Filling E) (vs : List (List ℕ)) → Wholes E vs → (p : ℕ)
-      → ((i : ℕ) → i < length vs → f (p + i) ≡ symbol_of E (get_or vs i [])) ↔ (symbolsAt E f p (length vs) ≡ vs)
+      → ((i : ℕ) → i < length vs → f (p + i) ≡ symbol_of E (get_or vs i [])) ↔ (symbols_at E f p (length vs) ≡ vs)
   holds f [] w p = ((λ _. refl), (λ _ i h. absurd (omega arith)))
   holds f (v ∷ vs) w p =
       let ih = holds f vs w.1 (suc p) in
@@ -188,22 +188,22 @@ module _ (E : ℕ) where
       go a b (suc i) h = ap f (add-suc p i ∙ sym (suc-add p i)) ∙ b i (omega arith)
 
   combines : (f : Filling E) (p n : ℕ) (cs vs : List (List ℕ)) → Wholes E vs → AllBytes cs → length cs ≡ length vs
-      → packets.Combined (Coded E) n (equations E cs vs) (decoder.shift p f) ↔ (map (λ (c : List ℕ). combination E c (symbolsAt E f p n)) cs ≡ vs)
+      → packets.Combined (Coded E) n (equations E cs vs) (decoder.shift p f) ↔ (map (λ (c : List ℕ). combination E c (symbols_at E f p n)) cs ≡ vs)
   combines f p n [] [] w s l = ((λ _. refl), (λ _. tt))
   combines f p n [] (v ∷ vs) w s l = absurd (omega arith)
   combines f p n (c ∷ cs) [] w s l = absurd (omega arith)
   combines f p n (c ∷ cs) (v ∷ vs) w s l =
       let ih = combines f p n cs vs w.1 s.1 (omega arith) in
-      let x = combination E c (symbolsAt E f p n) in
+      let x = combination E c (symbols_at E f p n) in
       let k = combination-is E f p n c s.0 in
-      let b = bytes_symbol E x (combination-whole E c (symbolsAt E f p n)) in (
+      let b = bytes_symbol E x (combination-whole E c (symbols_at E f p n)) in (
         (λ a.
             ap₂ (λ (y : List ℕ) (z : List (List ℕ)). y ∷ z)
             (sym b ∙ ap (bytes_of E) (sym k ∙ a.0) ∙ bytes_symbol E v w.0) (ih.0 a.1)),
         (λ e. (k ∙ ap (symbol_of E) (ap head e), ih.1 (ap rest e))),
       )
 
-  pub says : 0 < E → (q : Located) → Formed E q → (f : Filling E) → decoder.Satisfies (Coded E) (packetOf E q) f ↔ Satisfied E q f
+  pub says : 0 < E → (q : Located) → Formed E q → (f : Filling E) → decoder.Satisfies (Coded E) (packet_of E q) f ↔ Satisfied E q f
   says e (source p symbols) w f =
       Iff.trans (source_satisfies (laws E e) p (length symbols) (λ i. symbol_of E (get_or symbols i [])) f) (holds f symbols w p)
   says e (repair p n coefficients symbols) w f =

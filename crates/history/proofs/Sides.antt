@@ -8,7 +8,7 @@ use Rattle.decoder.specs.Model.{known}
 use Rattle.history.specs.History.{Side, behind, ahead, side_of, Reading, fails, check, from_side, halfway, farthest}
 use Rattle.starts.specs.Adu.{withholds, need, handing}
 use Rattle.starts.specs.Starts.{Starts, seen}
-use Rattle.history.specs.Model.{Joined, hides, shown, finding, aduAt}
+use Rattle.history.specs.Model.{Joined, hides, shown, finding, adu_at}
 
 -- What proofs need of the two distances.
 pub record Limits : Type 0 where
@@ -92,14 +92,14 @@ module _ (s : Setting) (t : Joined s) (d : ℕ) (small : d < 2 ^ 32) where
 -- The ADU call.
 module _ (s : Setting) (flows : List ℕ) (t : Joined s) (M : Starts) (room d : ℕ) (small : d < 2 ^ 32) where
   pub adu-inside : d < halfway → d < s.width
-      → aduAt s flows (some t) M room ((t.base + d) % 2 ^ 32) ≡ handing s.size s.width flows room M (seen s.size s.width t.window) d
-  unfolding aduAt need
+      → adu_at s flows (some t) M room ((t.base + d) % 2 ^ 32) ≡ handing s.size s.width flows room M (seen s.size s.width t.window) d
+  unfolding adu_at need
   adu-inside h k = rw (side_ahead t.base d small h, lt-ltb d s.width k)
 
-  pub adu-past : d < halfway → s.width ≤ d → aduAt s flows (some t) M room ((t.base + d) % 2 ^ 32) ≡ withholds 12
-  unfolding aduAt need
+  pub adu-past : d < halfway → s.width ≤ d → adu_at s flows (some t) M room ((t.base + d) % 2 ^ 32) ≡ withholds 12
+  unfolding adu_at need
   adu-past h k = rw (side_ahead t.base d small h, le-ltb d s.width k)
 
-  pub adu_behind : halfway ≤ d → aduAt s flows (some t) M room ((t.base + d) % 2 ^ 32) ≡ withholds 8
-  unfolding aduAt
+  pub adu_behind : halfway ≤ d → adu_at s flows (some t) M room ((t.base + d) % 2 ^ 32) ≡ withholds 8
+  unfolding adu_at
   adu_behind h = rw (side_behind t.base d small h)

@@ -26,9 +26,9 @@ use Rattle.starts.proofs.Chaining.{pass_reaches}
 use Rattle.starts.proofs.Unseen.{known_past}
 use Rattle.starts.proofs.Handing.{Shows}
 use Rattle.history.specs.Symbol.{Symbol, bytes_of, symbol_of}
-use Rattle.history.specs.History.{Filling, symbolsAt, Located, source, repair, first, named, All, Consistent, Known, Reading, fails, located, base_for}
+use Rattle.history.specs.History.{Filling, symbols_at, Located, source, repair, first, named, All, Consistent, Known, Reading, fails, located, base_for}
 use Rattle.history.specs.History.{Log, fresh, raised, base_of, logged, Spanned, MarkedBy, Reached, already, later, Start}
-use Rattle.history.specs.Model.{Joined, State, found_by, Outcome, refused, done, said_of, stateAfter, responds, naming, startsAfter, marking}
+use Rattle.history.specs.Model.{Joined, State, found_by, Outcome, refused, done, said_of, state_after, responds, naming, starts_after, marking}
 use Rattle.history.proofs.Says.{Whole, symbol_bytes, bytes_whole, head, rest}
 use Rattle.history.proofs.Answers.{Tracks, TracksFrom, Passes, known_exactly, known-value, tracks_consistent, judged}
 use Rattle.decoder.specs.Model as model
@@ -58,13 +58,13 @@ module _ (E : ℕ) (qs : List Located) (base : ℕ) (see : View) (sees : Sees E 
       go none e = refl
       go (some v) e = absurd (n (sees.is_known i v e))
 
-  pub shows_held : (i : ℕ) (vs : List (List ℕ)) → Shows see i vs → (f : Filling E) → All E qs f → symbolsAt E f (base + i) (length vs) ≡ vs
+  pub shows_held : (i : ℕ) (vs : List (List ℕ)) → Shows see i vs → (f : Filling E) → All E qs f → symbols_at E f (base + i) (length vs) ≡ vs
   shows_held i [] h f a = refl
   shows_held i (v ∷ vs) h f a =
       cons-eq (shown-value i v h.0 f a)
-      (ap (λ p. symbolsAt E f p (length vs)) (sym (add-suc base i)) ∙ shows_held (suc i) vs h.1 f a)
+      (ap (λ p. symbols_at E f p (length vs)) (sym (add-suc base i)) ∙ shows_held (suc i) vs h.1 f a)
 
-  pub held_shows : (i : ℕ) (vs : List (List ℕ)) → ((f : Filling E) → All E qs f → symbolsAt E f (base + i) (length vs) ≡ vs) → Shows see i vs
+  pub held_shows : (i : ℕ) (vs : List (List ℕ)) → ((f : Filling E) → All E qs f → symbols_at E f (base + i) (length vs) ≡ vs) → Shows see i vs
   held_shows i [] h = tt
   held_shows i (v ∷ vs) h =
       let here : (f : Filling E) → All E qs f → bytes_of E (f (base + i)) ≡ v = λ f a. ap head (h f a) in
@@ -72,7 +72,7 @@ module _ (E : ℕ) (qs : List Located) (base : ℕ) (see : View) (sees : Sees E 
       λ f g a b. sym (symbol_bytes E (f (base + i))) ∙ ap (symbol_of E) (here f a ∙ sym (here g b)) ∙ symbol_bytes E (g (base + i)) in
       let (f, a) = sees.filling in (
         sees.shown i same f a ∙ ap (λ (x : List ℕ). some x) (here f a),
-        held_shows (suc i) vs (λ g b. ap (λ p. symbolsAt E g p (length vs)) (add-suc base i) ∙ ap rest (h g b)),
+        held_shows (suc i) vs (λ g b. ap (λ p. symbols_at E g p (length vs)) (add-suc base i) ∙ ap rest (h g b)),
       )
 
   -- All symbols that are shown lie in the window.
@@ -217,14 +217,14 @@ module _ (s : Setting) (some_bytes : 0 < s.size) where
 
   -- A packet that passes, and finds the receiver as t, is accepted.
   accepted : (l : Log) (t t' : Joined s) (q : Located) (M : Starts) → Passes s some_bytes l t.base q → base_of s (q ∷ l) ≡ some t'.base
-      → TracksFrom s some_bytes (q ∷ l) t' → MarksTrack l M → MarksTrack (q ∷ l) (startsAfter s t t' q M)
-  unfolding startsAfter
+      → TracksFrom s some_bytes (q ∷ l) t' → MarksTrack l M → MarksTrack (q ∷ l) (starts_after s t t' q M)
+  unfolding starts_after
   accepted l t t' q M (g, at) rose k' h =
       let b : raised s (base_of s l) q ≡ t'.base = some-injective _ _ rose in
-      let there : AreStarts s (q ∷ l) t'.base (startsAfter s t t' q M) =
+      let there : AreStarts s (q ∷ l) t'.base (starts_after s t t' q M) =
       starts-after s some_bytes q l t.base t'.base (sym at) (sym b) g.ahead g.short M (subst (λ b. AreStarts s l b M) at (h (first q)))
       (seen E width t'.window) (tracks_sees (q ∷ l) t' k') in
-      λ _. subst (λ b. AreStarts s (q ∷ l) b (startsAfter s t t' q M)) (sym b) there
+      λ _. subst (λ b. AreStarts s (q ∷ l) b (starts_after s t t' q M)) (sym b) there
 
   -- The marks after a call, whose packet begins at e, follow the history after it.
   pub marking_tracks : (l : Log) (t : State s) (e : ℕ) (r : Reading) (M : Starts) → Tracks s some_bytes l t
@@ -234,7 +234,7 @@ module _ (s : Setting) (some_bytes : 0 < s.size) where
   marking_tracks l t e (fails m) M k fit h = h
   marking_tracks l t e (located q) M k fit h = go (responds s (found_by s t e) (located q)) (judged s some_bytes l t e (located q) k fit).1
     where
-      go : (o : Outcome s) → Tracks s some_bytes (logged s l (located q) (said_of o)) (stateAfter t o)
+      go : (o : Outcome s) → Tracks s some_bytes (logged s l (located q) (said_of o)) (state_after t o)
           → MarksTrack (logged s l (located q) (said_of o)) (marking s (found_by s t e) M (located q) o)
       go (refused n) k' = h
       go (done n t') k' = accepted l (found_by s t e) t' q M (fit q refl) k'.base_is (k'.from e) h

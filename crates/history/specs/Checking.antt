@@ -36,9 +36,9 @@ module _ (s : Setting) where
   Few (repair-call p) = (1 ≤ protected_count p) × (protected_count p ≤ width)
 
   -- The number of a packet that names too many symbols.
-  abbrev pub fourOrSix : Call → ℕ
-  fourOrSix (source-call flow p) = 4
-  fourOrSix (repair-call p) = 6
+  abbrev pub four_or_six : Call → ℕ
+  four_or_six (source-call flow p) = 4
+  four_or_six (repair-call p) = 6
 
   -- How many symbols a packet names: those of its ADU with F and L before it, the last of them padded; or those that it protects.
   abbrev pub named_by : Call → ℕ
@@ -46,33 +46,33 @@ module _ (s : Setting) where
   named_by (repair-call p) = protected_count p
 
   -- The keys of a repair packet's symbols.
-  abbrev pub keysIn : List ℕ → List ℕ
-  keysIn p = keys (repair_key p) (length (repair_symbols E p))
+  abbrev pub keys_in : List ℕ → List ℕ
+  keys_in p = keys (repair_key p) (length (repair_symbols E p))
 
   -- The coefficients of a repair packet are found (else 10).
   abbrev pub Drawn : Call → Type 0
   Drawn (source-call flow p) = Unit {0}
-  Drawn (repair-call p) = all_ok scheme (density_threshold p) (protected_count p) (keysIn p) ≡ true
+  Drawn (repair-call p) = all_ok scheme (density_threshold p) (protected_count p) (keys_in p) ≡ true
 
   -- What a packet says whose first symbol lies at a position.
-  abbrev pub saysAt : (first : ℕ) → Call → Located
-  saysAt first (source-call flow p) = source first (source_symbols flow (take (length p - 4) p) E)
-  saysAt first (repair-call p) =
+  abbrev pub says_at : (first : ℕ) → Call → Located
+  says_at first (source-call flow p) = source first (source_symbols flow (take (length p - 4) p) E)
+  says_at first (repair-call p) =
       let n = protected_count p in
-      repair first n (lists_of scheme (density_threshold p) n (keysIn p)) (repair_symbols E p)
+      repair first n (lists_of scheme (density_threshold p) n (keys_in p)) (repair_symbols E p)
 
   -- A call that is lent `room` bytes of working memory finds the base b, where these flows are announced: what the checks make of it.
   pub record Checked (flows : List ℕ) (b room : ℕ) (c : Call) (r : Reading) : Type 0 where
     pub short : ¬ Lent room → r ≡ fails 2
     pub form : Lent room → ¬ Formed c → r ≡ fails 5
     pub stray : Lent room → Formed c → ¬ FlowAnnounced flows c → r ≡ fails 16
-    pub many : Lent room → Formed c → FlowAnnounced flows c → ¬ Few c → r ≡ fails (fourOrSix c)
+    pub many : Lent room → Formed c → FlowAnnounced flows c → ¬ Few c → r ≡ fails (four_or_six c)
     pub behind : Lent room → Formed c → FlowAnnounced flows c → Few c → 2 ^ 31 ≤ distance b c → r ≡ fails 8
     pub far : Lent room → Formed c → FlowAnnounced flows c → Few c → distance b c < 2 ^ 31 → 65536 < distance b c + named_by c → r ≡ fails 9
     pub zeros : Lent room → Formed c → FlowAnnounced flows c → Few c → distance b c < 2 ^ 31 → distance b c + named_by c ≤ 65536 → ¬ Drawn c → r ≡ fails 10
     -- Where none fails, the packet lies so far past the base.
     pub passes : Lent room → Formed c → FlowAnnounced flows c → Few c → distance b c < 2 ^ 31 → distance b c + named_by c ≤ 65536 → Drawn c
-        → r ≡ located (saysAt (b + distance b c) c)
+        → r ≡ located (says_at (b + distance b c) c)
 
 -- Of every call, whatever its packet, with any flows and any base.
 abbrev pub ReadingChecked : Type 0

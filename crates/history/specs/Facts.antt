@@ -9,7 +9,7 @@ use Rattle.wire.specs.Packets.{zeros}
 use Rattle.starts.specs.Starts.{Starts, nowhere}
 use Rattle.history.specs.History.{source, repair, Call, source-call, repair-call, esi_of, Reading, fails, located}
 use Rattle.history.specs.History.{reading, memory_size, working_size}
-use Rattle.history.specs.Model.{State, opened, found_by, said_of, stateAfter, receiving, marking, Origins, unheard, origins_after}
+use Rattle.history.specs.Model.{State, opened, found_by, said_of, state_after, receiving, marking, Origins, unheard, origins_after}
 use Rattle.decoder.specs.Model as model
 
 -- Flow 1 alone is announced.
@@ -37,7 +37,7 @@ call s flows a c =
     let o = receiving s flows a.state (working_size s) c in
     let M = marking s j a.marks r o in
     let H = origins_after r o a.heard in
-    record { answers = a.answers ++ said_of o ∷ []; state = stateAfter a.state o; marks = M; heard = H }
+    record { answers = a.answers ++ said_of o ∷ []; state = state_after a.state o; marks = M; heard = H }
 
 abbrev pub called : (s : Setting) (flows : List ℕ) → Progress s → List Call → Progress s
 called s flows a [] = a

@@ -39,16 +39,16 @@ Filling E = ℕ → Symbol E
 
 module _ (E : ℕ) where
   -- The bytes that a filling gives to the n positions from p on.
-  abbrev pub symbolsAt : Filling E → (p n : ℕ) → List (List ℕ)
-  symbolsAt f p zero = []
-  symbolsAt f p (suc n) = bytes_of E (f p) ∷ symbolsAt f (suc p) n
+  abbrev pub symbols_at : Filling E → (p n : ℕ) → List (List ℕ)
+  symbols_at f p zero = []
+  symbols_at f p (suc n) = bytes_of E (f p) ∷ symbols_at f (suc p) n
 
   -- A source packet is satisfied when its positions hold its symbols; a repair packet when every repair symbol
   -- equals its combination.
   abbrev pub Satisfied : Located → Filling E → Type 0
-  Satisfied (source p symbols) f = symbolsAt f p (length symbols) ≡ symbols
+  Satisfied (source p symbols) f = symbols_at f p (length symbols) ≡ symbols
   Satisfied (repair p n coefficients symbols) f =
-      map (λ (c : List ℕ). combination E c (symbolsAt f p n)) coefficients ≡ symbols
+      map (λ (c : List ℕ). combination E c (symbols_at f p n)) coefficients ≡ symbols
 
   abbrev pub All : List Located → Filling E → Type 0
   All [] f = Unit {0}
@@ -124,8 +124,8 @@ module _ (s : Setting) where
   open s use {scheme, size as E, width}
 
   -- A source packet, where these flows are announced: form (5), flow (16), ADU (4), place (8, 9).
-  unfoldable pub readSource : (flows : List ℕ) (base flow : ℕ) → List ℕ → Reading
-  readSource flows base flow p =
+  unfoldable pub read_source : (flows : List ℕ) (base flow : ℕ) → List ℕ → Reading
+  read_source flows base flow p =
       let adu = source_adu p in
       let n = symbol_count E (length adu) in
       check (source_form p) 5
@@ -134,8 +134,8 @@ module _ (s : Setting) where
       (from_side n (side_of base (source_esi p)) (λ d. located (source (base + d) (source_symbols flow adu E))))))
 
   -- A repair packet: form (5), number of symbols protected (6), place (8, 9), coefficients (10).
-  unfoldable pub readRepair : (base : ℕ) → List ℕ → Reading
-  readRepair base p =
+  unfoldable pub read_repair : (base : ℕ) → List ℕ → Reading
+  read_repair base p =
       let dt = density_threshold p in
       let n = protected_count p in
       let symbols = repair_symbols E p in
@@ -146,8 +146,8 @@ module _ (s : Setting) where
       (λ d. check (all_ok scheme dt n ks) 10 (located (repair (base + d) n (lists_of scheme dt n ks) symbols)))))
 
   abbrev pub read_packet : (flows : List ℕ) (base : ℕ) → Call → Reading
-  read_packet flows base (source-call flow p) = readSource flows base flow p
-  read_packet flows base (repair-call p) = readRepair base p
+  read_packet flows base (source-call flow p) = read_source flows base flow p
+  read_packet flows base (repair-call p) = read_repair base p
 
   -- A call that is lent `room` bytes of working memory: too few are refused (2) before the packet is read.
   unfoldable pub reading : (flows : List ℕ) (base room : ℕ) → Call → Reading
@@ -197,8 +197,8 @@ module _ (s : Setting) where
 
   -- What the checks before 11 make of a call that is lent `room` bytes of working memory, where these flows are announced: where there is no base yet, the
   -- packet's first ESI is taken for it.
-  abbrev pub readAfter : (flows : List ℕ) → Log → (room : ℕ) → Call → Reading
-  readAfter flows l room c = reading s flows (base_for (base_of l) (esi_of c)) room c
+  abbrev pub read_after : (flows : List ℕ) → Log → (room : ℕ) → Call → Reading
+  read_after flows l room c = reading s flows (base_for (base_of l) (esi_of c)) room c
 
   -- The log after a call that answered so: a packet is accepted when its call answers a count and no refusal.
   abbrev pub logged : Log → Reading → Said → Log

@@ -20,9 +20,9 @@ module _ (E : ℕ) where
   equations (c ∷ cs) (v ∷ vs) = record { coefs = λ i. byte (get_or c i 0); sym = symbol_of E v } ∷ equations cs vs
 
   -- A packet's rows.
-  abbrev pub packetOf : Located → decoder.Packet (Coded E)
-  packetOf (source p symbols) = packets.source (Coded E) p (length symbols) (λ i. symbol_of E (get_or symbols i []))
-  packetOf (repair p n coefficients symbols) = packets.repair (Coded E) p n (equations coefficients symbols)
+  abbrev pub packet_of : Located → decoder.Packet (Coded E)
+  packet_of (source p symbols) = packets.source (Coded E) p (length symbols) (λ i. symbol_of E (get_or symbols i []))
+  packet_of (repair p n coefficients symbols) = packets.repair (Coded E) p n (equations coefficients symbols)
 
 -- A receiver that has a base: the base, and the equations of the window from there on.
 abbrev pub Joined : Setting → Type 0
@@ -52,9 +52,9 @@ module _ {s : Setting} where
   said_of (refused n) = refusal n
   said_of (done n t) = value n
 
-  abbrev pub stateAfter : State s → Outcome s → State s
-  stateAfter t (refused n) = t
-  stateAfter t (done n t') = some t'
+  abbrev pub state_after : State s → Outcome s → State s
+  state_after t (refused n) = t
+  state_after t (done n t') = some t'
 
 -- What the symbol call comes to: a known symbol and its position, or the number of a refusal.
 pub data Finding (E : ℕ) : Type 0 where
@@ -71,7 +71,7 @@ module _ (s : Setting) where
   -- A call of which the checks before 11 have made this.
   abbrev pub responds : Joined s → Reading → Outcome s
   responds t (fails n) = refused n
-  responds t (located q) = added t (decoder.receive t (packetOf E q))
+  responds t (located q) = added t (decoder.receive t (packet_of E q))
 
   -- A packet call that is lent `room` bytes of working memory, at a receiver that announces these flows and has a base; and at any that announces them.
   unfoldable pub answering : (flows : List ℕ) → Joined s → (room : ℕ) → Call → Outcome s
@@ -105,24 +105,24 @@ module _ (s : Setting) where
   naming base (repair p n coefficients symbols) M = M
 
   -- The marks after a packet was accepted: those that stay, those that it makes, and those of the pass.
-  unfoldable pub startsAfter : (t t' : Joined s) → Located → Starts → Starts
-  startsAfter t t' q M = pass E (seen E width t'.window) width (naming t'.base q (moved width (t'.base - t.base) M))
+  unfoldable pub starts_after : (t t' : Joined s) → Located → Starts → Starts
+  starts_after t t' q M = pass E (seen E width t'.window) width (naming t'.base q (moved width (t'.base - t.base) M))
 
   -- The marks after a call of which the checks before 11 have made this, and which has come to that.
   abbrev pub marking : Joined s → Starts → Reading → Outcome s → Starts
-  marking t M (located q) (done n t') = startsAfter t t' q M
+  marking t M (located q) (done n t') = starts_after t t' q M
   marking t M (located q) (refused n) = M
   marking t M (fails m) o = M
 
   -- The ADU call at a place: 8 behind the base, 12 past the window, else what the window hands out there.
-  abbrev pub aduIn : (flows : List ℕ) → Joined s → Starts → (room : ℕ) → Side → Handing
-  aduIn flows t M room behind = withholds 8
-  aduIn flows t M room (ahead d) = need (ltb d width) 12 (handing E width flows room M (seen E width t.window) d)
+  abbrev pub adu_in : (flows : List ℕ) → Joined s → Starts → (room : ℕ) → Side → Handing
+  adu_in flows t M room behind = withholds 8
+  adu_in flows t M room (ahead d) = need (ltb d width) 12 (handing E width flows room M (seen E width t.window) d)
 
   -- The ADU call for the ESI e, with `room` bytes of output: before any base 12.
-  unfoldable pub aduAt : (flows : List ℕ) → State s → Starts → (room e : ℕ) → Handing
-  aduAt flows none M room e = withholds 12
-  aduAt flows (some t) M room e = aduIn flows t M room (side_of t.base e)
+  unfoldable pub adu_at : (flows : List ℕ) → State s → Starts → (room e : ℕ) → Handing
+  adu_at flows none M room e = withholds 12
+  adu_at flows (some t) M room e = adu_in flows t M room (side_of t.base e)
 
 -- ---- Origins
 

@@ -4,7 +4,7 @@ use Rattle.words.specs.Words.{◌≡◌, ℕ, List, ◌≤◌, ◌+◌, ◌-◌,
 use Rattle.wire.specs.declared.Setting.{Setting}
 use Rattle.wire.specs.Settings.{Valid}
 use Rattle.wire.specs.Answers.{Said, refusal}
-use Rattle.history.specs.History.{Call, OfBytes, esi_of, Log, IsValue, base_of, readAfter, logged, Judged}
+use Rattle.history.specs.History.{Call, OfBytes, esi_of, Log, IsValue, base_of, read_after, logged, Judged}
 use Rattle.history.specs.Checking.{distance, named_by}
 
 -- The least base from b on whose window has room for what ends before the position `end`.
@@ -28,5 +28,5 @@ pub record BaseAfter (s : Setting) (before : Option ℕ) (c : Call) (a : Said) (
 -- Of every call that is answered as the history asks.
 abbrev pub BaseRaised : Type 0
 BaseRaised =
-    (s : Setting) → Valid s → (flows : List ℕ) (l : Log) (room : ℕ) (c : Call) → OfBytes c → (a : Said) → Judged s l (readAfter s flows l room c) a
-    → BaseAfter s (base_of s l) c a (base_of s (logged s l (readAfter s flows l room c) a))
+    (s : Setting) → Valid s → (flows : List ℕ) (l : Log) (room : ℕ) (c : Call) → OfBytes c → (a : Said) → Judged s l (read_after s flows l room c) a
+    → BaseAfter s (base_of s l) c a (base_of s (logged s l (read_after s flows l room c) a))

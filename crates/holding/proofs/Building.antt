@@ -207,42 +207,42 @@ module _ (w E b : ℕ) (z : 0 < w) (S : model.State (Coded E) w) where
   abbrev column : ℕ → ℕ → ℕ
   column r k = entry E S (index w b z r) (index w b z k)
 
-  abbrev rowFlag : ℕ → ℕ
-  rowFlag r = flag-of (pivoted E S (index w b z r)) (clear? (column r) w r)
+  abbrev row_flag : ℕ → ℕ
+  row_flag r = flag-of (pivoted E S (index w b z r)) (clear? (column r) w r)
 
-  abbrev rowBytes : ℕ → List ℕ
-  rowBytes r = tabulate (column r) w ++ (bytes_of E (symbol_of_index E S (index w b z r)) ++ (rowFlag r ∷ 0 ∷ 0 ∷ 0 ∷ []))
+  abbrev row_bytes : ℕ → List ℕ
+  row_bytes r = tabulate (column r) w ++ (bytes_of E (symbol_of_index E S (index w b z r)) ++ (row_flag r ∷ 0 ∷ 0 ∷ 0 ∷ []))
 
   length_columns : (r : ℕ) → length (tabulate (column r) w) ≡ w
   length_columns r = length-tabulate (column r) w
 
-  length-row : (r : ℕ) → length (rowBytes r) ≡ window.stride w E
+  length-row : (r : ℕ) → length (row_bytes r) ≡ window.stride w E
   unfolding window.stride
   length-row r =
       let v = symbol_of_index E S (index w b z r) in
-      length-append (tabulate (column r) w) (bytes_of E v ++ (rowFlag r ∷ 0 ∷ 0 ∷ 0 ∷ []))
-      ∙ omega (arith, length_columns r, length-append (bytes_of E v) (rowFlag r ∷ 0 ∷ 0 ∷ 0 ∷ []), bytes_sized E v)
+      length-append (tabulate (column r) w) (bytes_of E v ++ (row_flag r ∷ 0 ∷ 0 ∷ 0 ∷ []))
+      ∙ omega (arith, length_columns r, length-append (bytes_of E v) (row_flag r ∷ 0 ∷ 0 ∷ 0 ∷ []), bytes_sized E v)
 
-  column_is : (r k : ℕ) → k < w → get_or (rowBytes r) k 0 ≡ column r k
+  column_is : (r k : ℕ) → k < w → get_or (row_bytes r) k 0 ≡ column r k
   column_is r k h = get_or-append (tabulate (column r) w) _ 0 k (rw (length_columns r) h) ∙ get_d_tabulate (column r) w k h
 
-  flag_is : (r : ℕ) → window.flag w E (rowBytes r) ≡ rowFlag r
+  flag_is : (r : ℕ) → window.flag w E (row_bytes r) ≡ row_flag r
   flag_is r =
       let x = tabulate (column r) w in
       let v = bytes_of E (symbol_of_index E S (index w b z r)) in
-      let y = rowFlag r ∷ 0 ∷ 0 ∷ 0 ∷ [] in
+      let y = row_flag r ∷ 0 ∷ 0 ∷ 0 ∷ [] in
       let e : w + E ≡ length x + (length v + 0) = omega (arith, length_columns r, bytes_sized E (symbol_of_index E S (index w b z r))) in
       ap (λ k. get_or (x ++ (v ++ y)) k 0) e ∙ get_or-append-add x (v ++ y) (length v + 0) 0 ∙ get_or-append-add v y 0 0
 
-  symbol_in_row : (r : ℕ) → symbol_cut_at E w (rowBytes r) ≡ symbol_of_index E S (index w b z r)
+  symbol_in_row : (r : ℕ) → symbol_cut_at E w (row_bytes r) ≡ symbol_of_index E S (index w b z r)
   symbol_in_row r =
       let x = tabulate (column r) w in
       let v = symbol_of_index E S (index w b z r) in
-      let y = bytes_of E v ++ (rowFlag r ∷ 0 ∷ 0 ∷ 0 ∷ []) in
-      ap (λ k. symbol_cut_at E k (x ++ y)) (sym (length_columns r)) ∙ symbol_past E x y ∙ symbol_front E v (rowFlag r ∷ 0 ∷ 0 ∷ 0 ∷ [])
+      let y = bytes_of E v ++ (row_flag r ∷ 0 ∷ 0 ∷ 0 ∷ []) in
+      ap (λ k. symbol_cut_at E k (x ++ y)) (sym (length_columns r)) ∙ symbol_past E x y ∙ symbol_front E v (row_flag r ∷ 0 ∷ 0 ∷ 0 ∷ [])
 
   -- A memory with these rows holds the system.
-  module _ (m : List ℕ) (rows : (r : ℕ) → r < w → window.row w E r m ≡ rowBytes r) where
+  module _ (m : List ℕ) (rows : (r : ℕ) → r < w → window.row w E r m ≡ row_bytes r) where
     spelled : Spells E (window.table w E m) b S
     spelled = record {
       has_is = λ i h.
@@ -262,9 +262,9 @@ module _ (w E b : ℕ) (z : 0 < w) (S : model.State (Coded E) w) where
     flagged : (r : ℕ) → r < w → window.Flagged w E r (window.row w E r m)
     flagged r h =
         subst (window.Flagged w E r) (sym (rows r h))
-        (let alone : ((j : ℕ) → j < w → j ≢ r → column r j ≡ 0) ↔ window.Alone w r (rowBytes r) =
+        (let alone : ((j : ℕ) → j < w → j ≢ r → column r j ≡ 0) ↔ window.Alone w r (row_bytes r) =
         ((λ a j l d. column_is r j l ∙ a j l d), (λ a j l d. sym (column_is r j l) ∙ a j l d)) in
-        let used : window.in_use w E (rowBytes r) ≡ pivoted E S (index w b z r) =
+        let used : window.in_use w E (row_bytes r) ≡ pivoted E S (index w b z r) =
         ap (ltb 0) (flag_is r) ∙ flag_used (pivoted E S (index w b z r)) (clear? (column r) w r) in
         let g = flag_alone alone (pivoted E S (index w b z r)) (clear? (column r) w r) in
         ((λ e. let p = g.0 (sym (flag_is r) ∙ e) in (used ∙ p.0, p.1)), (λ (p, q). flag_is r ∙ g.1 (sym used ∙ p, q))))
@@ -287,7 +287,7 @@ module _ (s : Setting) (v : Valid s) (t : Joined s) (past : List ℕ) where
   -- The rows from r on.
   abbrev rows_from : (r n : ℕ) → List (List ℕ)
   rows_from r zero = []
-  rows_from r (suc n) = rowBytes w E t.base wide t.window r ∷ rows_from (suc r) n
+  rows_from r (suc n) = row_bytes w E t.base wide t.window r ∷ rows_from (suc r) n
 
   rows_sized : (r n : ℕ) → Sized (window.stride w E) (rows_from r n)
   rows_sized r zero = tt
@@ -297,10 +297,10 @@ module _ (s : Setting) (v : Valid s) (t : Joined s) (past : List ℕ) where
   rows-length r zero = refl
   rows-length r (suc n) = ap suc (rows-length (suc r) n)
 
-  get_d_rows : (r n i : ℕ) → i < n → get_or (rows_from r n) i [] ≡ rowBytes w E t.base wide t.window (r + i)
+  get_d_rows : (r n i : ℕ) → i < n → get_or (rows_from r n) i [] ≡ row_bytes w E t.base wide t.window (r + i)
   get_d_rows r zero i h = absurd (omega arith)
-  get_d_rows r (suc n) zero h = ap (rowBytes w E t.base wide t.window) (sym (add-zero r))
-  get_d_rows r (suc n) (suc i) h = get_d_rows (suc r) n i (omega arith) ∙ ap (rowBytes w E t.base wide t.window) (suc-add r i ∙ sym (add-suc r i))
+  get_d_rows r (suc n) zero h = ap (row_bytes w E t.base wide t.window) (sym (add-zero r))
+  get_d_rows r (suc n) (suc i) h = get_d_rows (suc r) n i (omega arith) ∙ ap (row_bytes w E t.base wide t.window) (suc-add r i ∙ sym (add-suc r i))
 
   cut : (k : ℕ) (xs : List (List ℕ)) → Sized k xs → chunks (length xs) k (joined xs ++ past) ≡ xs
   cut k [] h = refl
@@ -333,14 +333,14 @@ module _ (s : Setting) (v : Valid s) (t : Joined s) (past : List ℕ) where
       sym (drop-drop (w * (w + E + 4)) 96 memory) ∙ ap (drop (w * (w + E + 4))) (drop_at head body 96 length_head)
       ∙ drop_at (joined (rows_from 0 w)) past (w * (w + E + 4)) length-rows
 
-  row_is : (r : ℕ) → r < w → window.row w E r memory ≡ rowBytes w E t.base wide t.window r
+  row_is : (r : ℕ) → r < w → window.row w E r memory ≡ row_bytes w E t.base wide t.window r
   unfolding header_size stride
   row_is r h =
       let k = window.stride w E in
       part-drop 96 (r * k) k memory ∙ ap (part (r * k) k) (drop_at head body 96 length_head)
       ∙ sym (get_or-chunks w k body r h) ∙ ap (λ n. get_or (chunks n k body) r []) (sym (rows-length 0 w))
       ∙ ap (λ (l : List (List ℕ)). get_or l r []) (cut k (rows_from 0 w) (rows_sized 0 w))
-      ∙ get_d_rows 0 w r h ∙ ap (rowBytes w E t.base wide t.window) (zero-add r)
+      ∙ get_d_rows 0 w r h ∙ ap (row_bytes w E t.base wide t.window) (zero-add r)
 
   setting-is : setting_in 2 memory ≡ some s
   unfolding splice

@@ -4,7 +4,7 @@
 --   states: SameFrom, Same, holds_same, held_same, found_same
 --   calls: Alike, answering_alike
 --   marks: marking_alike
---   origins: AgreeFrom, baseAfter, origins_alike
+--   origins: AgreeFrom, base_after, origins_alike
 use Rattle.words.specs.Words.{◌≡◌, arith, ℕ, ◌≤◌, ◌+◌, List, length, ◌<◌, refl, ◌∙◌, sym, ap, ◌-◌, some, ◌%◌, suc, true, zero, none, get_or, false, Bool, subst}
 use Rattle.words.specs.Words.{Option, ◌^◌, ap₂, leb, some-injective, map, mod-add-mod, true≢false, ltb, le-leb, lt-leb, lt-ltb, le-ltb, dec_lt, ◌&&◌, ◌||◌}
 use native.Mathlib.Decide.{dec_le}
@@ -17,10 +17,10 @@ use Rattle.decoder.specs.Table.{read, slot, view, Echelon}
 use Rattle.history.proofs.Sides.{side_same}
 use Rattle.holding.specs.declared.Header.{Header}
 use Rattle.history.specs.History.{source, repair, Side, behind, ahead, side_of, Call, source-call, repair-call, Reading, fails, farthest, located, check}
-use Rattle.history.specs.History.{from_side, readSource, readRepair, reading}
+use Rattle.history.specs.History.{from_side, read_source, read_repair, reading}
 use Rattle.starts.specs.Starts.{Starts, also, moved, seen}
 use Rattle.starts.proofs.Agreeing.{Agree, also_agree, moved_agree, pass_agree}
-use Rattle.history.specs.Model.{Joined, State, found_by, Outcome, refused, done, added, responds, answering, startsAfter, marking, Origins}
+use Rattle.history.specs.Model.{Joined, State, found_by, Outcome, refused, done, added, responds, answering, starts_after, marking, Origins}
 use Rattle.history.specs.Model.{bringing, origins_after}
 use Rattle.holding.specs.Layout.{header_from, Holds}
 use Rattle.decoder.specs.Model as model
@@ -152,7 +152,7 @@ module _ (b c : ℕ) where
 
   reading-shifted : (s : Setting) (flows : List ℕ) (room : ℕ) (call : Call) → b % 2 ^ 32 ≡ c % 2 ^ 32
       → Shifted b c (reading s flows b room call) (reading s flows c room call)
-  unfolding reading readSource readRepair
+  unfolding reading read_source read_repair
   reading-shifted s flows room (source-call flow p) h =
       check-shifted _ 2 _ _
       (check-shifted _ 5 _ _
@@ -183,7 +183,7 @@ module _ (s : Setting) where
   rise d n = (d + n) - w
 
   abbrev inserted : (d n : ℕ) → List (Row (Coded E) n) → model.State (Coded E) w → Option (model.State (Coded E) w)
-  inserted d n rows S = decoder.insert_all (map (decoder.embed (Coded E) w (d - rise d n) n) rows) (decoder.advance-by (rise d n) S)
+  inserted d n rows S = decoder.insert_all (map (decoder.embed (Coded E) w (d - rise d n) n) rows) (decoder.advance_by (rise d n) S)
 
   -- What receiving it comes to, by what its place makes of the window.
   receive_at : (b d n : ℕ) (rows : List (Row (Coded E) n)) (S : model.State (Coded E) w)
@@ -195,11 +195,11 @@ module _ (s : Setting) where
       let j : (b + d) - (b + rise d n) ≡ d - rise d n = omega arith in
       ap
       (λ x.
-      decoder.and_then (decoder.insert_all (decoder.over (Coded E) w (b + x) (packet b d n rows)) (decoder.advance-by x S))
+      decoder.and_then (decoder.insert_all (decoder.over (Coded E) w (b + x) (packet b d n rows)) (decoder.advance_by x S))
       (λ T. some (record { base = b + x; window = T }))) k
       ∙ ap
       (λ x.
-      decoder.and_then (decoder.insert_all (map (decoder.embed (Coded E) w x n) rows) (decoder.advance-by (rise d n) S))
+      decoder.and_then (decoder.insert_all (map (decoder.embed (Coded E) w x n) rows) (decoder.advance_by (rise d n) S))
       (λ T. some (record { base = b + rise d n; window = T }))) j
 
   newly_at : (b k : ℕ) (S T : model.State (Coded E) w)
@@ -267,7 +267,7 @@ module _ (s : Setting) where
     source_agree : (d k : ℕ) (vs : List (List ℕ)) (o : Option (model.State (Coded E) w))
         → Agree w (marking s one M (located (source (b + d) vs)) (added s one (decoder.and_then o (λ T. some (record { base = b + k; window = T })))))
         (marking s other N (located (source (c + d) vs)) (added s other (decoder.and_then o (λ T. some (record { base = c + k; window = T })))))
-    unfolding startsAfter
+    unfolding starts_after
     source_agree d k vs none i l = a i l
     source_agree d k vs (some T) i l =
         pass_agree w E (seen E w T) _ _ (naming_agree b c d (length vs) k _ _ (rising_agree b c k M N a)) w (omega arith) i l
@@ -275,7 +275,7 @@ module _ (s : Setting) where
     repair_agree : (d n k : ℕ) (cs vs : List (List ℕ)) (o : Option (model.State (Coded E) w))
         → Agree w (marking s one M (located (repair (b + d) n cs vs)) (added s one (decoder.and_then o (λ T. some (record { base = b + k; window = T })))))
         (marking s other N (located (repair (c + d) n cs vs)) (added s other (decoder.and_then o (λ T. some (record { base = c + k; window = T })))))
-    unfolding startsAfter
+    unfolding starts_after
     repair_agree d n k cs vs none i l = a i l
     repair_agree d n k cs vs (some T) i l = pass_agree w E (seen E w T) _ _ (rising_agree b c k M N a) w (omega arith) i l
 
@@ -351,13 +351,13 @@ module _ (s : Setting) where
   open s use {size as E, width as w}
 
   -- The base after a call that finds the receiver so.
-  abbrev pub baseAfter : Joined s → Outcome s → ℕ
-  baseAfter t (refused n) = t.base
-  baseAfter t (done n u) = u.base
+  abbrev pub base_after : Joined s → Outcome s → ℕ
+  base_after t (refused n) = t.base
+  base_after t (done n u) = u.base
 
   -- What is heard after a call at t and after one at u agrees.
   abbrev HeardAlike : (t u : Joined s) → Origins → Origins → (r q : Reading) → (o p : Outcome s) → Type 0
-  HeardAlike t u H K r q o p = AgreeFrom (baseAfter t o) (baseAfter u p) (origins_after r o H) (origins_after q p K)
+  HeardAlike t u H K r q o p = AgreeFrom (base_after t o) (base_after u p) (origins_after r o H) (origins_after q p K)
 
   module _ (b c : ℕ) (S : model.State (Coded E) w) (H K : Origins) (a : AgreeFrom b c H K) where
     abbrev left : Joined s

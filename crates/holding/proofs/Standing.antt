@@ -15,7 +15,7 @@ use Rattle.table.specs.Window.{row_offset, Fits}
 use Rattle.starts.specs.Adu.{withholds, need}
 use Rattle.starts.specs.Starts.{Starts}
 use Rattle.history.specs.History.{Side, behind, ahead, halfway, side_of}
-use Rattle.history.specs.Model.{Joined, State, hides, finding, aduAt}
+use Rattle.history.specs.Model.{Joined, State, hides, finding, adu_at}
 use Rattle.history.proofs.Sides.{side_same}
 use Rattle.holding.specs.declared.Header.{Header}
 use Rattle.holding.specs.declared.Stand.{Stand}
@@ -152,7 +152,7 @@ pub record Hidden (m : List ℕ) (e : ℕ) (x : Refusal) : Type 0 where
   pub unopened : header_in m ≡ none → x ≡ Unopened
   pub opened : (h : Header) → header_in m ≡ some h → number_of x ≢ 3
   pub symbol : (s : Setting) (t : State s) → Holds m s t → finding s t e ≡ hides (number_of x)
-  pub adu : (s : Setting) (t : State s) → Holds m s t → (flows : List ℕ) (M : Starts) (room : ℕ) → aduAt s flows t M room e ≡ withholds (number_of x)
+  pub adu : (s : Setting) (t : State s) → Holds m s t → (flows : List ℕ) (M : Starts) (room : ℕ) → adu_at s flows t M room e ≡ withholds (number_of x)
 
 -- Every base with the header's ESI has the header's side.
 pub side_held : (e b : ℕ) (h : Header) → h.esi.0 ≡ b % 2 ^ 32 → side_of b e ≡ side_of h.esi.0 e
@@ -169,12 +169,12 @@ module _ (m : List ℕ) (e : ℕ) where
 
   module _ (h : Header) (k : header_in m ≡ some h) where
     hidden_fresh : h.joined ≡ false → Hidden m e Unknown
-    unfolding finding aduAt
+    unfolding finding adu_at
     hidden_fresh j = record {
       unopened = λ z. absurd (none-ne-some h (sym z ∙ k));
       opened = λ y z q. omega (arith, q);
       symbol = of-header m h k (λ s t. finding s t e ≡ hides 12) (λ _. refl) (λ t g i r b. absurd (true≢false (sym i ∙ j)));
-      adu = of-header m h k (λ s t. (flows : List ℕ) (M : Starts) (room : ℕ) → aduAt s flows t M room e ≡ withholds 12) (λ _ flows M room. refl)
+      adu = of-header m h k (λ s t. (flows : List ℕ) (M : Starts) (room : ℕ) → adu_at s flows t M room e ≡ withholds 12) (λ _ flows M room. refl)
           (λ t g i r b. absurd (true≢false (sym i ∙ j)));
     }
 
@@ -183,22 +183,22 @@ module _ (m : List ℕ) (e : ℕ) where
       by_side : (x : Refusal) → number_of x ≢ 3
           → ((t : Joined h.setting) → side_of t.base e ≡ side_of h.esi.0 e → finding h.setting (some t) e ≡ hides (number_of x))
           → ((t : Joined h.setting) → side_of t.base e ≡ side_of h.esi.0 e → (flows : List ℕ) (M : Starts) (room : ℕ)
-          → aduAt h.setting flows (some t) M room e ≡ withholds (number_of x))
+          → adu_at h.setting flows (some t) M room e ≡ withholds (number_of x))
           → Hidden m e x
       by_side x n f g = record {
         unopened = λ z. absurd (none-ne-some h (sym z ∙ k));
         opened = λ y z. n;
         symbol = of-joined m h k j (λ s t. finding s t e ≡ hides (number_of x)) (λ t _ _ b. f t (side_held e t.base h b));
-        adu = of-joined m h k j (λ s t. (flows : List ℕ) (M : Starts) (room : ℕ) → aduAt s flows t M room e ≡ withholds (number_of x))
+        adu = of-joined m h k j (λ s t. (flows : List ℕ) (M : Starts) (room : ℕ) → adu_at s flows t M room e ≡ withholds (number_of x))
             (λ t _ _ b. g t (side_held e t.base h b));
       }
 
       hidden_behind : side_of h.esi.0 e ≡ behind → Hidden m e Behind
-      unfolding finding aduAt
+      unfolding finding adu_at
       hidden_behind s = by_side Behind (λ q. omega (arith, q)) (λ t q. rw (q, s)) (λ t q flows M room. rw (q, s))
 
       hidden_past : (d : ℕ) → side_of h.esi.0 e ≡ ahead d → h.setting.width ≤ d → Hidden m e Unknown
-      unfolding finding aduAt need
+      unfolding finding adu_at need
       hidden_past d s l =
           by_side Unknown (λ q. omega (arith, q)) (λ t q. rw (q, s, le-ltb d h.setting.width l))
           (λ t q flows M room. rw (q, s, le-ltb d h.setting.width l))

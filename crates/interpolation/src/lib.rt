@@ -1,4 +1,6 @@
 // The Reed-Solomon code of RFC 5510 over GF(2^8): the coefficients of a symbol of a block.
+#![tactic(auto)]
+
 ghost use Rattle.words.specs.Words.{◌≡◌, ◌+◌, ◌≤◌, ◌<◌, bit_xor, length};
 ghost use Rattle.field.specs.Powers.{power};
 ghost use Rattle.field.specs.Tables.{power_table, logarithm_table};

@@ -1,4 +1,6 @@
 // The largest decoding window that a latency budget allows: dw_max_size of RFC 8681, appendix C.1 (document 02, No. 3).
+#![tactic(auto)]
+
 ghost use Rattle.words.specs.Words.{◌≡◌, ◌%◌, ◌/◌};
 ghost use Rattle.latency.specs.Window.{dividend, divisor, allowed};
 ghost use Rattle.latency.specs.Inner.{Bounds};
@@ -7,7 +9,7 @@ ghost use Rattle.latency.specs.Promises.{WindowAnswered};
 use wire::{Refusal, between};
 
 // What the call answers: quotient and remainder, or a refusal.
-#[derive(Drop)]
+#[derive(Clone, Copy)]
 pub enum WindowAnswer {
     Divided { quotient: u64, remainder: u64 },
     NotDivided(Refusal),

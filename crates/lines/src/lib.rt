@@ -1,31 +1,33 @@
 // The lines of a capture (document 02, No. 4): where a line ends, and what a first line and a packet line say.
+#![tactic(auto)]
+
 ghost use Rattle.words.specs.Words.{◌≡◌, ◌≤◌, ◌+◌, length, ◌<◌, some, none, ◌*◌, false, drop, cond, ltb};
 ghost use Rattle.lines.specs.Reading.{after, is_digit, number_from, number_in, field_in, value_of, bytes_in, packet_in, values_in, call_in};
 ghost use Rattle.lines.specs.Inner.{NoEnd, Ends, NumberRead, all_digits, BytesRead, values_of, CallRead};
 
 // A number and the place after it, or that there is none.
-#[derive(Drop)]
+#[derive(Clone, Copy)]
 enum Number {
     Is(usize, usize),
     NoNumber,
 }
 
 // How many bytes the digits up to a line's end write, or that they are not digits, two a byte.
-#[derive(Drop)]
+#[derive(Clone, Copy)]
 enum Packet {
     Has(usize),
     NoPacket,
 }
 
 // What a first line says: scheme, E and width.
-#[derive(Drop)]
+#[derive(Clone, Copy)]
 pub enum First {
     Values(usize, usize, usize),
     NoValues,
 }
 
 // What a packet line says: a source packet's flow and the number of its bytes, or a repair packet's number of bytes.
-#[derive(Drop)]
+#[derive(Clone, Copy)]
 pub enum Spoken {
     Source(u8, usize),
     Repair(usize),

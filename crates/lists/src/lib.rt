@@ -1,6 +1,8 @@
 // The sum of rows, each times a coefficient, by lists. The eight binary digits of a coefficient are four pairs; for each pair there are three
 // lists, of the rows whose coefficients have its lower digit alone, its higher digit alone, and both. From the highest pair to the lowest the sum
 // so far is doubled twice, and the rows of the lists are added, in strips of 64 bytes, each of which stays in registers.
+#![tactic(auto)]
+
 ghost use Rattle.words.specs.Words.{◌≡◌, ℕ, ◌≤◌, ◌+◌, ◌-◌, ◌*◌, length, ◌<◌, replicate, get_or};
 ghost use Rattle.memory.specs.Part.{part};
 ghost use Rattle.rows.specs.Rows.{add_scaled, scaled};

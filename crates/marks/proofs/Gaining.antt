@@ -6,7 +6,7 @@ use Rattle.words.specs.Words.{none-ne-some, add-zero, dec_lt, add-one, mod-add-m
 use Rattle.decoder.specs.Field.{Ops, Laws}
 use Rattle.decoder.specs.Bytes.{Coded}
 use Rattle.decoder.specs.Model.{Row, State, end, free, pivot, Rref, known}
-use Rattle.decoder.specs.Receiver.{empty, advance-by, insert_all, is_new, count_new, newly}
+use Rattle.decoder.specs.Receiver.{empty, advance_by, insert_all, is_new, count_new, newly}
 use Rattle.decoder.proofs.Bytes.{laws}
 use Rattle.decoder.proofs.Elimination.{solution, solution_sat, known_sound}
 use Rattle.decoder.proofs.Counting.{count_more, known_grows}
@@ -141,28 +141,28 @@ module _ {A : Type 0} (f g : ℕ → Option A) (mono : (i : ℕ) (v : A) → g i
 -- ---- a packet
 
 module _ (w E rise : ℕ) (S T : State (Coded E) w) (es : List (Row (Coded E) w)) (pos : 0 < E) (reduced : Rref S)
-    (inserted : insert_all es (advance-by rise S) ≡ some T) where
+    (inserted : insert_all es (advance_by rise S) ≡ some T) where
   L : Laws (Coded E)
   L = laws E pos
 
-  added : history.Added-all L (advance-by rise S) es (some T)
+  added : history.AddedAll L (advance_by rise S) es (some T)
   added =
-      subst (history.Added-all L (advance-by rise S) es) inserted
-      (history.insert_all_added L es (advance-by rise S) (history.advance_by_rref L rise S reduced))
+      subst (history.AddedAll L (advance_by rise S) es) inserted
+      (history.insert_all_added L es (advance_by rise S) (history.advance_by_rref L rise S reduced))
 
   -- What was known stays known.
   known_kept : (i : ℕ) (v : (Coded E).Sym) → known S (rise + i) ≡ some v → known T i ≡ some v
   known_kept i v e = go (known T i) refl
     where
-      was : known (advance-by rise S) i ≡ some v
+      was : known (advance_by rise S) i ≡ some v
       was = history.known_advance_by L rise S i ∙ e
 
       go : (o : Option (Coded E).Sym) → known T i ≡ o → known T i ≡ some v
-      go none k = absurd (none-ne-some v (sym (known_grows L (advance-by rise S) T added.0 (λ x t. ((added.1 x).0 t).0) i k) ∙ was))
+      go none k = absurd (none-ne-some v (sym (known_grows L (advance_by rise S) T added.0 (λ x t. ((added.1 x).0 t).0) i k) ∙ was))
       go (some u) k =
           let x = solution L T in
           let s = solution_sat L T in
-          k ∙ ap some (sym (known_sound L T i u k x s) ∙ known_sound L (advance-by rise S) i v was x ((added.1 x).0 s).0)
+          k ∙ ap some (sym (known_sound L T i u k x s) ∙ known_sound L (advance_by rise S) i v was x ((added.1 x).0 s).0)
 
   -- The positions of the packet, counted from the base before.
   tally-before : (first n : ℕ) → tally (λ i. known S (rise + i)) first n ≡ tally (known S) (rise + first) n

@@ -6,7 +6,7 @@ use Rattle.wire.specs.Settings.{setting_of, Valid}
 use Rattle.wire.specs.Packets.{source_adu}
 use Rattle.wire.proofs.Settings.{setting-names}
 use Rattle.history.specs.History.{Filling, Located, first, All, Call, source-call, repair-call, reading, Log, fresh, located, base_of}
-use Rattle.history.specs.Checking.{saysAt}
+use Rattle.history.specs.Checking.{says_at}
 use Rattle.history.proofs.Origins.{brought, brought_is}
 use Rattle.history.proofs.Readings.{source-read, repair-read, reading_passed}
 use Rattle.receiver.specs.Promises.{Layout}
@@ -82,14 +82,14 @@ two-orders L scheme E w flows m₀ m n₀ n a b o z o' z' ts us r r' =
 
 -- ---- What a packet says is told by its bytes and its first position
 
-said_at : (s : Setting) (flows : List ℕ) (base room : ℕ) (c : Call) (q : Located) → reading s flows base room c ≡ located q → q ≡ saysAt s (first q) c
+said_at : (s : Setting) (flows : List ℕ) (base room : ℕ) (c : Call) (q : Located) → reading s flows base room c ≡ located q → q ≡ says_at s (first q) c
 unfolding source_adu
 said_at s flows base room (source-call flow p) q h =
     let r = source-read s flows base flow p q (reading_passed s flows base room (source-call flow p) q h) in
-    subst (λ x. x ≡ saysAt s (first x) (source-call flow p)) r.says refl
+    subst (λ x. x ≡ says_at s (first x) (source-call flow p)) r.says refl
 said_at s flows base room (repair-call p) q h =
     let r = repair-read s base p q (reading_passed s flows base room (repair-call p) q h) in
-    subst (λ x. x ≡ saysAt s (first x) (repair-call p)) r.says refl
+    subst (λ x. x ≡ says_at s (first x) (repair-call p)) r.says refl
 
 module _ (s : Setting) (flows : List ℕ) where
   -- A packet of the history, as a call brought it.
@@ -113,9 +113,9 @@ module _ (s : Setting) (flows : List ℕ) where
       let k = (accepted_as s flows ts q).0 m in
       let c = k.step.call in
       let u = f c (first q) (accepted_at ts q k) in
-      let here : q ≡ saysAt s (first q) c = said_at s flows _ _ c q k.read_as in
-      let says : u.packet ≡ saysAt s (first u.packet) u.step.call = said_at s flows _ _ u.step.call u.packet u.read_as in
-      let same : u.packet ≡ q = says ∙ ap₂ (saysAt s) u.at u.brings ∙ sym here in
+      let here : q ≡ says_at s (first q) c = said_at s flows _ _ c q k.read_as in
+      let says : u.packet ≡ says_at s (first u.packet) u.step.call = said_at s flows _ _ u.step.call u.packet u.read_as in
+      let same : u.packet ≡ q = says ∙ ap₂ (says_at s) u.at u.brings ∙ sym here in
       subst (λ x. Memᴰ x (history s flows us)) same
       ((accepted_as s flows us u.packet).1
       (record { before = u.before; step = u.step; after = u.after; split = u.split; accepted = u.accepted; read_as = u.read_as }))

@@ -21,7 +21,7 @@ use Rattle.starts.specs.declared.Handed.TheVariants.{Adu, Withheld}
 use Rattle.starts.specs.Adu.{Handing, hands, withholds, need, handing, HandedAs}
 use Rattle.starts.specs.Starts.{Starts}
 use Rattle.history.specs.History.{Filling, All, Side, behind, ahead, side_of, Log, base_of}
-use Rattle.history.specs.Model.{Joined, State, found_by, Outcome, refused, done, receiving, Finding, shows, hides, finding, aduIn, aduAt, Origins}
+use Rattle.history.specs.Model.{Joined, State, found_by, Outcome, refused, done, receiving, Finding, shows, hides, finding, adu_in, adu_at, Origins}
 use Rattle.history.proofs.Cases.{IsRefusal, numeral}
 use Rattle.history.proofs.Answers.{Tracks, TracksFrom, base_in, all}
 use Rattle.receiver.specs.declared.SymbolAnswer.{SymbolAnswer}
@@ -142,14 +142,14 @@ inside_alike false g h x = inl refl
 module _ (s : Setting) (flows : List ℕ) where
   open s use {size as E, width}
 
-  side_alike : (t : Joined s) (M N : Starts) (room : ℕ) (o : Side) → Alike (aduIn s flows t M room o) (aduIn s flows t N room o)
+  side_alike : (t : Joined s) (M N : Starts) (room : ℕ) (o : Side) → Alike (adu_in s flows t M room o) (adu_in s flows t N room o)
   unfolding handing
   side_alike t M N room behind = inl refl
   side_alike t M N room (ahead d) = inside_alike (ltb d width) _ _ (marked_alike (M d) (N d) _)
 
   -- Whatever is marked, the ADU call comes to the same but for 13.
-  adu_alike : (t : State s) (M N : Starts) (room e : ℕ) → Alike (aduAt s flows t M room e) (aduAt s flows t N room e)
-  unfolding aduAt
+  adu_alike : (t : State s) (M N : Starts) (room e : ℕ) → Alike (adu_at s flows t M room e) (adu_at s flows t N room e)
+  unfolding adu_at
   adu_alike none M N room e = inl refl
   adu_alike (some t) M N room e = side_alike t M N room (side_of t.base e)
 

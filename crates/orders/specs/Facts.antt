@@ -6,7 +6,7 @@ use Rattle.wire.specs.Flows.{all_flows}
 use Rattle.starts.specs.Adu.{Handing, hands, withholds}
 use Rattle.history.specs.Symbol.{bytes_of}
 use Rattle.history.specs.History.{Call}
-use Rattle.history.specs.Model.{State, Finding, shows, hides, finding, aduAt, Origins}
+use Rattle.history.specs.Model.{State, Finding, shows, hides, finding, adu_at, Origins}
 use Rattle.history.specs.Facts.{begun, called}
 use Rattle.history.specs.Computing.{computing}
 use Rattle.sheet.specs.Bench.{gf2, adu, symbol_call, repair-of}
@@ -41,7 +41,7 @@ comes cs es =
       answers = a.answers;
       base = base_in a.state;
       sights = map (λ e. sight a.heard (finding (gf2 2) a.state e)) es;
-      adus = map (aduAt (gf2 2) all_flows a.state a.marks 1) es;
+      adus = map (adu_at (gf2 2) all_flows a.state a.marks 1) es;
     }
 
 -- As it is written below.

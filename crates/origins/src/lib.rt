@@ -1,4 +1,6 @@
 // Which positions of the window a source packet has brought: one byte for each row, past the rows.
+#![tactic(auto)]
+
 ghost use Rattle.words.specs.Words.{◌≡◌, ◌≤◌, ◌+◌, length, ◌<◌, ◌-◌};
 ghost use Rattle.table.specs.Window.{row_offset, Fits};
 ghost use Rattle.origins.specs.Origins.{heard_in};

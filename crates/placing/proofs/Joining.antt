@@ -6,10 +6,10 @@ use Rattle.memory.proofs.Parts.{get_or-part}
 use Rattle.decoder.specs.Field.{Laws}
 use Rattle.decoder.specs.Bytes.{byte, Coded}
 use Rattle.decoder.specs.Model.{State, Reduced, place as place-row, lead}
-use Rattle.decoder.specs.Receiver.{advance-by}
+use Rattle.decoder.specs.Receiver.{advance_by}
 use Rattle.decoder.specs.Table.{view}
-use Rattle.decoder.specs.TableSteps.{Places, add-line}
-use Rattle.decoder.specs.Chain.{Chain, place-rows}
+use Rattle.decoder.specs.TableSteps.{Places, add_line}
+use Rattle.decoder.specs.Chain.{Chain, place_rows}
 use Rattle.decoder.proofs.Bytes.{laws}
 use Rattle.decoder.proofs.Stretch.{line_same}
 use Rattle.decoder.proofs.Chain.{chain_before}
@@ -34,7 +34,7 @@ settled_line {w} {E} {r} {n} {l} {l'} {m} {m'} e s = record {
   used = s.used;
   new = s.new ∙ e;
   others = s.others;
-  sum = λ q h d u. s.sum q h d u ∙ ap (λ x. add-line (byte (get_or (row w E q m) r 0)) x (line w E (row w E q m))) e;
+  sum = λ q h d u. s.sum q h d u ∙ ap (λ x. add_line (byte (get_or (row w E q m) r 0)) x (line w E (row w E q m))) e;
   flags = s.flags;
 }
 
@@ -78,12 +78,12 @@ module _ (w E b n : ℕ) (T : State (Coded E) w) (l m m' : List ℕ) (fits : Fit
 
 -- No row yet, one more, and all.
 pub joined-none : (w E : ℕ) (work m : List ℕ) → RowsPlaced w E 0 0 work m m
-unfolding place-rows
+unfolding place_rows
 joined-none w E work m = record { kept = kept_refl; most = omega arith; joins = λ b S v c p. (v, zero-add (known_flags w E m)) }
 
 pub joined-more : (w E k n i : ℕ) (work m m₁ m₂ : List ℕ) → Fits w E m → RowsPlaced w E k n work m m₁ → PlacedKept w E k i work m₁ m₂
     → RowsPlaced w E (k + 1) (n + i) work m m₂
-unfolding place-rows
+unfolding place_rows
 joined-more w E k n i work m m₁ m₂ fits f s = record {
   kept = kept_trans f.kept s.kept;
   most = omega (arith, f.most, s.most, fits.wide);
@@ -92,9 +92,9 @@ joined-more w E k n i work m m₁ m₂ fits f s = record {
       let chain = subst (Chain S (spelled w E b work)) (add-one k) c in
       let before = f.joins b S v (chain_before (laws E (omega (arith, fits.some_symbol))) S (spelled w E b work) k chain) (λ j h. p j (omega arith)) in
       let now =
-      placed w E b i (place-rows (spelled w E b work) k S) (row w E k work) m₁ m₂ room before.0 s (p k (omega arith))
+      placed w E b i (place_rows (spelled w E b work) k S) (row w E k work) m₁ m₂ room before.0 s (p k (omega arith))
       (chain.reduced k (omega arith)) (chain.leads k (omega arith)) in (
-        subst (λ j. Window w E m₂ b (place-rows (spelled w E b work) j S)) (sym (add-one k)) now.0,
+        subst (λ j. Window w E m₂ b (place_rows (spelled w E b work) j S)) (sym (add-one k)) now.0,
         omega (arith, before.1, now.1),
       );
 }
@@ -111,10 +111,10 @@ committed w E oldest rise k n work m m₁ m₂ fits f g a c = record {
   most = c.most;
   outcome = λ b S es e v r h.
       let start = a.moves b S e v in
-      let T = place-rows (spelled w E (b + rise) work) k (advance-by rise S) in
-      let (window, count) = c.joins (b + rise) (advance-by rise S) start h.chain h.marked in
+      let T = place_rows (spelled w E (b + rise) work) k (advance_by rise S) in
+      let (window, count) = c.joins (b + rise) (advance_by rise S) start h.chain h.marked in
       let room = fits_kept fits a.kept in
-      let before = count_known w E (b + rise) m₁ (advance-by rise S) room f start in
+      let before = count_known w E (b + rise) m₁ (advance_by rise S) room f start in
       let after = count_known w E (b + rise) m₂ T (fits_kept room c.kept) g window in
       let difference = newly_difference (laws E (omega (arith, fits.some_symbol))) b rise S T es r h.inserted in
       (T, h.inserted, window, omega (arith, count, before, after, difference));

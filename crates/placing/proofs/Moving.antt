@@ -6,7 +6,7 @@ use native.Mathlib.Nat.{add-mod-mod}
 use Rattle.decoder.specs.Field.{Ops}
 use Rattle.decoder.specs.Bytes.{byte, Coded}
 use Rattle.decoder.specs.Model.{Row, State, end, free, pivot, advance}
-use Rattle.decoder.specs.Receiver.{advance-by, empty}
+use Rattle.decoder.specs.Receiver.{advance_by, empty}
 use Rattle.decoder.specs.Table.{Table, view, read, slot}
 use Rattle.decoder.specs.TableSteps.{Moves}
 use Rattle.decoder.proofs.Bytes.{laws}
@@ -63,7 +63,7 @@ moved_to {w} {E} {oldest} {i} {k} {m} {m'} e f = subst (λ x. RowsMoved w E olde
 
 -- No turn yet, one more, and as many as there are rows.
 moved_none : (w E oldest : ℕ) (m : List ℕ) → RowsMoved w E oldest 0 m m
-unfolding advance-by
+unfolding advance_by
 moved_none w E oldest m = record { kept = kept_refl; moves = λ b S e h. rw add-zero h }
 
 moved_more : (w E oldest i : ℕ) (m m' : List ℕ) → Fits w E m' → RowsMoved w E oldest i m m'
@@ -72,12 +72,12 @@ moved_more w E oldest i m m' fits f =
     let pos = fits.some_width in record {
       kept = kept_trans f.kept (flagged_kept w E ((oldest + i) % w) 0 m' fits (mod-lt (oldest + i) pos));
       moves = λ b S e h.
-          let turn = window_free_one w E m' fits (b + i) (advance-by i S) (f.moves b S e h) in
+          let turn = window_free_one w E m' fits (b + i) (advance_by i S) (f.moves b S e h) in
           let same : (b + i) % w ≡ (oldest + i) % w = sym (mod-add-mod b w i) ∙ ap (λ k. (k + i) % w) e in
           let next : suc (b + i) ≡ b + (i + 1) = omega arith in
-          let done : advance (advance-by i S) ≡ advance-by (i + 1) S = sym (advance_by_suc i S) ∙ ap (λ k. advance-by k S) (sym (add-one i)) in
-          subst (λ k. Window w E (flagged w E k 0 m') (b + (i + 1)) (advance-by (i + 1) S)) same
-          (subst (λ k. Window w E (flagged w E ((b + i) % w) 0 m') k (advance-by (i + 1) S)) next
+          let done : advance (advance_by i S) ≡ advance_by (i + 1) S = sym (advance_by_suc i S) ∙ ap (λ k. advance_by k S) (sym (add-one i)) in
+          subst (λ k. Window w E (flagged w E k 0 m') (b + (i + 1)) (advance_by (i + 1) S)) same
+          (subst (λ k. Window w E (flagged w E ((b + i) % w) 0 m') k (advance_by (i + 1) S)) next
           (subst (λ S'. Window w E (flagged w E ((b + i) % w) 0 m') (suc (b + i)) S') done turn));
     }
 

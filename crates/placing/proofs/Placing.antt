@@ -12,10 +12,10 @@ use Rattle.memory.proofs.Parts.{length_part, get_or-part, whole, row_fits}
 use Rattle.rows.specs.Rows.{add_scaled}
 use Rattle.rows.proofs.Sums.{length_add_scaled, get_or_add_scaled}
 use Rattle.decoder.specs.Bytes.{byte}
-use Rattle.decoder.specs.TableSteps.{Places, add-line}
+use Rattle.decoder.specs.TableSteps.{Places, add_line}
 use Rattle.decoder.proofs.Bytes.{laws, byte-zero}
 use Rattle.decoder.proofs.Stretch.{line-add, line_same}
-use Rattle.decoder.proofs.Refine.{add-line-zero}
+use Rattle.decoder.proofs.Refine.{add_line-zero}
 use Rattle.table.specs.Window.{stride, row_offset, row, flag, in_use, line, table, Flagged, Flags, Fits, Kept}
 use Rattle.table.specs.RowSteps.{one_if_known, known-flag, flagged}
 use Rattle.placing.specs.PlaceSteps.{known_flags, RowMarked, Changed, ClearedRow, FirstWith, Stored, RowPlaced}
@@ -137,7 +137,7 @@ module _ {w E r from : ℕ} {m : List ℕ} where
 
 -- The row `q` is passed over: it is not in use, or has no coefficient in the column.
 module _ (w E r q : ℕ) (l m : List ℕ) where
-  idle : (in_use w E (row w E q m) ≡ true → line w E (row w E q m) ≡ add-line (byte (get_or (row w E q m) r 0)) (line w E l) (line w E (row w E q m)))
+  idle : (in_use w E (row w E q m) ≡ true → line w E (row w E q m) ≡ add_line (byte (get_or (row w E q m) r 0)) (line w E l) (line w E (row w E q m)))
       → ClearedRow w E r q 0 l m m
   idle s = record {
     changed = record { kept = kept_refl; rest = λ p g d. refl; most = omega arith };
@@ -149,7 +149,7 @@ module _ (w E r q : ℕ) (l m : List ℕ) where
   module _ (at : ℕ) (here : at ≡ row_offset w E q) where
     pub cleared_zero : 0 < E → r < w → get_or m (at + r) 0 ≡ 0 → ClearedRow w E r q 0 l m m
     cleared_zero pos h z =
-        idle (λ _. sym (add-line-zero (laws E pos) (byte (get_or (row w E q m) r 0)) (line w E l) (line w E (row w E q m))
+        idle (λ _. sym (add_line-zero (laws E pos) (byte (get_or (row w E q m) r 0)) (line w E l) (line w E (row w E q m))
         (byte-zero (get_or (row w E q m) r 0) (get_or-part (row_offset w E q) (stride w E) r m (omega (arith, flags_fit w E))
         ∙ ap (λ a. get_or m (a + r) 0) (sym here) ∙ z))))
 
@@ -193,7 +193,7 @@ module _ (w E r q n : ℕ) (l m m₁ m' : List ℕ) (fits : Fits w E m) (c : r <
       (omega (arith, ap length (whole (w + E) l size)))
       ∙ ap₂ (λ a b. bit_xor a (product coefficient b)) o y
 
-  sum-line : line w E added ≡ add-line (byte coefficient) (line w E l) (line w E (row w E q m))
+  sum-line : line w E added ≡ add_line (byte coefficient) (line w E l) (line w E (row w E q m))
   sum-line =
       let z = bytes-part (row_offset w E q) (stride w E) m f in
       line-add w E fits.some_width coefficient (row w E q m) l added z g (z r) element
@@ -224,7 +224,7 @@ pub record Cleared (w E r i n : ℕ) (l m m' : List ℕ) : Type 0 where
   pub most : n ≤ i
   pub used : (q : ℕ) → q < w → in_use w E (row w E q m') ≡ in_use w E (row w E q m)
   pub sum : (q : ℕ) → q < i → in_use w E (row w E q m) ≡ true
-      → line w E (row w E q m') ≡ add-line (byte (get_or (row w E q m) r 0)) (line w E l) (line w E (row w E q m))
+      → line w E (row w E q m') ≡ add_line (byte (get_or (row w E q m) r 0)) (line w E l) (line w E (row w E q m))
   pub rest : (q : ℕ) → i ≤ q → q < w → row w E q m' ≡ row w E q m
   pub flags : in_use w E (row w E r m) ≡ false → Flags w E m → Flags w E m' × (n + known_flags w E m ≡ known_flags w E m')
 
@@ -260,11 +260,11 @@ module _ (w E r : ℕ) (l m : List ℕ) where
       still q b (no e) = ap (in_use w E) (g.changed.rest q b e) ∙ f.used q b
 
       one : (q : ℕ) → q < i + 1 → in_use w E (row w E q m) ≡ true → Dec (q ≡ i)
-          → line w E (row w E q m₂) ≡ add-line (byte (get_or (row w E q m) r 0)) (line w E l) (line w E (row w E q m))
+          → line w E (row w E q m₂) ≡ add_line (byte (get_or (row w E q m) r 0)) (line w E l) (line w E (row w E q m))
       one q b u (yes e) =
           ap (λ x. line w E (row w E x m₂)) e
           ∙ g.sum (f.used i h ∙ ap (λ x. in_use w E (row w E x m)) (sym e) ∙ u)
-          ∙ ap (λ x. add-line (byte (get_or x r 0)) (line w E l) (line w E x)) (f.rest i (omega arith) h ∙ ap (λ x. row w E x m) (sym e))
+          ∙ ap (λ x. add_line (byte (get_or x r 0)) (line w E l) (line w E x)) (f.rest i (omega arith) h ∙ ap (λ x. row w E x m) (sym e))
       one q b u (no e) = ap (line w E) (g.changed.rest q (omega arith) e) ∙ f.sum q (omega arith) u
 
   -- Rows without a coefficient there are passed over.
@@ -312,5 +312,5 @@ places w E r n b p l m m' pos f e g h =
       has_old = λ q c d x. f.others (q % w) (mod-lt q pos) (apart q c d x);
       line_old = λ q c d x u.
           f.sum (q % w) (mod-lt q pos) (apart q c d x) u
-          ∙ ap (λ k. add-line (byte (get_or (row w E (q % w) m) k 0)) (line w E l) (line w E (row w E (q % w) m))) (sym e);
+          ∙ ap (λ k. add_line (byte (get_or (row w E (q % w) m) k 0)) (line w E l) (line w E (row w E (q % w) m))) (sym e);
     }

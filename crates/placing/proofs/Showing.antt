@@ -13,7 +13,7 @@ use Rattle.decoder.specs.Table.{view}
 use Rattle.decoder.specs.Tuples.{bytes-of}
 use Rattle.decoder.proofs.Bytes.{laws, byte-zero, byte_nonzero}
 use Rattle.decoder.proofs.Stretch.{bytes-of_symbol}
-use Rattle.decoder.proofs.Counting.{count-all}
+use Rattle.decoder.proofs.Counting.{count_all}
 use Rattle.decoder.proofs.Gaining.{total-rows}
 use Rattle.decoder.proofs.Steps.{known-row, known_open, known_free}
 use Rattle.table.specs.Window.{stride, row_offset, row, flag, in_use, line, table, Window, Fits}
@@ -105,7 +105,7 @@ one_known w E r m fits h f b i S l p v = go (ℕ_discrete (flag w E (row w E r m
     go (no e) = ap (λ o. is_new o none) (not-two w E r m fits h f b i S l p v e) ∙ sym (not_known (flag w E (row w E r m)) e)
 
 -- As many flags are 2 as there are positions known.
-pub count_known : (w E b : ℕ) (m : List ℕ) (S : State (Coded E) w) → Fits w E m → Bytes m → Window w E m b S → known_flags w E m ≡ count-all w (known S)
+pub count_known : (w E b : ℕ) (m : List ℕ) (S : State (Coded E) w) → Fits w E m → Bytes m → Window w E m b S → known_flags w E m ≡ count_all w (known S)
 count_known w E b m S fits f v =
     total-rows (known-flag w E m) w b (known S) (λ _. none)
     (λ i l. sym (one_known w E ((b + i) % w) m fits (mod-lt (b + i) fits.some_width) f b i S l refl v))

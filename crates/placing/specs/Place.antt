@@ -3,14 +3,14 @@
 use Rattle.words.specs.Words.{◌≡◌, ℕ, ◌≤◌, ◌+◌, List, ◌<◌, some, ◌%◌, true, none, ◌*◌, false, Bool}
 use Rattle.decoder.specs.Bytes.{Coded}
 use Rattle.decoder.specs.Model.{Row, State, Rref, known}
-use Rattle.decoder.specs.Receiver.{advance-by, insert_all, newly}
+use Rattle.decoder.specs.Receiver.{advance_by, insert_all, newly}
 use Rattle.table.specs.Window.{row, line, Window, Kept}
 use Rattle.table.specs.Packet.{Gathered}
 
 -- The window has moved on by `rise` positions.
 pub record RowsMoved (w E oldest rise : ℕ) (m m' : List ℕ) : Type 0 where
   pub kept : Kept w E m m'
-  pub moves : (b : ℕ) (S : State (Coded E) w) → b % w ≡ oldest → Window w E m b S → Window w E m' (b + rise) (advance-by rise S)
+  pub moves : (b : ℕ) (S : State (Coded E) w) → b % w ≡ oldest → Window w E m b S → Window w E m' (b + rise) (advance_by rise S)
 
 -- Whether the symbol of the position in row `r` is known, and then it is the row's.
 abbrev pub KnownAt : (w E r : ℕ) → Bool → List ℕ → Type 0
@@ -23,6 +23,6 @@ pub record Committed (w E oldest rise kept count : ℕ) (work m m' : List ℕ) :
   pub unchanged : Kept w E m m'
   pub most : count ≤ kept * 256
   pub outcome : (b : ℕ) (S : State (Coded E) w) (es : List (Row (Coded E) w)) → b % w ≡ oldest → Window w E m b S → Rref S
-      → Gathered w E (b + rise) (advance-by rise S) work kept es
-      → (T : State (Coded E) w) × (insert_all es (advance-by rise S) ≡ some T) × Window w E m' (b + rise) T
+      → Gathered w E (b + rise) (advance_by rise S) work kept es
+      → (T : State (Coded E) w) × (insert_all es (advance_by rise S) ≡ some T) × Window w E m' (b + rise) T
       × (count ≡ newly (record { base = b; window = S }) (record { base = b + rise; window = T }))

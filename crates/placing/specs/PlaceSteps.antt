@@ -3,8 +3,8 @@
 use Rattle.words.specs.Words.{◌≡◌, ℕ, ◌≤◌, ◌+◌, List, length, ◌<◌, true, ◌*◌, get_or, false, ◌≢◌}
 use Rattle.decoder.specs.Bytes.{byte, Coded}
 use Rattle.decoder.specs.Model.{State}
-use Rattle.decoder.specs.TableSteps.{add-line, total}
-use Rattle.decoder.specs.Chain.{Chain, place-rows}
+use Rattle.decoder.specs.TableSteps.{add_line, total}
+use Rattle.decoder.specs.Chain.{Chain, place_rows}
 use Rattle.table.specs.Window.{row_offset, row, flag, in_use, line, Flagged, Flags, Window, Kept}
 use Rattle.table.specs.Packet.{spelled, PivotMarked}
 use Rattle.table.specs.RowSteps.{known-flag, flagged, Tested}
@@ -29,7 +29,7 @@ pub record ClearedRow (w E r q n : ℕ) (l m m' : List ℕ) : Type 0 where
   pub changed : Changed w E q n m m'
   pub used : in_use w E (row w E q m') ≡ in_use w E (row w E q m)
   pub sum : in_use w E (row w E q m) ≡ true
-      → line w E (row w E q m') ≡ add-line (byte (get_or (row w E q m) r 0)) (line w E l) (line w E (row w E q m))
+      → line w E (row w E q m') ≡ add_line (byte (get_or (row w E q m) r 0)) (line w E l) (line w E (row w E q m))
   pub flags : (q ≡ r → in_use w E (row w E q m) ≡ false) → Flagged w E q (row w E q m)
       → Flagged w E q (row w E q m') × (n + known-flag w E m q ≡ known-flag w E m' q)
 
@@ -55,7 +55,7 @@ pub record RowPlaced (w E r n : ℕ) (l m m' : List ℕ) : Type 0 where
   pub new : line w E (row w E r m') ≡ line w E l
   pub others : (q : ℕ) → q < w → q ≢ r → in_use w E (row w E q m') ≡ in_use w E (row w E q m)
   pub sum : (q : ℕ) → q < w → q ≢ r → in_use w E (row w E q m) ≡ true
-      → line w E (row w E q m') ≡ add-line (byte (get_or (row w E q m) r 0)) (line w E l) (line w E (row w E q m))
+      → line w E (row w E q m') ≡ add_line (byte (get_or (row w E q m) r 0)) (line w E l) (line w E (row w E q m))
   pub flags : in_use w E (row w E r m) ≡ false → Flags w E m → Flags w E m' × (n + known_flags w E m ≡ known_flags w E m')
 
 -- Working memory has the row `k`, and a column of the window in its first flag.
@@ -74,4 +74,4 @@ pub record RowsPlaced (w E k n : ℕ) (work m m' : List ℕ) : Type 0 where
   pub most : n ≤ k * 256
   pub joins : (b : ℕ) (S : State (Coded E) w) → Window w E m b S → Chain S (spelled w E b work) k
       → ((j : ℕ) → j < k → PivotMarked w E b (row w E j work))
-      → Window w E m' b (place-rows (spelled w E b work) k S) × (n + known_flags w E m ≡ known_flags w E m')
+      → Window w E m' b (place_rows (spelled w E b work) k S) × (n + known_flags w E m ≡ known_flags w E m')

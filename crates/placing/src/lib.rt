@@ -1,5 +1,7 @@
 // What changes the window's equations: the window moves on, and a packet's rows join those of the window.
 // And whether a position is known, which its row's first flag says.
+#![tactic(auto)]
+
 ghost use Rattle.words.specs.Words.{◌≡◌, ◌≤◌, ◌+◌, length, ◌<◌, get_or, ◌≢◌};
 ghost use Rattle.table.specs.Window.{row_offset, Fits};
 ghost use Rattle.placing.specs.Place.{RowsMoved, KnownAt, Committed};

@@ -1,4 +1,6 @@
 // Text in a buffer: texts, decimal numbers, and the lines that are printed of a capture (document 02, No. 4).
+#![tactic(auto)]
+
 ghost use Rattle.words.specs.Words.{◌≤◌, ◌+◌, length, ◌++◌};
 ghost use Rattle.text.specs.Text.{decimal};
 ghost use Rattle.printing.specs.Printed.{record_line, last_line};

@@ -11,7 +11,7 @@ use Rattle.table.specs.declared.Shape.{Shape}
 use Rattle.handing.specs.Promises.{HandedOut}
 use Rattle.holding.specs.declared.Header.{Header}
 use Rattle.wire.specs.Answers.{refusal}
-use Rattle.history.specs.Model.{Joined, aduAt}
+use Rattle.history.specs.Model.{Joined, adu_at}
 use Rattle.holding.specs.Header.{header_in}
 use Rattle.receiver.specs.Promises.{handed_said, AduAnswered}
 use Rattle.holding.specs.Layout.{Marks}
@@ -43,8 +43,8 @@ module _ (m out : List ℕ) (e d : ℕ) (h : Header) (stands : InWindow m e d h)
 
   -- In the window the call is that of the window's d-th position.
   inner : (flows : List ℕ) (t : Joined h.setting) (M : Starts) → h.esi.0 ≡ t.base % 2 ^ 32
-      → aduAt h.setting flows (some t) M (length out) e ≡ handing size width flows (length out) M (seen size width t.window) d
-  unfolding aduAt need
+      → adu_at h.setting flows (some t) M (length out) e ≡ handing size width flows (length out) M (seen size width t.window) d
+  unfolding adu_at need
   inner flows t M b = rw (side_held e t.base h b, stands.side, lt-ltb d width stands.inside)
 
   inside : (out' : List ℕ) (r : Handed) → HandedOut width size h.oldest d m out out' r → AduAnswered receiver_layout m e out out' r
@@ -52,8 +52,8 @@ module _ (m out : List ℕ) (e d : ℕ) (h : Header) (stands : InWindow m e d h)
     unopened = ((λ z. absurd (not_three r g.opened z)), (λ z. absurd (none-ne-some h (sym z ∙ stands.has))));
     leaves = g.leaves;
     hands = λ s flows t M v l.
-        subst (λ f. HandedAs (aduAt s f t M (length out) e) out out' r) v.kept
-        (of-joined m h stands.has stands.joined (λ s t. Marks m s t M → HandedAs (aduAt s (flows_in m) t M (length out) e) out out' r)
+        subst (λ f. HandedAs (adu_at s f t M (length out) e) out out' r) v.kept
+        (of-joined m h stands.has stands.joined (λ s t. Marks m s t M → HandedAs (adu_at s (flows_in m) t M (length out) e) out out' r)
         (λ t v a b l.
         subst (λ y. HandedAs y out out' r) (sym (inner (flows_in m) t M b))
         (g.told t.base t.window M (sym a) v.rows (subst (λ y. marks.Marks width size y m M) (sym a) l.bytes))) s t v.holds l);

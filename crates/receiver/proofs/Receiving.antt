@@ -23,7 +23,7 @@ use Rattle.admission.specs.declared.packet.Gathered.{Gathered}
 use Rattle.admission.specs.declared.packet.Gathered.TheVariants.{All, Contradiction}
 use Rattle.history.specs.History.{Located, source, repair, first, named, Call, esi_of, Reading, fails, located, farthest, memory_size, working_size, reading}
 use Rattle.wire.specs.Answers.{value, refusal}
-use Rattle.history.specs.Model.{Joined, State, found_by, Outcome, packetOf, added, responds, answering, stateAfter, naming, startsAfter, marking, receiving, refused}
+use Rattle.history.specs.Model.{Joined, State, found_by, Outcome, packet_of, added, responds, answering, state_after, naming, starts_after, marking, receiving, refused}
 use Rattle.history.specs.Model.{Origins, bringing, hearing, origins_after}
 use Rattle.holding.specs.Header.{header_in}
 use Rattle.receiver.specs.Promises.{Follows, Received}
@@ -48,11 +48,11 @@ use Rattle.table.specs.Packet as packet
 
 -- The marks after a call that finds the receiver as j, by what was read of it and what it came to.
 abbrev MarksBy : (s : Setting) (t : State s) (j : Joined s) (M : Starts) (m' : List ℕ) → Reading → Outcome s → Type 0
-MarksBy s t j M m' x y = Marks m' s (stateAfter t y) (marking s j M x y)
+MarksBy s t j M m' x y = Marks m' s (state_after t y) (marking s j M x y)
 
 -- And what is heard.
 abbrev HearsBy : (s : Setting) (t : State s) (H : Origins) (m' : List ℕ) → Reading → Outcome s → Type 0
-HearsBy s t H m' x y = Hears m' s (stateAfter t y) (origins_after x y H)
+HearsBy s t H m' x y = Hears m' s (state_after t y) (origins_after x y H)
 
 -- Before any base they are marks wherever it will be.
 found_marks : (m : List ℕ) (s : Setting) (t : State s) (e : ℕ) (M : Starts) → Marks m s t M → MarksFrom m s (found_by s t e) M
@@ -90,12 +90,12 @@ module _ (c : Call) (m v : List ℕ) where
 
 -- ---- The model's answer
 
-first_of : (E : ℕ) (q : Located) → (packetOf E q).first ≡ first q
+first_of : (E : ℕ) (q : Located) → (packet_of E q).first ≡ first q
 unfolding packets.source packets.repair
 first_of E (source p vs) = refl
 first_of E (repair p n cs vs) = refl
 
-named-of : (E : ℕ) (q : Located) → (packetOf E q).count ≡ named q
+named-of : (E : ℕ) (q : Located) → (packet_of E q).count ≡ named q
 unfolding packets.source packets.repair
 named-of E (source p vs) = refl
 named-of E (repair p n cs vs) = refl
@@ -103,13 +103,13 @@ named-of E (repair p n cs vs) = refl
 -- By a packet's rise and equations.
 received_by : (s : Setting) (t : Joined s) (p : decoder.Packet (Coded s.size)) (rise : ℕ) → decoder.rise t p ≡ rise
     → (o : Option (model.State (Coded s.size) s.width))
-    → decoder.insert_all (decoder.over (Coded s.size) s.width (t.base + rise) p) (decoder.advance-by rise t.window) ≡ o
+    → decoder.insert_all (decoder.over (Coded s.size) s.width (t.base + rise) p) (decoder.advance_by rise t.window) ≡ o
     → decoder.receive t p ≡ decoder.and_then o (λ S. some (record { base = t.base + rise; window = S }))
 unfolding decoder.receive
 received_by s t p rise e o f =
     ap
     (λ d.
-    decoder.and_then (decoder.insert_all (decoder.over (Coded s.size) s.width (t.base + d) p) (decoder.advance-by d t.window))
+    decoder.and_then (decoder.insert_all (decoder.over (Coded s.size) s.width (t.base + d) p) (decoder.advance_by d t.window))
     (λ S. some (record { base = t.base + d; window = S })))
     e
     ∙ ap (λ x. decoder.and_then x (λ S. some (record { base = t.base + rise; window = S }))) f
@@ -201,7 +201,7 @@ module _ (c : Call) (m v : List ℕ) (h : Header) (q : ℕ → Located) (d : ℕ
   -- Its equations `rows` have been gathered at its place.
   module _ (count : ℕ) (from : (p : ℕ) → first (q p) ≡ p) (names : (p : ℕ) → named (q p) ≡ n)
       (rows : (w E : ℕ) → ℕ → ℕ → model.Row (Coded E) w)
-      (spell : (b i : ℕ) → decoder.over (Coded h.setting.size) h.setting.width b (packetOf h.setting.size (q (b + i)))
+      (spell : (b i : ℕ) → decoder.over (Coded h.setting.size) h.setting.width b (packet_of h.setting.size (q (b + i)))
       ≡ firsts (rows h.setting.width h.setting.size i) count)
       (v' : List ℕ) (r : Gathered) (f : Gathers at n (rows at.shape.width at.shape.size) count r m v v') where
     work_kept : Contained (working_size h.setting) v v'
@@ -216,11 +216,11 @@ module _ (c : Call) (m v : List ℕ) (h : Header) (q : ℕ → Located) (d : ℕ
 
       -- The model's packet, and what its equations come to.
       abbrev p : decoder.Packet (Coded s.size)
-      p = packetOf s.size (q (t.base + d))
+      p = packet_of s.size (q (t.base + d))
 
       abbrev ComesAt : Location → Type 0
       ComesAt at =
-          Comes s.width s.size (t.base + at.rise) (decoder.advance-by at.rise t.window) v'
+          Comes s.width s.size (t.base + at.rise) (decoder.advance_by at.rise t.window) v'
           (decoder.over (Coded s.size) s.width (t.base + at.rise) p) r
 
       comes : ComesAt at
@@ -230,12 +230,12 @@ module _ (c : Call) (m v : List ℕ) (h : Header) (q : ℕ → Located) (d : ℕ
           let w : h.setting.width ≡ s.width = ap (λ (y : Header). y.setting.width) is-header in
           let x : b + (d - i) ≡ t.base + d = omega (arith, w, passes.fits) in
           let spelt = subst
-          (λ (y : Header). (b i : ℕ) → decoder.over (Coded y.setting.size) y.setting.width b (packetOf y.setting.size (q (b + i)))
+          (λ (y : Header). (b i : ℕ) → decoder.over (Coded y.setting.size) y.setting.width b (packet_of y.setting.size (q (b + i)))
           ≡ firsts (rows y.setting.width y.setting.size i) count) is-header spell in
           let f' = subst (λ (y : Location). Gathers y n (rows y.shape.width y.shape.size) count r m v v') here f in
           subst ComesAt (sym here)
-          (subst (λ es. Comes s.width s.size b (decoder.advance-by i t.window) v' es r)
-          (sym (spelt b (d - i)) ∙ ap (λ (y : ℕ). decoder.over (Coded s.size) s.width b (packetOf s.size (q y))) x)
+          (subst (λ es. Comes s.width s.size b (decoder.advance_by i t.window) v' es r)
+          (sym (spelt b (d - i)) ∙ ap (λ (y : ℕ). decoder.over (Coded s.size) s.width b (packet_of s.size (q y))) x)
           (f'.outcome t.base (d - i) t.window (lies_at s t d n passes.names (omega (arith, w, passes.fits))) k.rows k.reduced))
 
       rises : decoder.rise t p ≡ at.rise
@@ -246,7 +246,7 @@ module _ (c : Call) (m v : List ℕ) (h : Header) (q : ℕ → Located) (d : ℕ
 
       -- What holds of the packet and of what the model makes of it holds of what was read and of the call.
       by_model : (flows : List ℕ) → flows_in m ≡ flows → (P : Reading → Outcome s → Type 0) (o : Option (model.State (Coded s.size) s.width))
-          → decoder.insert_all (decoder.over (Coded s.size) s.width (t.base + at.rise) p) (decoder.advance-by at.rise t.window) ≡ o
+          → decoder.insert_all (decoder.over (Coded s.size) s.width (t.base + at.rise) p) (decoder.advance_by at.rise t.window) ≡ o
           → P (located (q (t.base + d))) (added s t (decoder.and_then o (λ S. some (record { base = t.base + at.rise; window = S }))))
           → P (reading s flows t.base (length v) c) (answering s flows t (length v) c)
       unfolding answering
@@ -259,8 +259,8 @@ module _ (c : Call) (m v : List ℕ) (h : Header) (q : ℕ → Located) (d : ℕ
       models : (M : Starts) (T : model.State (Coded s.size) s.width) (own : ℕ)
           → ((N : Starts) → naming s (t.base + at.rise) (q (t.base + d)) N ≡ owning at.offset own N)
           → pass s.size (seen s.size s.width T) s.width (owning at.offset own (moved s.width at.rise M))
-          ≡ startsAfter s t (record { base = t.base + at.rise; window = T }) (q (t.base + d)) M
-      unfolding startsAfter
+          ≡ starts_after s t (record { base = t.base + at.rise; window = T }) (q (t.base + d)) M
+      unfolding starts_after
       models M T own owns =
           let rose : t.base + at.rise - t.base ≡ at.rise = omega arith in
           ap (λ N. pass s.size (seen s.size s.width T) s.width N)

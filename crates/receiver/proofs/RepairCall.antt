@@ -11,7 +11,7 @@ use Rattle.admission.specs.declared.packet.Passed.{Passed}
 use Rattle.admission.specs.declared.packet.Gathered.{Gathered}
 use Rattle.admission.specs.declared.packet.Gathered.TheVariants.{All, Contradiction}
 use Rattle.history.specs.History.{Located, repair, Call, repair-call}
-use Rattle.history.specs.Model.{packetOf}
+use Rattle.history.specs.Model.{packet_of}
 use Rattle.receiver.specs.Promises.{Received}
 use Rattle.receiver.specs.Layout.{receiver_layout}
 use Rattle.admission.specs.Reading.{coefficient_lists, RepairPassed}
@@ -52,11 +52,11 @@ module _ (p m v lists : List ℕ) (passed : Passed) (s : RepairPassed p m (lengt
       rw (location_size c m v s.header q s.distance passed s.passes, s.size) (omega arith) in
       (k.fits, k.works, k.base, k.first, omega (arith, s.passes.fits, wide), s.within, l, s.few)
 
-  spelt : (b i : ℕ) → decoder.over (Coded E) width b (packetOf E (q (b + i))) ≡ firsts (equation_at width E n lists p i) count
+  spelt : (b i : ℕ) → decoder.over (Coded E) width b (packet_of E (q (b + i))) ≡ firsts (equation_at width E n lists p i) count
   spelt b i =
-      ap (λ (n : ℕ). decoder.over (Coded E) width b (packetOf E (repair (b + i) n (coefficient_lists s.header.setting p) (repair_symbols E p))))
+      ap (λ (n : ℕ). decoder.over (Coded E) width b (packet_of E (repair (b + i) n (coefficient_lists s.header.setting p) (repair_symbols E p))))
       (sym s.named)
-      ∙ ap₂ (λ (x y : List (List ℕ)). decoder.over (Coded E) width b (packetOf E (repair (b + i) n x y))) s.drawn s.symbols
+      ∙ ap₂ (λ (x y : List (List ℕ)). decoder.over (Coded E) width b (packet_of E (repair (b + i) n x y))) s.drawn s.symbols
       ∙ repair_equations width E b i n count lists p
 
   module _ (r : Gathered) (v' : List ℕ) (gathered : Gathers at n (equation_at at.shape.width at.shape.size n lists p) count r m v v') where

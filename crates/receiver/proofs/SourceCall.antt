@@ -14,7 +14,7 @@ use Rattle.admission.specs.declared.packet.Passed.{Passed}
 use Rattle.admission.specs.declared.packet.Gathered.{Gathered}
 use Rattle.admission.specs.declared.packet.Gathered.TheVariants.{All, Contradiction}
 use Rattle.history.specs.History.{Located, source, Call, source-call}
-use Rattle.history.specs.Model.{packetOf, naming, Origins, bringing, hearing}
+use Rattle.history.specs.Model.{packet_of, naming, Origins, bringing, hearing}
 use Rattle.receiver.specs.Promises.{Received}
 use Rattle.receiver.specs.Layout.{receiver_layout}
 use Rattle.admission.specs.Reading.{SourcePassed}
@@ -66,7 +66,7 @@ module _ (flow : ℕ) (p m v : List ℕ) (passed : Passed) (s : SourcePassed flo
         subst (packet-is (source_adu p)) (sym gather_asks.5 ∙ sym s.named)
         (subst (λ (x : List ℕ). packet-is x (symbol_count at.shape.size (length adu))) adu-is gathered)
 
-    spelt : (b i : ℕ) → decoder.over (Coded E) width b (packetOf E (q (b + i))) ≡ firsts (equation_of width E flow (source_adu p) i) count
+    spelt : (b i : ℕ) → decoder.over (Coded E) width b (packet_of E (q (b + i))) ≡ firsts (equation_of width E flow (source_adu p) i) count
     spelt b i = source_equations width E b i flow (source_adu p) ∙ ap (firsts (equation_of width E flow (source_adu p) i)) (sym s.count)
 
     symbols : length (source_symbols flow (source_adu p) E) ≡ count

@@ -17,7 +17,7 @@ use Rattle.holding.specs.declared.Header.{Header}
 use Rattle.history.specs.Symbol.{Symbol, bytes_of}
 use Rattle.wire.specs.Answers.{Said, value, refusal, said}
 use Rattle.history.specs.History.{Call, esi_of, reading, memory_size, working_size}
-use Rattle.history.specs.Model.{State, opened, found_by, Outcome, refused, done, stateAfter, receiving, marking, Finding, shows, hides, finding, aduAt}
+use Rattle.history.specs.Model.{State, opened, found_by, Outcome, refused, done, state_after, receiving, marking, Finding, shows, hides, finding, adu_at}
 use Rattle.history.specs.Model.{Origins, unheard, origins_after}
 use Rattle.holding.specs.Header.{header_in}
 use Rattle.memory.specs.Contained.{Contained}
@@ -81,12 +81,12 @@ module _ (L : Layout) where
     pub starts : (s : Setting) (flows : List ℕ) (t : State s) (M : Starts) → Holds m s flows t → Marks m s t M
         → let j = found_by s t (esi_of c) in
         let o = receiving s flows t (length v) c in
-        Marks m' s (stateAfter t o) (marking s j M (reading s flows j.base (length v) c) o)
+        Marks m' s (state_after t o) (marking s j M (reading s flows j.base (length v) c) o)
     -- And those positions are heard that it comes to.
     pub origins : (s : Setting) (flows : List ℕ) (t : State s) (H : Origins) → Holds m s flows t → Hears m s t H
         → let j = found_by s t (esi_of c) in
         let o = receiving s flows t (length v) c in
-        Hears m' s (stateAfter t o) (origins_after (reading s flows j.base (length v) c) o H)
+        Hears m' s (state_after t o) (origins_after (reading s flows j.base (length v) c) o H)
 
   -- A packet call, with the draws beside the count.
   pub record PacketAnswered (c : Call) (m m' v v' : List ℕ) (a : PacketAnswer) : Type 0 where
@@ -138,4 +138,4 @@ module _ (L : Layout) where
     pub unopened : (handed_said a ≡ refusal 3) ↔ (header_in m ≡ none)
     pub leaves : Leaves out out' a
     pub hands : (s : Setting) (flows : List ℕ) (t : State s) (M : Starts) → Holds m s flows t → Marks m s t M
-        → HandedAs (aduAt s flows t M (length out) e) out out' a
+        → HandedAs (adu_at s flows t M (length out) e) out out' a

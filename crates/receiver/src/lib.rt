@@ -1,4 +1,6 @@
 // The receiver: its sizes, opening, the two packet calls, the calls that show a symbol, and the ADU call (RFC 8681, section 3.4; document 01).
+#![tactic(auto)]
+
 ghost use Rattle.wire.specs.Opening.{SizeAnswered, receiver_memory, working_memory};
 ghost use Rattle.receiver.specs.Promises.{Opened, PacketAnswered, SymbolShown, PartShown, PlaceAnswered, AduAnswered};
 ghost use Rattle.history.specs.History.{source-call, repair-call};
@@ -14,14 +16,14 @@ use wire::{Checked, Esi, Refusal, Setting};
 pub use wire::Answer;
 
 // What a packet call answers: how many positions of the window became known and the draws that the packet's coefficients took, or a refusal.
-#[derive(Drop)]
+#[derive(Clone, Copy)]
 pub enum PacketAnswer {
     Accepted(usize, u32),
     NotAccepted(Refusal),
 }
 
 // What the symbol call answers: a known symbol, and whether a source packet has brought its position, or a refusal.
-#[derive(Drop)]
+#[derive(Clone, Copy)]
 pub enum SymbolAnswer {
     Shown(bool),
     Hidden(Refusal),

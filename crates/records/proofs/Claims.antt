@@ -18,7 +18,7 @@ use Rattle.lines.specs.Reading.{on, values_in}
 use Rattle.lines.proofs.Options.{cond_some, on_some}
 use Rattle.lines.proofs.Promises.{read_exactly}
 use Rattle.records.specs.Records.{room, most_lines, total, summary}
-use Rattle.records.specs.Replay.{recordsFrom, fitting, setting_with, setting_named, printed_with, printed_lines, printed}
+use Rattle.records.specs.Replay.{records_from, fitting, setting_with, setting_named, printed_with, printed_lines, printed}
 use Rattle.records.specs.Claims.{values_of, Opens, Printing, Prints}
 use Rattle.records.proofs.Steps.{all_counted}
 use Rattle.records.proofs.Judging.{records, records_once}
@@ -80,7 +80,7 @@ good : (input l : List ℕ) (packets : List (List ℕ)) (s : Setting) → lines_
 unfolding printed_lines printed_with summary
 good input l packets s e o =
     let some_bytes : 0 < s.size = omega (arith, o.valid.size_least) in
-    let rs = recordsFrom s (opened s) (take most_lines packets) in
+    let rs = records_from s (opened s) (take most_lines packets) in
     record {
       records = rs;
       lines = rw (e, opened_by l s o);

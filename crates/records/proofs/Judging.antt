@@ -2,11 +2,11 @@
 use Rattle.words.specs.Words.{◌≡◌, arith, ℕ, List, ◌<◌, refl, ◌∙◌, sym, ap, [], some, ◌∷◌, suc, true, zero, none, false, Bool, subst, Option, ◌≢◌, ap₂, cond}
 use Rattle.words.specs.Words.{eqb, some-injective, none-ne-some, ne_eqb}
 use Rattle.wire.specs.declared.Setting.{Setting}
-use Rattle.history.specs.History.{Call, source-call, repair-call, OfBytes, esi_of, Side, behind, ahead, Reading, fails, located, check, from_side, readSource}
-use Rattle.history.specs.History.{readRepair, reading, Located, Log, readAfter, logged, Judged}
+use Rattle.history.specs.History.{Call, source-call, repair-call, OfBytes, esi_of, Side, behind, ahead, Reading, fails, located, check, from_side, read_source}
+use Rattle.history.specs.History.{read_repair, reading, Located, Log, read_after, logged, Judged}
 use Rattle.wire.specs.Answers.{Said, value, refusal}
 use Rattle.wire.specs.Flows.{all_flows}
-use Rattle.history.specs.Model.{packetOf, Joined, State, found_by, said_of, stateAfter, added, responds, answering, receiving}
+use Rattle.history.specs.Model.{packet_of, Joined, State, found_by, said_of, state_after, added, responds, answering, receiving}
 use Rattle.history.proofs.Answers.{Tracks, Passes, base_found, judged}
 use Rattle.history.proofs.Counting.{judged_once}
 use Rattle.history.proofs.Readings.{reading_passes}
@@ -15,8 +15,8 @@ use Rattle.lines.specs.Reading.{call_in}
 use Rattle.lines.proofs.Promises.{read_exactly}
 use Rattle.records.specs.declared.Record.{Record}
 use Rattle.records.specs.Records.{room}
-use Rattle.records.specs.Replay.{record_of, recordAt, stateAt, recordsFrom}
-use Rattle.records.specs.Claims.{said_by, loggedBy, Recorded, Records}
+use Rattle.records.specs.Replay.{record_of, record_at, state_at, records_from}
+use Rattle.records.specs.Claims.{said_by, logged_by, Recorded, Records}
 use Rattle.decoder.specs.Receiver as decoder
 
 -- ---- No refusal has the number 0
@@ -36,7 +36,7 @@ side_numbered n behind next h = omega arith
 side_numbered n (ahead d) next h = checked _ 9 (next d) (omega arith) (h d)
 
 numbered : (s : Setting) (flows : List ℕ) (base b : ℕ) (c : Call) → Numbered (reading s flows base b c)
-unfolding reading readSource readRepair
+unfolding reading read_source read_repair
 numbered s flows base b (source-call flow p) =
     checked _ 2 _ (omega arith)
     (checked _ 5 _ (omega arith) (checked _ 16 _ (omega arith) (checked _ 4 _ (omega arith) (side_numbered _ _ _ (λ d. tt)))))
@@ -72,27 +72,27 @@ module _ (s : Setting) (some_bytes : 0 < s.size) where
 
       go : (j : Joined s) (r : Reading) → Numbered r → Positive (said_of (responds s j r))
       go j (fails n) h = h
-      go j (located q) h = got j (decoder.receive j (packetOf s.size q))
+      go j (located q) h = got j (decoder.receive j (packet_of s.size q))
 
   -- a call is answered as the history asks, and the state follows the history after it
   called : (log : Log) (t : State s) (c : Call) → Tracks s some_bytes log t → OfBytes c
       → let o = receiving s all_flows t room c in
-      Judged s log (readAfter s all_flows log room c) (said_of o)
-      × Tracks s some_bytes (logged s log (readAfter s all_flows log room c) (said_of o)) (stateAfter t o)
+      Judged s log (read_after s all_flows log room c) (said_of o)
+      × Tracks s some_bytes (logged s log (read_after s all_flows log room c) (said_of o)) (state_after t o)
   unfolding answering
   called log t c k b =
       let j = found_by s t (esi_of c) in
       let r = reading s all_flows j.base room c in
-      let same : r ≡ readAfter s all_flows log room c = ap (λ y. reading s all_flows y room c) (sym (base_found s some_bytes log t (esi_of c) k)) in
+      let same : r ≡ read_after s all_flows log room c = ap (λ y. reading s all_flows y room c) (sym (base_found s some_bytes log t (esi_of c) k)) in
       let passes : (q : Located) → r ≡ located q → Passes s some_bytes log j.base q =
       λ q e. subst (λ y. Passes s some_bytes log y q) (base_found s some_bytes log t (esi_of c) k)
       (reading_passes s all_flows some_bytes log room c q b (sym same ∙ e)) in
-      subst (λ y. Judged s log y (said_of (responds s j r)) × Tracks s some_bytes (logged s log y (said_of (responds s j r))) (stateAfter t (responds s j r)))
+      subst (λ y. Judged s log y (said_of (responds s j r)) × Tracks s some_bytes (logged s log y (said_of (responds s j r))) (state_after t (responds s j r)))
       same (judged s some_bytes log t (esi_of c) r k passes)
 
   -- the record of a line, and the state after it
   at_line : (log : Log) (t : State s) (l : List ℕ) → Tracks s some_bytes log t → (o : Option Call) → call_in l ≡ o
-      → Recorded s log l (recordAt s t o) × Tracks s some_bytes (loggedBy s log o (recordAt s t o)) (stateAt s t o)
+      → Recorded s log l (record_at s t o) × Tracks s some_bytes (logged_by s log o (record_at s t o)) (state_at s t o)
   at_line log t l k none e = (
     record {
       answered = λ c h. absurd (none-ne-some c (sym e ∙ (read_exactly.calls l c).1 h));
@@ -108,21 +108,21 @@ module _ (s : Setting) (some_bytes : 0 < s.size) where
       let same : said_by (record_of a) ≡ a = told a (positive t c) in (
         record {
           answered = λ c' h.
-              subst (λ x. Judged s log (readAfter s all_flows log room x) (said_by (record_of a)))
+              subst (λ x. Judged s log (read_after s all_flows log room x) (said_by (record_of a)))
               (some-injective _ _ (sym e ∙ (read_exactly.calls l c').1 h))
-              (subst (Judged s log (readAfter s all_flows log room c)) (sym same) j);
+              (subst (Judged s log (read_after s all_flows log room c)) (sym same) j);
           nothing = refused_nothing a;
           other = λ h. absurd (h c says);
         },
-        subst (λ x. Tracks s some_bytes (logged s log (readAfter s all_flows log room c) x) (stateAfter t (receiving s all_flows t room c))) (sym same) n,
+        subst (λ x. Tracks s some_bytes (logged s log (read_after s all_flows log room c) x) (state_after t (receiving s all_flows t room c))) (sym same) n,
       )
 
-  pub records : (ls : List (List ℕ)) (log : Log) (t : State s) → Tracks s some_bytes log t → Records s log ls (recordsFrom s t ls)
-  unfolding recordsFrom
+  pub records : (ls : List (List ℕ)) (log : Log) (t : State s) → Tracks s some_bytes log t → Records s log ls (records_from s t ls)
+  unfolding records_from
   records [] log t k = tt
   records (l ∷ ls) log t k =
       let (r, n) = at_line log t l k (call_in l) refl in
-      (r, records ls (loggedBy s log (call_in l) (recordAt s t (call_in l))) (stateAt s t (call_in l)) n)
+      (r, records ls (logged_by s log (call_in l) (record_at s t (call_in l))) (state_at s t (call_in l)) n)
 
 -- ---- No choice
 
@@ -159,11 +159,15 @@ module _ (s : Setting) where
   one_line log l (some c) e r r' h h' =
       let says : Says l c = (read_exactly.calls l c).0 e in
       same_record r r' h.nothing h'.nothing
-      (judged_once s log (readAfter s all_flows log room c) (said_by r) (said_by r') (h.answered c says) (h'.answered c says))
+      (judged_once s log (read_after s all_flows log room c) (said_by r) (said_by r') (h.answered c says) (h'.answered c says))
 
   pub records_once : (ls : List (List ℕ)) (log : Log) (rs rs' : List Record) → Records s log ls rs → Records s log ls rs' → rs ≡ rs'
   records_once [] log [] [] h h' = refl
+  records_once [] log [] (r' ∷ rs') h h' = elim h' [ ]
+  records_once [] log (r ∷ rs) _ h h' = elim h [ ]
+  records_once (l ∷ ls) log [] _ h h' = elim h [ ]
+  records_once (l ∷ ls) log (r ∷ rs) [] h h' = elim h' [ ]
   records_once (l ∷ ls) log (r ∷ rs) (r' ∷ rs') (h, hs) (h', hs') =
       let e : r ≡ r' = one_line log l (call_in l) refl r r' h h' in
       ap₂ (λ (x : Record) (xs : List Record). x ∷ xs) e
-      (records_once ls (loggedBy s log (call_in l) r) rs rs' hs (subst (λ x. Records s (loggedBy s log (call_in l) x) ls rs') (sym e) hs'))
+      (records_once ls (logged_by s log (call_in l) r) rs rs' hs (subst (λ x. Records s (logged_by s log (call_in l) x) ls rs') (sym e) hs'))

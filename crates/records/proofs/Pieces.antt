@@ -15,7 +15,7 @@ use Rattle.lines.proofs.Breaks.{ended, lines_go_on}
 use Rattle.records.specs.declared.Record.{Record}
 use Rattle.records.specs.declared.Progress.{Progress}
 use Rattle.records.specs.Records.{most_lines}
-use Rattle.records.specs.Replay.{recordAt, stateAt, setting_named, printed_lines}
+use Rattle.records.specs.Replay.{record_at, state_at, setting_named, printed_lines}
 use Rattle.records.specs.Standing.{Standing, opening, closed, working, opened_with, after_line, printed_line, after, printed_by, last_of, Stands}
 use Rattle.records.specs.Claims.{Opens}
 use Rattle.records.specs.Promises.{is_over, Held, GoesFrom}
@@ -128,8 +128,8 @@ after_working (l ∷ ls) s t rs = go (ltb (length rs) most_lines) refl (after_wo
         → ((t : State s) (rs : List Record) → Goes (after (working s t rs) ls) s (length rs + length ls))
         → Goes (after (after_line (working s t rs) l) ls) s (length rs + length (l ∷ ls))
     go true e ih =
-        let r = recordAt s t (call_in l) in
-        let x = ih (stateAt s t (call_in l)) (rs ++ (r ∷ [])) in
+        let r = record_at s t (call_in l) in
+        let x = ih (state_at s t (call_in l)) (rs ++ (r ∷ [])) in
         record {
           state = x.state;
           records = x.records;

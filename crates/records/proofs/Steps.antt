@@ -7,7 +7,7 @@ use Rattle.printing.specs.Printed.{record_line}
 use Rattle.lines.specs.Reading.{call_in}
 use Rattle.records.specs.declared.Record.{Record}
 use Rattle.records.specs.Records.{most_lines, total, accepted_in, refused_in, record_lines, summary}
-use Rattle.records.specs.Replay.{recordAt, stateAt, recordsFrom, setting_named, printed_with, printed_lines}
+use Rattle.records.specs.Replay.{record_at, state_at, records_from, setting_named, printed_with, printed_lines}
 use Rattle.records.specs.Standing.{Standing, opening, closed, working, opened_with, after_line, printed_line, after, printed_by, last_of}
 
 -- ---- Sums
@@ -36,8 +36,8 @@ all_counted (r ∷ rs) = counted_once (eqb r.answer 0) (accepted_in rs) (refused
 
 -- a packet line, while fewer than the most have been read
 pub line_read : (s : Setting) (t : State s) (rs : List Record) (l : List ℕ) → length rs < most_lines
-    → let r = recordAt s t (call_in l) in
-    (after_line (working s t rs) l ≡ working s (stateAt s t (call_in l)) (rs ++ (r ∷ [])))
+    → let r = record_at s t (call_in l) in
+    (after_line (working s t rs) l ≡ working s (state_at s t (call_in l)) (rs ++ (r ∷ [])))
     × (printed_line (working s t rs) l ≡ record_line (length rs + 1) r.answer r.known)
 unfolding after_line printed_line
 line_read s t rs l h = (rw (lt-ltb (length rs) most_lines h), rw (lt-ltb (length rs) most_lines h))
@@ -72,25 +72,25 @@ to_come : Standing → List (List ℕ) → List ℕ
 to_come opening ls = printed_lines ls
 to_come closed ls = summary []
 to_come (working s t rs) ls =
-    record_lines (length rs) (recordsFrom s t (take (most_lines - length rs) ls)) ++ summary (rs ++ recordsFrom s t (take (most_lines - length rs) ls))
+    record_lines (length rs) (records_from s t (take (most_lines - length rs) ls)) ++ summary (rs ++ records_from s t (take (most_lines - length rs) ls))
 
 take_none : (n : ℕ) → ◌≡◌ {A = List (List ℕ)} (take n []) []
 take_none zero = refl
 take_none (suc n) = refl
 
 to_come_none : (w : Standing) → to_come w [] ≡ last_of w
-unfolding to_come last_of printed_lines record_lines recordsFrom
+unfolding to_come last_of printed_lines record_lines records_from
 to_come_none opening = refl
 to_come_none closed = refl
 to_come_none (working s t rs) = rw (take_none (most_lines - length rs), append-nil rs)
 
 to_come_working : (s : Setting) (t : State s) (rs : List Record) (l : List ℕ) (ls : List (List ℕ)) → length rs < most_lines
-    → let r = recordAt s t (call_in l) in
+    → let r = record_at s t (call_in l) in
     to_come (working s t rs) (l ∷ ls)
-    ≡ record_line (length rs + 1) r.answer r.known ++ to_come (working s (stateAt s t (call_in l)) (rs ++ (r ∷ []))) ls
-unfolding to_come recordsFrom record_lines
+    ≡ record_line (length rs + 1) r.answer r.known ++ to_come (working s (state_at s t (call_in l)) (rs ++ (r ∷ []))) ls
+unfolding to_come records_from record_lines
 to_come_working s t rs l ls h =
-    let r = recordAt s t (call_in l) in
+    let r = record_at s t (call_in l) in
     let n : length (rs ++ (r ∷ [])) ≡ length rs + 1 = length-append rs (r ∷ []) in
     let e : most_lines - length rs ≡ suc (most_lines - (length rs + 1)) = omega arith in
     rw (n, e, append_assoc rs (r ∷ [])) (append_assoc (record_line (length rs + 1) r.answer r.known) _ _)

@@ -4,7 +4,7 @@ use Rattle.wire.specs.declared.Setting.{Setting}
 use Rattle.wire.specs.Settings.{scheme_number, Valid}
 use Rattle.wire.specs.Answers.{Said, value, refusal}
 use Rattle.wire.specs.Flows.{announced, all_flows}
-use Rattle.history.specs.History.{Call, memory_size, working_size, Log, fresh, readAfter, logged, Judged}
+use Rattle.history.specs.History.{Call, memory_size, working_size, Log, fresh, read_after, logged, Judged}
 use Rattle.printing.specs.Printed.{last_line}
 use Rattle.lines.specs.Lines.{lines_of}
 use Rattle.lines.specs.Forms.{Values, first_line, Says}
@@ -30,14 +30,14 @@ said_by r = cond (eqb r.answer 0) (value r.known) (refusal r.answer)
 
 module _ (s : Setting) where
   -- what the accepted packets are after a line with a record: a line that is not of the form says nothing to the receiver
-  abbrev pub loggedBy : Log → Option Call → Record → Log
-  loggedBy log none r = log
-  loggedBy log (some c) r = logged s log (readAfter s all_flows log room c) (said_by r)
+  abbrev pub logged_by : Log → Option Call → Record → Log
+  logged_by log none r = log
+  logged_by log (some c) r = logged s log (read_after s all_flows log room c) (said_by r)
 
   -- the record of a line, after the packets that were accepted before it, where all flows are announced
   pub record Recorded (log : Log) (l : List ℕ) (r : Record) : Type 0 where
     -- a line of the form is answered as the history asks; a refused packet has made nothing known
-    pub answered : (c : Call) → Says l c → Judged s log (readAfter s all_flows log room c) (said_by r)
+    pub answered : (c : Call) → Says l c → Judged s log (read_after s all_flows log room c) (said_by r)
     pub nothing : r.answer ≢ 0 → r.known ≡ 0
     -- any other line is answered 15
     pub other : ((c : Call) → ¬ Says l c) → r.answer ≡ 15
@@ -47,7 +47,7 @@ module _ (s : Setting) where
   Records log [] [] = Unit {0}
   Records log [] (r ∷ rs) = ⊥
   Records log (l ∷ ls) [] = ⊥
-  Records log (l ∷ ls) (r ∷ rs) = Recorded log l r × Records (loggedBy log (call_in l) r) ls rs
+  Records log (l ∷ ls) (r ∷ rs) = Recorded log l r × Records (logged_by log (call_in l) r) ls rs
 
 -- what is printed where the first line opens a receiver: the records of the packet lines after it, at most 1,000,000 of them, and their sums
 pub record Printing (s : Setting) (packets : List (List ℕ)) (output : List ℕ) : Type 0 where

@@ -11,7 +11,7 @@ use Rattle.printing.specs.Printed.{record_line, last_line}
 use Rattle.lines.specs.Lines.{lines_from}
 use Rattle.lines.specs.Reading.{after, number_from, number_in, value_of, bytes_in, values_in, repair_in, source_in, call_in}
 use Rattle.records.specs.Records.{total, record_lines, summary}
-use Rattle.records.specs.Replay.{recordsFrom, setting_named, printed_with, printed_lines, printed}
+use Rattle.records.specs.Replay.{records_from, setting_named, printed_with, printed_lines, printed}
 use Rattle.records.specs.Standing.{opening, after_line, printed_line}
 use Rattle.records.specs.Taking.{taken_of, taken_from}
 
@@ -35,7 +35,7 @@ unfolding
     computing combination in_range setting_of
     digit decimal_within decimal record_line last_line
     lines_from after number_from number_in value_of bytes_in values_in repair_in source_in call_in
-    total record_lines summary recordsFrom setting_named printed_with printed_lines
+    total record_lines summary records_from setting_named printed_with printed_lines
 printings = refl
 
 -- first lines that open a receiver: the working memory of the second and third has exactly 65,536 bytes, and no wider window than the fourth fits; and bad

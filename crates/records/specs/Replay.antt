@@ -6,7 +6,7 @@ use Rattle.wire.specs.Settings.{setting_of}
 use Rattle.wire.specs.Answers.{Said, value, refusal}
 use Rattle.wire.specs.Flows.{all_flows}
 use Rattle.history.specs.History.{Call, memory_size, working_size}
-use Rattle.history.specs.Model.{State, opened, said_of, stateAfter, receiving}
+use Rattle.history.specs.Model.{State, opened, said_of, state_after, receiving}
 use Rattle.lines.specs.Lines.{lines_of}
 use Rattle.lines.specs.Forms.{Values, longest}
 use Rattle.lines.specs.Reading.{on, values_in, call_in}
@@ -25,18 +25,18 @@ malformed = record { answer = 15; known = 0 }
 
 module _ (s : Setting) where
   -- what a line says to a receiver in a state, where all flows are announced: its record, and the state after it; a line that is not of the form says nothing
-  abbrev pub recordAt : State s → Option Call → Record
-  recordAt t none = malformed
-  recordAt t (some c) = record_of (said_of (receiving s all_flows t room c))
+  abbrev pub record_at : State s → Option Call → Record
+  record_at t none = malformed
+  record_at t (some c) = record_of (said_of (receiving s all_flows t room c))
 
-  abbrev pub stateAt : State s → Option Call → State s
-  stateAt t none = t
-  stateAt t (some c) = stateAfter t (receiving s all_flows t room c)
+  abbrev pub state_at : State s → Option Call → State s
+  state_at t none = t
+  state_at t (some c) = state_after t (receiving s all_flows t room c)
 
   -- the records of packet lines
-  unfoldable pub recordsFrom : State s → List (List ℕ) → List Record
-  recordsFrom t [] = []
-  recordsFrom t (l ∷ ls) = recordAt t (call_in l) ∷ recordsFrom (stateAt t (call_in l)) ls
+  unfoldable pub records_from : State s → List (List ℕ) → List Record
+  records_from t [] = []
+  records_from t (l ∷ ls) = record_at t (call_in l) ∷ records_from (state_at t (call_in l)) ls
 
 -- ---- The first line
 
@@ -55,7 +55,7 @@ setting_named l = cond (leb (length l) longest) (on (values_in l) setting_with) 
 -- after the first line: the records' lines and the last line; where the first line is bad, only the last line
 unfoldable pub printed_with : Option Setting → (packets : List (List ℕ)) → List ℕ
 printed_with none ls = summary []
-printed_with (some s) ls = let rs = recordsFrom s (opened s) (take most_lines ls) in record_lines 0 rs ++ summary rs
+printed_with (some s) ls = let rs = records_from s (opened s) (take most_lines ls) in record_lines 0 rs ++ summary rs
 
 unfoldable pub printed_lines : List (List ℕ) → List ℕ
 printed_lines [] = summary []

@@ -11,7 +11,7 @@ use Rattle.records.specs.declared.Record.{Record}
 use Rattle.records.specs.declared.Stage.TheVariants.{Opening, Working, Closed}
 use Rattle.records.specs.declared.Progress.{Progress}
 use Rattle.records.specs.Records.{most_lines, accepted_in, refused_in, known_in, summary}
-use Rattle.records.specs.Replay.{recordAt, stateAt, setting_named}
+use Rattle.records.specs.Replay.{record_at, state_at, setting_named}
 
 -- the first line is to come; it was bad; or the receiver's state, and the records so far
 pub data Standing : Type 0 where
@@ -28,14 +28,14 @@ unfoldable pub after_line : Standing → List ℕ → Standing
 after_line opening l = opened_with (setting_named l)
 after_line closed l = closed
 after_line (working s t rs) l =
-    cond (ltb (length rs) most_lines) (working s (stateAt s t (call_in l)) (rs ++ (recordAt s t (call_in l) ∷ []))) (working s t rs)
+    cond (ltb (length rs) most_lines) (working s (state_at s t (call_in l)) (rs ++ (record_at s t (call_in l) ∷ []))) (working s t rs)
 
 -- what is printed of that line
 unfoldable pub printed_line : Standing → List ℕ → List ℕ
 printed_line opening l = []
 printed_line closed l = []
 printed_line (working s t rs) l =
-    let r = recordAt s t (call_in l) in
+    let r = record_at s t (call_in l) in
     cond (ltb (length rs) most_lines) (record_line (length rs + 1) r.answer r.known) []
 
 -- after lines, and what is printed of them

@@ -1,15 +1,17 @@
 // What is printed of a capture: its records and their sums, where it stands after its lines, what the calls that work through it promise, and what
 // follows for every list of them. The types of these, and no code.
+#![tactic(auto)]
+
 
 // What is printed of a packet line: 0 or the number of the refusal, 15 where the line is not of the form; and how many positions became known.
-#[derive(Drop)]
+#[derive(Clone, Copy)]
 pub struct Record {
     pub answer: u64,
     pub known: u64,
 }
 
 // Where a capture stands: its first line is to come; its packet lines are worked through; or its first line was bad.
-#[derive(Drop)]
+#[derive(Clone, Copy)]
 pub enum Stage {
     Opening,
     Working,
@@ -18,7 +20,7 @@ pub enum Stage {
 
 // How far a capture has been worked through: its stage, how many bytes of a line that has not ended are kept (8,193 where there are more than a line
 // has), and the sums of the records so far.
-#[derive(Drop)]
+#[derive(Clone, Copy)]
 pub struct Progress {
     pub stage: Stage,
     pub have: usize,
@@ -29,7 +31,7 @@ pub struct Progress {
 }
 
 // What was made of a piece of the input: how far the capture has come, how many bytes were taken, and how many were written.
-#[derive(Drop)]
+#[derive(Clone, Copy)]
 pub struct Pass {
     pub progress: Progress,
     pub taken: usize,

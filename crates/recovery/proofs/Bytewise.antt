@@ -5,7 +5,7 @@ use Rattle.rows.specs.Combination.{dot, coefficient, tabulate, combination}
 use Rattle.rows.proofs.Dot.{dot_same}
 use Rattle.rows.proofs.Combinations.{length-combination, get_or-combination, length-tabulate, get_d_tabulate}
 use Rattle.history.specs.Symbol.{Symbol, bytes_of, symbol_of}
-use Rattle.history.specs.History.{Filling, symbolsAt, Satisfied}
+use Rattle.history.specs.History.{Filling, symbols_at, Satisfied}
 use Rattle.history.proofs.Says.{Whole, bytes_symbol, symbol_bytes, bytes_whole, length_at, get_d_at, head}
 use Rattle.interpolation.specs.Lagrange.{lagrange, lagranges, encoded}
 use Rattle.interpolation.specs.Code.{Block}
@@ -26,10 +26,10 @@ module _ (E : ℕ) where
 
 module _ (E k : ℕ) where
   pub combination-byte : (f : Filling E) (j b : ℕ) → b < E
-      → get_or (combination E (lagranges k j) (symbolsAt E f 0 k)) b 0 ≡ encoded k (byte_at E f b) j
+      → get_or (combination E (lagranges k j) (symbols_at E f 0 k)) b 0 ≡ encoded k (byte_at E f b) j
   unfolding encoded lagranges
   combination-byte f j b h =
-      let xs = symbolsAt E f 0 k in
+      let xs = symbols_at E f 0 k in
       get_or-combination E (lagranges k j) xs b h ∙ ap (dot (coefficient (lagranges k j)) (λ i. get_or (get_or xs i []) b 0)) (length_at E f 0 k)
       ∙ dot_same _ _ _ _ k (λ i g. get_d_tabulate (λ i. lagrange k i j) k i g)
       (λ i g. ap (λ (v : List ℕ). get_or v b 0) (get_d_at E f 0 k i g ∙ ap (λ q. bytes_of E (f q)) (zero-add i)))
@@ -41,7 +41,7 @@ module _ (E k : ℕ) where
     (λ s b h. sym (combination-byte f p.esi b h) ∙ ap (λ (v : List ℕ). get_or v b 0) (ap head s)),
     (λ e. ap (λ (v : List ℕ). v ∷ [])
         (ext_get_or 0 _ p.symbol (length-combination E _ _ ∙ sym w.sized)
-        (λ b h. let g : b < E = omega (arith, length-combination E (lagranges k p.esi) (symbolsAt E f 0 k)) in
+        (λ b h. let g : b < E = omega (arith, length-combination E (lagranges k p.esi) (symbols_at E f 0 k)) in
         combination-byte f p.esi b g ∙ e b g))),
   )
 

@@ -2,7 +2,7 @@
 use Rattle.words.specs.Words.{◌≡◌, refl, sym, ap, ◌↔◌, List, [], ◌∷◌, ℕ, ◌≤◌, ◌<◌, arith, dec_lt, get_or}
 use lib.ListN.{get_or-eq_default}
 use Rattle.rows.proofs.Combinations.{length-combination}
-use Rattle.history.specs.History.{Filling, symbolsAt, Satisfied, All, Known}
+use Rattle.history.specs.History.{Filling, symbols_at, Satisfied, All, Known}
 use Rattle.history.proofs.Says.{bytes_whole, head}
 use Rattle.interpolation.specs.Lagrange.{lagranges}
 use Rattle.interpolation.proofs.Standard.{encoded-lt}
@@ -16,10 +16,10 @@ module _ (E k : ℕ) (some_bytes : 0 < E) (fits : k ≤ 255) (f : Filling E) whe
   byte j b (yes h) =
       rw (combination-byte E k f j b h) (encoded-lt k fits (byte_at E f b) (λ i l. (bytes_whole E (f i)).small b) j)
   byte j b (no h) =
-      rw (get_or-eq_default (made E k f j).symbol 0 {n = b} (omega (arith, length-combination E (lagranges k j) (symbolsAt E f 0 k)))) (omega arith)
+      rw (get_or-eq_default (made E k f j).symbol 0 {n = b} (omega (arith, length-combination E (lagranges k j) (symbols_at E f 0 k)))) (omega arith)
 
   formed_one : (j : ℕ) → j < 255 → Formed E (made E k f j)
-  formed_one j h = record { small = h; sized = length-combination E (lagranges k j) (symbolsAt E f 0 k); bytes = λ b. byte j b (dec_lt b E) }
+  formed_one j h = record { small = h; sized = length-combination E (lagranges k j) (symbols_at E f 0 k); bytes = λ b. byte j b (dec_lt b E) }
 
   formed : (js : List ℕ) → Small js → AllFormed E (all_made E k f js)
   formed [] s = tt

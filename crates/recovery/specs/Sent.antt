@@ -2,13 +2,13 @@
 use Rattle.words.specs.Words.{◌≡◌, ◌↔◌, List, [], ◌∷◌, map, ℕ, ◌≤◌, ◌<◌}
 use Rattle.rows.specs.Combination.{combination}
 use Rattle.history.specs.Symbol.{bytes_of}
-use Rattle.history.specs.History.{Filling, symbolsAt, Satisfied, All, Consistent, Known}
+use Rattle.history.specs.History.{Filling, symbols_at, Satisfied, All, Consistent, Known}
 use Rattle.interpolation.specs.Lagrange.{lagranges}
 use Rattle.recovery.specs.Block.{Packet, Formed, AllFormed, says, all_say, HeardCount}
 
 -- The packet with the ESI j of the block f.
 abbrev pub made : (E k : ℕ) → Filling E → (j : ℕ) → Packet
-made E k f j = record { esi = j; symbol = combination E (lagranges k j) (symbolsAt E f 0 k) }
+made E k f j = record { esi = j; symbol = combination E (lagranges k j) (symbols_at E f 0 k) }
 
 -- All these ESIs are below 255.
 abbrev pub Small : List ℕ → Type 0

@@ -207,13 +207,13 @@ record Next (b : Block) (m : List ℕ) (q : Asked) : Type 0 where
 module _ (b : Block) (v : Valid b) (m : List ℕ) (S : System b) (h : Holds m b S) (q : Asked) (w : OfBytes q.call) where
   open b use {size as E, k}
 
-  abbrev room-lent : ℕ
-  room-lent = length q.working
+  abbrev room_lent : ℕ
+  room_lent = length q.working
 
   -- A check fails.
-  next_failed : (n : ℕ) → reading b room-lent q.call ≡ fails n → Next b m q
+  next_failed : (n : ℕ) → reading b room_lent q.call ≡ fails n → Next b m q
   next_failed n e =
-      let (x, is, three) = reason b room-lent q.call n e in
+      let (x, is, three) = reason b room_lent q.call n e in
       record {
         memory = m;
         left = q.working;
@@ -222,17 +222,17 @@ module _ (b : Block) (v : Valid b) (m : List ℕ) (S : System b) (h : Holds m b 
             (λ z. absurd (none-ne-some b (sym z ∙ h.header)))
             (λ c z.
             let same : b ≡ c = some-injective b c (sym h.header ∙ z) in
-            subst (λ y. reading y room-lent q.call ≡ fails (number_of x)) same (e ∙ ap fails (sym is)));
+            subst (λ y. reading y room_lent q.call ≡ fails (number_of x)) same (e ∙ ap fails (sym is)));
         system = S;
         held = h;
       }
 
-  module _ (p : Packet) (e : reading b room-lent q.call ≡ located p) where
+  module _ (p : Packet) (e : reading b room_lent q.call ≡ located p) where
     opens : Opens b m q.working
-    opens = record { header = h.header; working = (lent b room-lent q.call p e).0 }
+    opens = record { header = h.header; working = (lent b room_lent q.call p e).0 }
 
     sized : length p.symbol ≡ E
-    sized = (reading_formed b v room-lent q.call p w e).sized
+    sized = (reading_formed b v room_lent q.call p w e).sized
 
     abbrev row : List ℕ
     row = row_with k p.esi p.symbol q.working
@@ -246,7 +246,7 @@ module _ (b : Block) (v : Valid b) (m : List ℕ) (S : System b) (h : Holds m b 
         memory = m;
         left = row;
         answer = NotAccepted refusals.Contradiction;
-        answered = took b m q.working opens p sized q.call (lent b room-lent q.call p e).1 first own own_is m row _ (record {
+        answered = took b m q.working opens p sized q.call (lent b room_lent q.call p e).1 first own own_is m row _ (record {
           memory = record { same = refl; past = refl };
           header = refl;
           only = record { size = refl; before = refl; past = refl };
@@ -261,7 +261,7 @@ module _ (b : Block) (v : Valid b) (m : List ℕ) (S : System b) (h : Holds m b 
             memory = after b v m S h T r first own few;
             left = row;
             answer = _;
-            answered = took b m q.working opens p sized q.call (lent b room-lent q.call p e).1 first own own_is _ row _
+            answered = took b m q.working opens p sized q.call (lent b room_lent q.call p e).1 first own own_is _ row _
                 (taken b v m S h T r first own few row (spelt ∙ i));
             system = T;
             held = held b v m S h T r first own few;
@@ -278,9 +278,9 @@ module _ (b : Block) (v : Valid b) (m : List ℕ) (S : System b) (h : Holds m b 
         go (no l) = next_by 0 0 (omega arith) (own_repair b p (omega arith)) (insert S (equation_of E k p)) refl
 
   next : Next b m q
-  next = go (reading b room-lent q.call) refl
+  next = go (reading b room_lent q.call) refl
     where
-      go : (x : Reading) → reading b room-lent q.call ≡ x → Next b m q
+      go : (x : Reading) → reading b room_lent q.call ≡ x → Next b m q
       go (fails n) e = next_failed n e
       go (located p) e = next_located p e
 

@@ -21,6 +21,8 @@
 // A  adds an ADU with flow 1 to a block    K  makes the repair packet of a block with an ESI
 // P  receives a block's source packet      Q  receives a block's repair packet
 // Y  shows the symbol of a block with an ESI
+#![tactic(auto)]
+
 ghost use Rattle.words.specs.Words.{◌≡◌, ◌≤◌, length};
 
 use block_receiver::{PacketAnswer, SymbolAnswer};
@@ -29,7 +31,7 @@ use report::print;
 use wire::RepairKey;
 
 // How many bytes of the memory, of the working memory and of the output are lent.
-#[derive(Drop)]
+#[derive(Clone, Copy)]
 struct Sizes {
     mem: usize,
     work: usize,

@@ -22,7 +22,7 @@ use Rattle.records.specs.declared.Stage.TheVariants.{Opening, Working, Closed}
 use Rattle.records.specs.declared.Progress.{Progress}
 use Rattle.replay.specs.declared.Ended.{Ended}
 use Rattle.records.specs.Records.{most_lines}
-use Rattle.records.specs.Replay.{stateAt, setting_named}
+use Rattle.records.specs.Replay.{state_at, setting_named}
 use Rattle.records.specs.Standing.{Standing, opening, closed, working, after_line, printed_line, Counts, Stands, Kept}
 use Rattle.answering.specs.Inner.{OpensOrNot, OpenedBy, Answered}
 use Rattle.replay.specs.Inner.{Counted, moved_to, Grown, Passed, FirstEnded, AtPackets, PacketEnded, LineEnded}
@@ -152,7 +152,7 @@ packet-read p p' line m m' out out' at next r few ra rk a put c = record {
         let (goes_on, prints) = line_read s t rs l h in
         record {
           stands = subst (Stands p' m') (sym goes_on)
-              (subst (λ (x : Record). Stands p' m' (working s (stateAt s t (call_in l)) (rs ++ (x ∷ [])))) e
+              (subst (λ (x : Record). Stands p' m' (working s (state_at s t (call_in l)) (rs ++ (x ∷ [])))) e
               (record { stage = c.stage; holds = held; counts = c.counts rs k.counts h a.small }));
           wrote = put.bytes ∙ rw (prints, ← e, k.counts.lines);
         }

@@ -1,5 +1,7 @@
 // Working through a capture (document 02, No. 4): the receiver's calls that its lines name, and what is printed of them. The input comes in pieces of any
 // size, and no more is kept of it than a line.
+#![tactic(auto)]
+
 ghost use Rattle.words.specs.Words.{◌≡◌, ◌≤◌, ◌+◌, length, cond, ltb, leb, eqb, ◌&&◌, not};
 ghost use Rattle.records.specs.Promises.{is_over, Begun, Fed, Finished};
 ghost use Rattle.memory.specs.Contained.{Contained};
@@ -14,7 +16,7 @@ const MOST: u64 = 1000000;
 const NEARLY_FULL: usize = 65458;
 
 // What was made of a line's end: how far the capture has come, and where what is written ends.
-#[derive(Drop)]
+#[derive(Clone, Copy)]
 struct Ended {
     progress: Progress,
     at: usize,

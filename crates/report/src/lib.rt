@@ -1,4 +1,6 @@
 // What the printing programs share: numbers, bytes in hexadecimal and refusals on standard output, and calls whose answers are printed.
+#![tactic(auto)]
+
 ghost use Rattle.words.specs.Words.{◌<◌};
 
 use libc::STDOUT_FILENO;

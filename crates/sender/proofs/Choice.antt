@@ -11,7 +11,7 @@ use Rattle.sender.specs.declared.RepairAnswer.TheVariants.{Made, NotMade}
 use Rattle.sender.specs.Promises.{answer_of, draws_in}
 use Rattle.sender.specs.Run.{SenderCall, added, repaired, memory_after, symbols_of}
 use Rattle.wire.specs.Flows.{Announced}
-use Rattle.sender.specs.Judged.{Refuses, Writes, Ranged, AduJudged, keysIn, covered, RepairJudged, CallJudged}
+use Rattle.sender.specs.Judged.{Refuses, Writes, Ranged, AduJudged, keys_in, covered, RepairJudged, CallJudged}
 use Rattle.sender.specs.Claims.{given, seen, NoChoice}
 use Rattle.sender.proofs.Ring.{below}
 use Rattle.sender.proofs.Running.{impossible, symbols-append}
@@ -59,11 +59,11 @@ module _ (t : Setting) (flows : List ℕ) (xs : List (List ℕ)) (m n : List ℕ
           → Alike (said (answer_of r)) (said (answer_of u)) x y × (draws_in r ≡ draws_in u)
       both {i} f g = (both_refuse f g, no_draws r i f.answer ∙ sym (no_draws u i g.answer))
 
-      drawn : Ranged dt count → ¬ (xs ≡ []) → 8 + count * E ≤ length out → (b : Bool) → all_ok scheme dt (covered t xs) (keysIn t key dt count) ≡ b
+      drawn : Ranged dt count → ¬ (xs ≡ []) → 8 + count * E ≤ length out → (b : Bool) → all_ok scheme dt (covered t xs) (keys_in t key dt count) ≡ b
           → Alike (said (answer_of r)) (said (answer_of u)) x y × (draws_in r ≡ draws_in u)
       drawn k z l true e = let (f, d) = p.makes k z l e in let (g, c) = q.makes k z l e in (both_write f g, d ∙ sym c)
       drawn k z l false e =
-          let w : ¬ (all_ok scheme dt (covered t xs) (keysIn t key dt count) ≡ true) = λ h. let z : ◌≡◌ {A = ℕ} 0 1 = cc in omega arith in
+          let w : ¬ (all_ok scheme dt (covered t xs) (keys_in t key dt count) ≡ true) = λ h. let z : ◌≡◌ {A = ℕ} 0 1 = cc in omega arith in
           both (p.draws_fail k z l w) (q.draws_fail k z l w)
 
       some-taken : Ranged dt count → ¬ (xs ≡ []) → Alike (said (answer_of r)) (said (answer_of u)) x y × (draws_in r ≡ draws_in u)

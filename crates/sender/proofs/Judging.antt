@@ -28,7 +28,7 @@ use Rattle.sender.specs.Repair.{written_key}
 use Rattle.sender.specs.Calls.{Outcome, refused, done, opening, adding, repair_of, repairing}
 use Rattle.sender.specs.Promises.{answer_of, draws_in, DoneWith, Follows, Adds, Draws, RepairMade}
 use Rattle.sender.specs.Run.{SenderCall, added, repaired, Calls, memory_after, symbols_of}
-use Rattle.sender.specs.Judged.{Refuses, Writes, Ranged, Takeable, AduJudged, keyIn, keysIn, covered, older, packetOf, RepairJudged, CallJudged}
+use Rattle.sender.specs.Judged.{Refuses, Writes, Ranged, Takeable, AduJudged, key_in, keys_in, covered, older, packet_of, RepairJudged, CallJudged}
 use Rattle.sender.specs.Judged.{OpeningIsJudged, SenderJudged}
 use Rattle.sender.specs.Claims.{AnnouncedOnly}
 use Rattle.sender.proofs.Promising.{opening_values, opening_short, opening_done, adding-stray, adding-long, adding_many, adding_short, adding_done}
@@ -119,10 +119,10 @@ module _ (t : Setting) (v : Valid t) (flows : List ℕ) (xs : List (List ℕ)) w
   -- ---- making repair
 
   -- the key that is written
-  pub key_is : (key dt : ℕ) → written_key t.scheme key dt ≡ keyIn t key dt
+  pub key_is : (key dt : ℕ) → written_key t.scheme key dt ≡ key_in t key dt
   key_is key dt = go t.scheme refl
     where
-      go : (x : Scheme) → t.scheme ≡ x → written_key t.scheme key dt ≡ keyIn t key dt
+      go : (x : Scheme) → t.scheme ≡ x → written_key t.scheme key dt ≡ key_in t key dt
       go Gf2 e = rw e
       go Gf256 e = rw e
 
@@ -133,9 +133,9 @@ module _ (t : Setting) (v : Valid t) (flows : List ℕ) (xs : List (List ℕ)) w
   covered_is : length (drop (older t xs) xs) ≡ covered t xs
   covered_is = length-drop (older t xs) xs ∙ omega arith
 
-  packet-is : (key dt count : ℕ) → repair_of holding (written_key t.scheme key dt) dt count ≡ packetOf t xs key dt count
+  packet-is : (key dt count : ℕ) → repair_of holding (written_key t.scheme key dt) dt count ≡ packet_of t xs key dt count
   packet-is key dt count =
-      let e = symbols-of t.scheme dt t.size (drop (older t xs) xs) (covered t xs) covered_is (keysIn t key dt count) in
+      let e = symbols-of t.scheme dt t.size (drop (older t xs) xs) (covered t xs) covered_is (keys_in t key dt count) in
       rw (key_is key dt, held_is holding, start_is, ← e)
 
   window_empty : xs ≡ [] → length (window holding) ≡ 0
@@ -145,12 +145,12 @@ module _ (t : Setting) (v : Valid t) (flows : List ℕ) (xs : List (List ℕ)) w
   window-some n e = n (length-nil xs (omega (arith, sym (held_is holding) ∙ e, v.width_least)))
 
   -- the lists of coefficients
-  found : (key dt count : ℕ) (b : Bool) → all_ok t.scheme dt (covered t xs) (keysIn t key dt count) ≡ b
+  found : (key dt count : ℕ) (b : Bool) → all_ok t.scheme dt (covered t xs) (keys_in t key dt count) ≡ b
       → all_ok t.scheme dt (length (window holding)) (keys (written_key t.scheme key dt) count) ≡ b
   found key dt count b e = rw (key_is key dt, held_is holding) e
 
   draws_are : (key dt count : ℕ) (m out' : List ℕ) (r : RepairAnswer) (n : ℕ) → Holds m holding → Draws key dt count m out' r → said (answer_of r) ≡ value n
-      → draws_in r ≡ draws_of t.scheme dt (covered t xs) (keysIn t key dt count)
+      → draws_in r ≡ draws_of t.scheme dt (covered t xs) (keys_in t key dt count)
   draws_are key dt count m out' (Made k d) n h p e = rw (key_is key dt, held_is holding) at (p.lists (header_of holding) h.header)
   draws_are key dt count m out' (NotMade k) n h p e = absurd (impossible n _ (sym e))
 
@@ -170,7 +170,7 @@ module _ (t : Setting) (v : Valid t) (flows : List ℕ) (xs : List (List ℕ)) w
         makes = λ k e l d.
             let c = repairing_done key dt count (length out) holding (g k) i refl (window-some e) l (found key dt count true d) in
             let w = subst (λ x. Follows x m out (answer_of r) m out') (c ∙ ap (λ x. done x holding) (packet-is key dt count)) f in
-            let a = writes (packetOf t xs key dt count) holding m m out out' (answer_of r) w in
+            let a = writes (packet_of t xs key dt count) holding m m out out' (answer_of r) w in
             (a, draws_are key dt count m out' r _ h p.draws a.answer);
       }
 

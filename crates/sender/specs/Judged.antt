@@ -48,11 +48,11 @@ module _ (t : Setting) where
         → Writes (source_packet adu (length taken % 2 ^ 32)) a out out' × Contained (sender_memory E width) m m'
 
   -- the key of a repair packet: 0 in scheme 9 with DT 15, else the call's; and the keys of its repair symbols, counting up from there
-  abbrev pub keyIn : (key dt : ℕ) → ℕ
-  keyIn key dt = cond (eqb (scheme_number scheme) 9 && eqb dt 15) 0 key
+  abbrev pub key_in : (key dt : ℕ) → ℕ
+  key_in key dt = cond (eqb (scheme_number scheme) 9 && eqb dt 15) 0 key
 
-  abbrev pub keysIn : (key dt count : ℕ) → List ℕ
-  keysIn key dt count = keys (keyIn key dt) count
+  abbrev pub keys_in : (key dt count : ℕ) → List ℕ
+  keys_in key dt count = keys (key_in key dt) count
 
   -- it covers the last `width` symbols, or all where they are fewer; and so many are older
   abbrev pub covered : List (List ℕ) → ℕ
@@ -62,20 +62,20 @@ module _ (t : Setting) where
   older taken = length taken - covered taken
 
   -- the repair packet: each repair symbol is the combination of the symbols covered, with the coefficients that its key gives
-  abbrev pub packetOf : List (List ℕ) → (key dt count : ℕ) → List ℕ
-  packetOf taken key dt count =
-      repair_packet (keyIn key dt) dt (covered taken) (older taken % 2 ^ 32)
-      (map (λ (c : List ℕ). combination E c (drop (older taken) taken)) (lists_of scheme dt (covered taken) (keysIn key dt count)))
+  abbrev pub packet_of : List (List ℕ) → (key dt count : ℕ) → List ℕ
+  packet_of taken key dt count =
+      repair_packet (key_in key dt) dt (covered taken) (older taken % 2 ^ 32)
+      (map (λ (c : List ℕ). combination E c (drop (older taken) taken)) (lists_of scheme dt (covered taken) (keys_in key dt count)))
 
   -- making repair, which leaves the memory: refusals 6, 7, 2, 10; beside the packet's length it answers the draws of the coefficients
   pub record RepairJudged (taken : List (List ℕ)) (m : List ℕ) (key dt count : ℕ) (out : List ℕ) (a : Said) (draws : ℕ) (out' : List ℕ) : Type 0 where
     pub range : ¬ Ranged dt count → Refuses 6 a m m out out'
     pub empty : Ranged dt count → taken ≡ [] → Refuses 7 a m m out out'
     pub short : Ranged dt count → ¬ (taken ≡ []) → length out < 8 + count * E → Refuses 2 a m m out out'
-    pub draws_fail : Ranged dt count → ¬ (taken ≡ []) → 8 + count * E ≤ length out → ¬ (all_ok scheme dt (covered taken) (keysIn key dt count) ≡ true)
+    pub draws_fail : Ranged dt count → ¬ (taken ≡ []) → 8 + count * E ≤ length out → ¬ (all_ok scheme dt (covered taken) (keys_in key dt count) ≡ true)
         → Refuses 10 a m m out out'
-    pub makes : Ranged dt count → ¬ (taken ≡ []) → 8 + count * E ≤ length out → all_ok scheme dt (covered taken) (keysIn key dt count) ≡ true
-        → Writes (packetOf taken key dt count) a out out' × (draws ≡ draws_of scheme dt (covered taken) (keysIn key dt count))
+    pub makes : Ranged dt count → ¬ (taken ≡ []) → 8 + count * E ≤ length out → all_ok scheme dt (covered taken) (keys_in key dt count) ≡ true
+        → Writes (packet_of taken key dt count) a out out' × (draws ≡ draws_of scheme dt (covered taken) (keys_in key dt count))
 
   -- a call on the memory m; and each call of a list that begins on the memory m, after the calls before it
   abbrev pub CallJudged : (flows : List ℕ) (taken : List (List ℕ)) (m : List ℕ) → SenderCall → Type 0

@@ -22,7 +22,7 @@ use Rattle.history.specs.Symbol.{bytes_of}
 use Rattle.history.specs.History.{Call, source-call, repair-call}
 use Rattle.wire.specs.Answers.{Said, value, refusal as refuses}
 use Rattle.receiver.specs.Promises.{draws_for, opening as opens}
-use Rattle.history.specs.Model.{Finding, shows, hides, finding, aduAt}
+use Rattle.history.specs.Model.{Finding, shows, hides, finding, adu_at}
 use Rattle.history.specs.Facts.{begun, called}
 
 -- what the symbol call and the part show for an ESI: an answer, and bytes
@@ -84,10 +84,10 @@ module _ (s : Setting) where
       received a.answers (map (λ e. seen (finding s a.state e)) es)
 
   -- the calls of a list from a fresh receiver, and what is handed out after them
-  abbrev handing-case : List Call → List Ask → Line
-  handing-case cs asks =
+  abbrev handing_case : List Call → List Ask → Line
+  handing_case cs asks =
       let a = called s all_flows (begun s) cs in
-      handed a.answers (map (λ (q : Ask). aduAt s all_flows a.state a.marks q.room q.esi) asks)
+      handed a.answers (map (λ (q : Ask). adu_at s all_flows a.state a.marks q.room q.esi) asks)
 
 -- scheme 9 and scheme 10, E 4
 abbrev pub gf2 : ℕ → Setting
@@ -222,41 +222,41 @@ pub bench :
     ∷ case (gf2 1) (zero_at 4 ∷ zero_at 7 ∷ zero_at 8 ∷ []) []
     ∷ case (gf256 1) (zero_at 4 ∷ zero_at 7 ∷ zero_at 8 ∷ []) []
     -- the ADU call before any base, of a fresh receiver and after a first packet that is refused
-    ∷ handing-case (gf2 2) [] (ask 0 0 ∷ ask 2 0 ∷ ask 2147483647 0 ∷ ask 2147483648 0 ∷ ask 4294967295 0 ∷ [])
-    ∷ handing-case (gf2 2) (unlike ∷ []) (ask 0 0 ∷ ask 2 0 ∷ ask 2147483648 0 ∷ [])
+    ∷ handing_case (gf2 2) [] (ask 0 0 ∷ ask 2 0 ∷ ask 2147483647 0 ∷ ask 2147483648 0 ∷ ask 4294967295 0 ∷ [])
+    ∷ handing_case (gf2 2) (unlike ∷ []) (ask 0 0 ∷ ask 2 0 ∷ ask 2147483648 0 ∷ [])
     -- the ADU call with base 0: a start that is not known, then past the window and behind; neither known nor a start
-    ∷ handing-case (gf2 2) (at_zero ∷ []) (ask 1 0 ∷ ask 2 0 ∷ ask 2147483647 0 ∷ ask 2147483648 0 ∷ [])
-    ∷ handing-case (gf2 2) (repair-of 2 3 ∷ []) (ask 0 1 ∷ ask 1 1 ∷ [])
+    ∷ handing_case (gf2 2) (at_zero ∷ []) (ask 1 0 ∷ ask 2 0 ∷ ask 2147483647 0 ∷ ask 2147483648 0 ∷ [])
+    ∷ handing_case (gf2 2) (repair-of 2 3 ∷ []) (ask 0 1 ∷ ask 1 1 ∷ [])
     -- 13: position 1, known by repair
-    ∷ handing-case (gf2 2) (symbol_call 1 1 0 1 0x42 ∷ []) (ask 1 1 ∷ [])
+    ∷ handing_case (gf2 2) (symbol_call 1 1 0 1 0x42 ∷ []) (ask 1 1 ∷ [])
     -- joining by a repair packet makes no start, at ESI 0 too; a source packet after it does, and marks its own positions only
-    ∷ handing-case (gf2 2) (symbol_call 0 1 0 1 0x41 ∷ []) (ask 0 1 ∷ ask 1 1 ∷ [])
-    ∷ handing-case (gf2 2) (symbol_call 0 1 0 1 0x41 ∷ adu 0x41 0 ∷ []) (ask 0 1 ∷ ask 1 1 ∷ [])
-    ∷ handing-case (gf2 2) (repair-of 2 3 ∷ adu 0x42 1 ∷ []) (ask 0 1 ∷ ask 1 1 ∷ [])
+    ∷ handing_case (gf2 2) (symbol_call 0 1 0 1 0x41 ∷ []) (ask 0 1 ∷ ask 1 1 ∷ [])
+    ∷ handing_case (gf2 2) (symbol_call 0 1 0 1 0x41 ∷ adu 0x41 0 ∷ []) (ask 0 1 ∷ ask 1 1 ∷ [])
+    ∷ handing_case (gf2 2) (repair-of 2 3 ∷ adu 0x42 1 ∷ []) (ask 0 1 ∷ ask 1 1 ∷ [])
     -- joining by a source packet makes its first position a start, and the one after its last; over the wrap too
-    ∷ handing-case (gf2 2) (far ∷ []) (ask 305419896 0 ∷ ask 305419897 0 ∷ ask 305419895 0 ∷ [])
-    ∷ handing-case (gf2 2) (two_at 0xFF 0xFF 0xFF 0xFF ∷ []) (ask 4294967295 2 ∷ ask 0 2 ∷ [])
-    ∷ handing-case (gf2 2) (two_at 0xFF 0xFF 0xFF 0xFF ∷ symbol_call 1 1 0 1 0x43 ∷ []) (ask 4294967295 2 ∷ ask 0 2 ∷ ask 1 1 ∷ [])
+    ∷ handing_case (gf2 2) (far ∷ []) (ask 305419896 0 ∷ ask 305419897 0 ∷ ask 305419895 0 ∷ [])
+    ∷ handing_case (gf2 2) (two_at 0xFF 0xFF 0xFF 0xFF ∷ []) (ask 4294967295 2 ∷ ask 0 2 ∷ [])
+    ∷ handing_case (gf2 2) (two_at 0xFF 0xFF 0xFF 0xFF ∷ symbol_call 1 1 0 1 0x43 ∷ []) (ask 4294967295 2 ∷ ask 0 2 ∷ ask 1 1 ∷ [])
     -- 14: L 2 with width 1; padding not zero, which comes before a short output
-    ∷ handing-case (gf2 1) (at_zero ∷ symbol_call 1 1 0 2 0x41 ∷ []) (ask 1 2 ∷ [])
-    ∷ handing-case (gf2 2) (at_zero ∷ symbol_call 1 1 0 2 0x41 ∷ symbol_call 2 0x42 0 0 1 ∷ []) (ask 1 2 ∷ ask 1 1 ∷ [])
-    ∷ handing-case (gf2 2) (at_zero ∷ symbol_call 1 1 0 0 0x41 ∷ []) (ask 1 0 ∷ [])
-    ∷ handing-case (gf2 2) (at_zero ∷ symbol_call 1 1 0 1 0x41 ∷ []) (ask 1 1 ∷ ask 1 0 ∷ [])
+    ∷ handing_case (gf2 1) (at_zero ∷ symbol_call 1 1 0 2 0x41 ∷ []) (ask 1 2 ∷ [])
+    ∷ handing_case (gf2 2) (at_zero ∷ symbol_call 1 1 0 2 0x41 ∷ symbol_call 2 0x42 0 0 1 ∷ []) (ask 1 2 ∷ ask 1 1 ∷ [])
+    ∷ handing_case (gf2 2) (at_zero ∷ symbol_call 1 1 0 0 0x41 ∷ []) (ask 1 0 ∷ [])
+    ∷ handing_case (gf2 2) (at_zero ∷ symbol_call 1 1 0 1 0x41 ∷ []) (ask 1 1 ∷ ask 1 0 ∷ [])
     -- an empty ADU; an ADU of exactly 2 symbols, with output enough and one byte short; its first symbol alone; L that runs past the window
-    ∷ handing-case (gf2 2) (at_zero ∷ []) (ask 0 0 ∷ [])
-    ∷ handing-case (gf2 2) (five ∷ []) (ask 0 5 ∷ ask 0 4 ∷ ask 1 5 ∷ [])
-    ∷ handing-case (gf2 3) (at_zero ∷ symbol_call 1 1 0 5 0x11 ∷ []) (ask 1 5 ∷ [])
-    ∷ handing-case (gf2 2) (adu 0x41 0 ∷ symbol_call 1 1 0 5 0x42 ∷ []) (ask 1 5 ∷ [])
+    ∷ handing_case (gf2 2) (at_zero ∷ []) (ask 0 0 ∷ [])
+    ∷ handing_case (gf2 2) (five ∷ []) (ask 0 5 ∷ ask 0 4 ∷ ask 1 5 ∷ [])
+    ∷ handing_case (gf2 3) (at_zero ∷ symbol_call 1 1 0 5 0x11 ∷ []) (ask 1 5 ∷ [])
+    ∷ handing_case (gf2 2) (adu 0x41 0 ∷ symbol_call 1 1 0 5 0x42 ∷ []) (ask 1 5 ∷ [])
     -- the mark at base + width stays; a mark past it comes back, but not if its position has left
-    ∷ handing-case (gf2 2) (five ∷ symbol_call 2 1 0 1 0x43 ∷ []) (ask 2 1 ∷ [])
-    ∷ handing-case (gf2 2) (adu 0x41 0 ∷ symbol_call 1 1 0 5 0x42 ∷ symbol_call 2 0x43 0x44 0x45 0x46 ∷ symbol_call 3 1 0 1 0x47 ∷ []) (ask 3 1 ∷ [])
-    ∷ handing-case (gf2 2) (adu 0x41 0 ∷ symbol_call 1 1 0 5 0x42 ∷ symbol_call 3 1 0 1 0x47 ∷ []) (ask 3 1 ∷ [])
+    ∷ handing_case (gf2 2) (five ∷ symbol_call 2 1 0 1 0x43 ∷ []) (ask 2 1 ∷ [])
+    ∷ handing_case (gf2 2) (adu 0x41 0 ∷ symbol_call 1 1 0 5 0x42 ∷ symbol_call 2 0x43 0x44 0x45 0x46 ∷ symbol_call 3 1 0 1 0x47 ∷ []) (ask 3 1 ∷ [])
+    ∷ handing_case (gf2 2) (adu 0x41 0 ∷ symbol_call 1 1 0 5 0x42 ∷ symbol_call 3 1 0 1 0x47 ∷ []) (ask 3 1 ∷ [])
     -- a position that becomes known marks the next in the same call, and so on
-    ∷ handing-case (gf2 4) (at_zero ∷ symbol_call 2 1 0 1 0x42 ∷ symbol_call 3 1 0 1 0x43 ∷ symbol_call 1 1 0 1 0x41 ∷ []) (ask 1 1 ∷ ask 2 1 ∷ ask 3 1 ∷ [])
+    ∷ handing_case (gf2 4) (at_zero ∷ symbol_call 2 1 0 1 0x42 ∷ symbol_call 3 1 0 1 0x43 ∷ symbol_call 1 1 0 1 0x41 ∷ []) (ask 1 1 ∷ ask 2 1 ∷ ask 3 1 ∷ [])
     -- the same in scheme 10, with F 2
-    ∷ handing-case (gf256 4) (at_zero ∷ scaled_at 2 2 0 1 0x42 ∷ scaled_at 1 2 0 1 0x41 ∷ []) (ask 1 1 ∷ ask 2 1 ∷ ask 3 1 ∷ [])
+    ∷ handing_case (gf256 4) (at_zero ∷ scaled_at 2 2 0 1 0x42 ∷ scaled_at 1 2 0 1 0x41 ∷ []) (ask 1 1 ∷ ask 2 1 ∷ ask 3 1 ∷ [])
     -- a start inside of an ADU, marked by a packet that agrees with it: the filling's bytes from there on, which are no ADU of the sender's
-    ∷ handing-case (gf2 2) (five ∷ adu 0x55 1 ∷ []) (ask 0 5 ∷ ask 1 1 ∷ [])
+    ∷ handing_case (gf2 2) (five ∷ adu 0x55 1 ∷ []) (ask 0 5 ∷ ask 1 1 ∷ [])
     ∷ []
     ≡ numbers (29 ∷ []) ∷ numbers (9 ∷ []) ∷ numbers (142 ∷ [])
     ∷ numbers (37 ∷ 225 ∷ 177 ∷ 176 ∷ 21 ∷ []) ∷ numbers (0 ∷ 1 ∷ 1 ∷ 1 ∷ 0 ∷ 0 ∷ []) ∷ numbers (0 ∷ 177 ∷ 21 ∷ 0 ∷ 0 ∷ [])

@@ -1,4 +1,6 @@
 // The sum of rows, each times a coefficient, in strips of 64 bytes: by lists, or, for many rows, in buckets.
+#![tactic(auto)]
+
 ghost use Rattle.words.specs.Words.{◌≡◌, ◌≤◌, ◌+◌, ◌*◌, length, replicate};
 ghost use Rattle.rows.specs.Sums.{rows_added};
 ghost use Rattle.buckets.specs.Buckets.{Filled};
@@ -6,7 +8,7 @@ ghost use Rattle.strips.specs.Ways.{in_buckets, most_rows, Prepared, Placed, Rea
 
 // How a strip is summed: by lists of the rows' pairs of digits; in buckets that are filled row by row; or in buckets that are filled from sorted
 // rows.
-#[derive(Drop)]
+#[derive(Clone, Copy)]
 pub enum Way {
     Lists,
     Buckets,

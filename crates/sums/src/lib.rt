@@ -1,5 +1,7 @@
 // The sum of many rows, each times a coefficient; the rows stand in mem from a on, one every s bytes. Where few coefficients are not 0: one row
 // after the other. Else in strips, each of which is summed over all rows.
+#![tactic(auto)]
+
 ghost use Rattle.words.specs.Words.{◌≡◌, ◌≤◌, ◌+◌, ◌*◌, length, ◌<◌, replicate, true};
 ghost use Rattle.rows.specs.Rows.{add_scaled};
 ghost use Rattle.rows.specs.Sums.{row_at, rows_added};

@@ -1,5 +1,7 @@
 // Prints the longest row of zero bytes drawn for one coefficient of GF(2^8): over every key and density threshold, 255 coefficients each. Sixteen would be
 // refusal 10.
+#![tactic(auto)]
+
 ghost use Rattle.words.specs.Words.{◌≡◌, max};
 ghost use Rattle.survey.specs.Survey.{counted, longest_of_key, longest_at, longest_zeros};
 
@@ -8,7 +10,7 @@ use libc::STDOUT_FILENO;
 use wire::Scheme;
 
 // The zero bytes drawn for one coefficient, and the state after its draws.
-#[derive(Drop)]
+#[derive(Clone, Copy)]
 struct Counted {
     zeros: u8,
     state: [u32; 4],

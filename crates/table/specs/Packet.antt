@@ -5,7 +5,7 @@ use Rattle.decoder.specs.Bytes.{Coded}
 use Rattle.decoder.specs.Model.{Row, State}
 use Rattle.decoder.specs.Receiver.{insert_all}
 use Rattle.decoder.specs.TableSteps.{Leads}
-use Rattle.decoder.specs.Chain.{Chain, place-rows}
+use Rattle.decoder.specs.Chain.{Chain, place_rows}
 use Rattle.table.specs.Window.{row_offset, row, line, equation}
 
 -- Sizes for which working memory has room. Each of its first `kept` rows has a column of the window in its flag.
@@ -34,4 +34,4 @@ pub record PivotMarked (w E b : ℕ) (l : List ℕ) : Type 0 where
 pub record Gathered (w E b : ℕ) (S : State (Coded E) w) (work : List ℕ) (kept : ℕ) (es : List (Row (Coded E) w)) : Type 0 where
   pub chain : Chain S (spelled w E b work) kept
   pub marked : (k : ℕ) → k < kept → PivotMarked w E b (row w E k work)
-  pub inserted : insert_all es S ≡ some (place-rows (spelled w E b work) kept S)
+  pub inserted : insert_all es S ≡ some (place_rows (spelled w E b work) kept S)

@@ -1,11 +1,13 @@
 // The window's equations in lent memory, in reduced row echelon form with the oldest position first.
 // Row and column of a position are its remainder by the width, so nothing moves when the base rises.
+#![tactic(auto)]
+
 ghost use Rattle.words.specs.Words.{◌≡◌, ◌≤◌, length, ◌<◌, ◌↔◌};
 ghost use Rattle.table.specs.Window.{header_size, stride};
 ghost use Rattle.table.specs.RowSteps.{RowOf, RowAt, SymbolAt, ZeroFrom};
 
 // A window: how many positions it has, how many bytes a symbol has, and the row of the oldest position.
-#[derive(Drop)]
+#[derive(Clone, Copy)]
 pub struct Shape {
     pub width: usize,
     pub size: usize,

@@ -1,1 +1,3 @@
 // Text as bytes. No code: the definitions stand in specs/.
+#![tactic(auto)]
+
