@@ -53,7 +53,7 @@ module _ (s : Setting) (flows : List ℕ) where
   takes_on : (l : Log) (before : List Step) (t : Step) (after : List Step) (q : Located) → read s flows (goes_on s flows l before) t ≡ located q
       → IsValue (said t.answer) → Memᴰ q (goes_on s flows l (before ++ (t ∷ after)))
   takes_on l [] t after q e v = keeps_on _ after q (takes l q (read s flows l t) (said t.answer) e v)
-  takes_on l (u ∷ before) t after q e v = takes_on _ before t after q e v
+  takes_on l (u ∷ before) t after q e v = takes_on (logged s l (read s flows l u) (said u.answer)) before t after q e v
 
   taken-on : (l : Log) (ts : List Step) (q : Located) → Memᴰ q (goes_on s flows l ts) → AcceptedAs l ts q ⊎ Memᴰ q l
   taken-on l [] q k = inr k

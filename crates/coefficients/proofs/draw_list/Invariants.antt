@@ -1,0 +1,10 @@
+-- `coefficients::draw_list` meets its contract. The loop's invariant: the bytes before i are the first i coefficients (`Partly`).
+use Rattle.words.specs.Words.{◌≡◌, arith, ◌≤◌, length, rules, refl, sym, ◌-◌, not-false, not-true, length-set}
+use Rattle.coefficients.proofs.Fills.{Partly, partly_none, partly_more, next_draws, partly_draws, partly_refused, partly_all, fills_done, fills_refused}
+use Rattle.coefficients.proofs.draw_list.Given as goal
+
+abbrev pub invariant-loop-i : goal.invariant-loop-i
+invariant-loop-i l = (l.i ≤ l.n) × (length l.out ≡ l.n) × Partly l.scheme l.seed l.dt l.out l.state l.draws l.i
+
+abbrev pub decreases-loop-i : goal.decreases-loop-i
+decreases-loop-i l = l.n - l.i

@@ -1,0 +1,9 @@
+-- `field::tables::power` meets its contract, by the rule of the table.
+use Rattle.words.specs.Words.{arith, ℕ, List, rules, ◌∙◌, ◌%◌, get_or, ap₂}
+use Rattle.field.proofs.Laws.{doublings_at, power_reduced}
+use Rattle.field.proofs.tables.power.Goals as goal
+
+pub returns : goal.returns
+returns c =
+    let e = c.args.exponent in
+    ap₂ (λ (l : List ℕ) (k : ℕ). get_or l k 0) c.requires.0 c.reduced.ensures ∙ doublings_at 255 (e % 255) (omega arith) ∙ power_reduced e

@@ -1,0 +1,64 @@
+-- `interleave::send` meets its contract: at each place a turn of `Sending`.
+use Rattle.words.specs.Words.{◌≡◌, arith, ◌≤◌, rules, ◌-◌, ◌*◌, length, ⊎_elim}
+use Rattle.interleave.proofs.Answers.{products}
+use Rattle.interleave.proofs.Sending.{Sending, begun, Turn, turn, next_row, next_column}
+use Rattle.interleave.proofs.send.Goals as goal
+use Rattle.interleave.proofs.send.Goals.{In-loop-p}
+
+-- what is known at a turn
+known : (c : In-loop-p)
+    → let a = c.args in
+    let l = c.loop-p in
+    Turn a.size a.columns (length a.src.now) (length l.out) l.p l.row l.column
+known c =
+    let a = c.args in
+    let l = c.loop-p in
+    turn a.size a.rows a.columns a.src.now a.out.now c.requires
+    l.out l.p l.row l.column l.invariant.1 (omega arith)
+
+pub overflow_mul-p-end : goal.overflow_mul-p-end
+overflow_mul-p-end c =
+    let f = c.requires in
+    omega (arith, (products _ _ _ f.size_most f.rows_most f.columns_most).0)
+
+pub loop-p-init : goal.loop-p-init
+loop-p-init c =
+    let f = c.requires in
+    (omega arith, begun _ _ _ _ _ (omega (arith, f.rows_least)))
+
+pub overflow_add-row : goal.overflow_add-row
+overflow_add-row c = omega (arith, (known (goal.at.overflow_add-row c).In-loop-p).taken_most)
+
+pub copy_part-requires : goal.copy_part-requires
+copy_part-requires c = let k = known (goal.at.copy_part-requires c).In-loop-p in (omega (arith, k.write), k.read)
+
+pub loop-p-preserved : goal.loop-p-preserved
+loop-p-preserved c =
+    let a = c.args in
+    let l = c.loop-p in
+    let y = c.copy_part in
+    let f = c.requires in (
+      omega arith,
+      ⊎_elim
+          (λ w. rw (w.1, w.2) (next_column _ _ _ _ _ f _ _ _ _ l.invariant.1 (omega arith) _ y.ensures (omega arith)))
+          (λ w. rw (w.1, w.2) (next_row _ _ _ _ _ f _ _ _ _ l.invariant.1 (omega arith) _ y.ensures (omega arith)))
+          c.if-row-rows.branch,
+    )
+
+pub returns : goal.returns
+returns c =
+    let l = c.loop-p in
+    let a = c.args in
+    let e : l.p ≡ a.rows * a.columns = omega arith in
+    cc l.invariant.1.written
+
+-- LEFT -- an inline answer, at place 2 of 14 (needs now: 12):
+-- LEFT (λ c. omega (arith, (known c.before).write, (known c.before).most))
+-- LEFT -- an inline answer, at place 3 of 14 (needs now: 12):
+-- LEFT (λ c. omega (arith, (known c.before).taken_most))
+-- LEFT -- an inline answer, at place 5 of 14 (needs now: 12):
+-- LEFT (λ c. omega (arith, (known c.before).read, (known c.before).most))
+-- LEFT -- an inline answer, at place 8 of 14 (needs now: 12):
+-- LEFT (λ c. omega (arith, (known c.before.before.before.before.before).column_most))
+-- LEFT -- an inline answer, at place 9 of 14 (needs now: 12):
+-- LEFT (λ c. omega (arith, (known c.before.before.before.before.before).place_most))

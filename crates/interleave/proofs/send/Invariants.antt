@@ -1,0 +1,11 @@
+-- `interleave::send` meets its contract: at each place a turn of `Sending`.
+use Rattle.words.specs.Words.{◌≡◌, arith, ◌≤◌, rules, ◌-◌, ◌*◌, length, ⊎_elim}
+use Rattle.interleave.proofs.Answers.{products}
+use Rattle.interleave.proofs.Sending.{Sending, begun, Turn, turn, next_row, next_column}
+use Rattle.interleave.proofs.send.Given as goal
+
+abbrev pub invariant-loop-p : goal.invariant-loop-p
+invariant-loop-p l = (l.p ≤ l.p-end) × Sending l.size l.rows l.columns l.src l.initial.out l.out l.p l.row l.column
+
+abbrev pub decreases-loop-p : goal.decreases-loop-p
+decreases-loop-p l = l.p-end - l.p

@@ -1,0 +1,6 @@
+-- `latency::divide` meets its contract.
+use Rattle.words.specs.Words.{arith, refl}
+use Rattle.latency.proofs.divide.Goals as goal
+
+pub returns : goal.returns
+returns c = refl

@@ -1,0 +1,75 @@
+-- `lists::add_listed` meets its contract. The loop: the rows of the first j elements of the list have been added.
+use Rattle.words.specs.Words.{◌≡◌, refl, arith, ◌≤◌, ◌-◌, ◌*◌, ◌+◌, length, get_or, rules}
+use Rattle.memory.proofs.Parts.{get_or-part}
+use Rattle.rows.specs.Sums.{row_at}
+use Rattle.lists.specs.Named.{added, list_of}
+use Rattle.lists.proofs.Named.{added_turn}
+use Rattle.lists.proofs.add_listed.Goals as goal
+
+pub bounds-counts-t : goal.bounds-counts-t
+bounds-counts-t c = omega (arith, c.requires.2.twelve)
+
+pub loop-j-init : goal.loop-j-init
+unfolding added
+loop-j-init c = (omega arith, refl, c.requires.0)
+
+pub overflow_add-r : goal.overflow_add-r
+overflow_add-r c =
+    omega (arith, c.requires.2.few c.args.t (omega arith))
+
+pub bounds-lists-at : goal.bounds-lists-at
+bounds-lists-at c =
+    let r = c.requires.2 in
+    omega (arith, r.all, r.few c.args.t (omega arith))
+
+pub overflow_mul-r : goal.overflow_mul-r
+overflow_mul-r c =
+    let a = c.args in
+    let j = c.loop-j.j in
+    let row = get_or-part (a.t * 64) 64 j a.lists.now (omega (arith, c.requires.2.few a.t (omega arith))) in
+    let fits = rw row at (c.requires.2.fits a.t j (omega arith) (omega arith)) in
+    omega (arith, fits)
+
+pub overflow_add-a : goal.overflow_add-a
+overflow_add-a c =
+    let a = c.args in
+    let j = c.loop-j.j in
+    let row = get_or-part (a.t * 64) 64 j a.lists.now (omega (arith, c.requires.2.few a.t (omega arith))) in
+    let fits = rw row at (c.requires.2.fits a.t j (omega arith) (omega arith)) in
+    omega (arith, fits)
+
+pub add_strip-requires : goal.add_strip-requires
+add_strip-requires c =
+    let a = c.args in
+    let j = c.loop-j.j in
+    let row = get_or-part (a.t * 64) 64 j a.lists.now (omega (arith, c.requires.2.few a.t (omega arith))) in
+    let fits = rw row at (c.requires.2.fits a.t j (omega arith) (omega arith)) in
+    (c.loop-j.invariant.2, fits)
+
+pub loop-j-preserved : goal.loop-j-preserved
+loop-j-preserved c =
+    let a = c.args in
+    let t = c.loop-j in
+    let row = get_or-part (a.t * 64) 64 t.j a.lists.now (omega (arith, c.requires.2.few a.t (omega arith))) in (
+      search rules,
+      added_turn a.mem.now a.a a.s 64 (list_of a.lists.now a.t) t.j a.acc.now t.acc _ t.invariant.1
+          (rw row c.add_strip.ensures),
+      search rules,
+    )
+
+pub returns : goal.returns
+returns c =
+    let a = c.args in
+    let e : c.loop-j.j ≡ get_or a.counts.now a.t 0 = omega arith in
+    rw e at c.loop-j.invariant.1
+
+-- LEFT -- no such goal now: overflow-cast-r
+-- LEFT cast-r : tie.Need-overflow-cast-r invariant-loop decreases-loop
+-- LEFT cast-r c =
+-- LEFT     let a = c.before.before.before.before.before.before.before.before.args in
+-- LEFT     omega (arith, (c.shared-slice-known5.given (a.t * 64 + c.before.before.loop.j)).fits)
+-- LEFT -- no such goal now: overflow-add-j
+-- LEFT add-j : tie.Need-overflow-add-j invariant-loop decreases-loop
+-- LEFT add-j c =
+-- LEFT     let s = c.before.before.before.before.before.before.before.before.before.before.before.before in
+-- LEFT     omega (arith, s.requires.2.few s.args.t (omega arith))

@@ -1,0 +1,28 @@
+-- `lists::add_pairs` meets its contract. The loop: the j highest of the pairs have been added.
+use Rattle.words.specs.Words.{◌≡◌, refl, arith, ◌≤◌, ◌-◌, length, rules}
+use Rattle.rows.specs.Sums.{row_at}
+use Rattle.lists.specs.Named.{pairs_added}
+use Rattle.lists.proofs.Named.{pairs_turn}
+use Rattle.lists.proofs.add_pairs.Goals as goal
+
+pub loop-j-init : goal.loop-j-init
+unfolding pairs_added
+loop-j-init c = (omega arith, refl, c.requires.0)
+
+pub add_pair-requires : goal.add_pair-requires
+add_pair-requires c = (c.loop-j.invariant.2, omega arith, c.requires.2)
+
+pub loop-j-preserved : goal.loop-j-preserved
+loop-j-preserved c =
+    let a = c.args in
+    let t = c.loop-j in (
+      search rules,
+      pairs_turn (row_at a.mem.now a.a a.s 64) a.lists.now a.counts.now a.pairs t.j a.acc.now t.acc _ t.invariant.1
+          c.add_pair.ensures,
+      search rules,
+    )
+
+pub returns : goal.returns
+returns c =
+    let e : c.loop-j.j ≡ c.args.pairs = omega arith in
+    rw e at c.loop-j.invariant.1

@@ -1,0 +1,16 @@
+-- `lists::add_strip` meets its contract. The loop: the first i bytes are those of the sum.
+use Rattle.words.specs.Words.{◌≡◌, arith, ◌+◌, ◌≤◌, ◌-◌, length, get_or, rules}
+use Rattle.field.proofs.Laws.{product-one}
+use Rattle.memory.specs.Part.{part}
+use Rattle.memory.proofs.Parts.{length_part, get_or-part}
+use Rattle.memory.proofs.Loop.{Turned, turned_all}
+use Rattle.rows.specs.Rows.{add_scaled}
+use Rattle.rows.proofs.Sums.{length_add_scaled}
+use Rattle.rows.proofs.Turns.{sum_more}
+use Rattle.lists.proofs.add_strip.Given as goal
+
+abbrev pub invariant-loop-i : goal.invariant-loop-i
+invariant-loop-i l = (l.i ≤ 64) × Turned l.initial.acc (add_scaled 1 l.initial.acc (part l.at 64 l.mem)) l.i l.acc
+
+abbrev pub decreases-loop-i : goal.decreases-loop-i
+decreases-loop-i l = 64 - l.i

@@ -1,0 +1,13 @@
+-- `lists::double_strip` meets its contract. The loop: the first i elements are those of the result.
+use Rattle.words.specs.Words.{arith, ◌≤◌, rules, ◌-◌}
+use Rattle.memory.proofs.Loop.{Turned, turned_all}
+use Rattle.rows.specs.Rows.{scaled}
+use Rattle.rows.proofs.Sums.{length-scaled}
+use Rattle.rows.proofs.Turns.{scale_more}
+use Rattle.lists.proofs.double_strip.Given as goal
+
+abbrev pub invariant-loop-i : goal.invariant-loop-i
+invariant-loop-i l = (l.i ≤ 64) × Turned l.initial.acc (scaled 2 l.initial.acc) l.i l.acc
+
+abbrev pub decreases-loop-i : goal.decreases-loop-i
+decreases-loop-i l = 64 - l.i

@@ -1,0 +1,12 @@
+-- `marks::drop_first` meets its contract.
+use Rattle.words.specs.Words.{◌≡◌, arith, ◌≤◌, rules, ◌-◌}
+use Rattle.marks.specs.MarkSteps.{Dropped}
+use Rattle.marks.proofs.Only.{only_fits}
+use Rattle.marks.proofs.Marking.{dropped_none, dropped_more, dropped_to}
+use Rattle.marks.proofs.drop_first.Given as goal
+
+abbrev pub invariant-loop-i : goal.invariant-loop-i
+invariant-loop-i l = (l.i ≤ l.n) × Dropped l.shape.width l.shape.size l.shape.oldest l.i l.initial.mem l.mem
+
+abbrev pub decreases-loop-i : goal.decreases-loop-i
+decreases-loop-i l = l.n - l.i

@@ -1,0 +1,11 @@
+-- `marks::known_among` meets its contract.
+use Rattle.words.specs.Words.{arith, ◌≤◌, rules, ◌-◌}
+use Rattle.marks.specs.MarkSteps.{Tallied}
+use Rattle.marks.proofs.Gaining.{tallied_none, tallied_more, tallied_to}
+use Rattle.marks.proofs.known_among.Given as goal
+
+abbrev pub invariant-loop-i : goal.invariant-loop-i
+invariant-loop-i l = (l.i ≤ l.n) × Tallied l.shape.width l.shape.size l.shape.oldest l.first l.i l.count l.mem
+
+abbrev pub decreases-loop-i : goal.decreases-loop-i
+decreases-loop-i l = l.n - l.i

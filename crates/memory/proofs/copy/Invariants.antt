@@ -1,0 +1,10 @@
+-- `memory::copy` meets its contract. The loop: the first i elements are those of the result.
+use Rattle.words.specs.Words.{arith, rules, refl, ◌-◌}
+use Rattle.memory.proofs.Loop.{Turned, turned_more, turned_all}
+use Rattle.memory.proofs.copy.Given as goal
+
+abbrev pub invariant-loop-i : goal.invariant-loop-i
+invariant-loop-i l = Turned l.initial.dst l.src l.i l.dst
+
+abbrev pub decreases-loop-i : goal.decreases-loop-i
+decreases-loop-i l = l.i-end - l.i

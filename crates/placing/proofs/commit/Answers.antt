@@ -1,0 +1,18 @@
+
+use Rattle.words.specs.Words.{rules}
+use Rattle.table.proofs.Rows.{fits_kept}
+use Rattle.placing.proofs.Joining.{committed}
+use Rattle.placing.proofs.commit.Goals as goal
+
+pub place_all-requires : goal.place_all-requires
+place_all-requires c =
+    (fits_kept c.requires.0 c.move_on.ensures.kept, c.requires.2)
+
+pub returns : goal.returns
+returns c =
+    let a = c.args in
+    let moved = c.move_on in
+    let joined = c.place_all in
+    committed a.shape.width a.shape.size a.shape.oldest a.rise a.kept joined.result
+    a.work.now a.mem.now moved.new.mem joined.new.mem c.requires.0
+    (λ i. (c.type_inv.mem i).fits) (λ i. (c.type_inv.mem i).fits) moved.ensures joined.ensures

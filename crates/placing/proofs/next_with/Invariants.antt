@@ -1,0 +1,11 @@
+-- `placing::next_with` meets its contract. The loop: the rows from `from` on and before q have no coefficient in the column.
+use Rattle.words.specs.Words.{arith, rules, ◌-◌}
+use Rattle.placing.proofs.Placing.{Passed, passed_none, passed_more, passed_here, passed_all}
+use Rattle.table.proofs.Offsets.{row_end}
+use Rattle.placing.proofs.next_with.Given as goal
+
+abbrev pub invariant-loop-q : goal.invariant-loop-q
+invariant-loop-q l = Passed l.shape.width l.shape.size l.r l.from l.q l.mem
+
+abbrev pub decreases-loop-q : goal.decreases-loop-q
+decreases-loop-q l = l.w - l.q

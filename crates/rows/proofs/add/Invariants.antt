@@ -1,0 +1,14 @@
+-- `rows::add` meets its contract. The loop: the first i elements are those of the result.
+use Rattle.words.specs.Words.{arith, rules, ◌-◌}
+use Rattle.field.proofs.Laws.{product-one}
+use Rattle.memory.proofs.Loop.{Turned, turned_all}
+use Rattle.rows.specs.Rows.{add_scaled}
+use Rattle.rows.proofs.Sums.{length_add_scaled}
+use Rattle.rows.proofs.Turns.{sum_more}
+use Rattle.rows.proofs.add.Given as goal
+
+abbrev pub invariant-loop-i : goal.invariant-loop-i
+invariant-loop-i l = Turned l.initial.dst (add_scaled 1 l.initial.dst l.src) l.i l.dst
+
+abbrev pub decreases-loop-i : goal.decreases-loop-i
+decreases-loop-i l = l.i-end - l.i

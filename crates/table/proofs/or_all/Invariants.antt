@@ -1,0 +1,11 @@
+-- `table::or_all` meets its contract. The loop: x is zero just where every byte before i is.
+use Rattle.words.specs.Words.{◌≡◌, arith, ◌≤◌, rules, ◌-◌, ◌↔◌}
+use Rattle.table.specs.RowSteps.{ZeroFrom}
+use Rattle.table.proofs.Marking.{or-none, or-more, or_done}
+use Rattle.table.proofs.or_all.Given as goal
+
+abbrev pub invariant-loop-i : goal.invariant-loop-i
+invariant-loop-i l = (l.from ≤ l.i) × (l.i ≤ l.to) × ((l.x ≡ 0) ↔ ZeroFrom l.from l.i l.bytes)
+
+abbrev pub decreases-loop-i : goal.decreases-loop-i
+decreases-loop-i l = l.to - l.i

@@ -1,0 +1,37 @@
+-- `table::row_offset` meets its contract.
+use Rattle.words.specs.Words.{◌≡◌, arith, ℕ, ◌≤◌, ◌+◌, rules, ap, ◌*◌}
+use Rattle.memory.proofs.Parts.{row_fits}
+use Rattle.table.specs.declared.Shape.{Shape}
+use Rattle.table.specs.Window.{stride, row_offset}
+use Rattle.table.proofs.Offsets.{flags_fit, small_row}
+use Rattle.table.proofs.row_offset.Goals as goal
+use Rattle.table.proofs.row_offset.Goals.{After-stride}
+
+-- The row's number times its stride, as the code has it, and the bound of what it begins at.
+module _ (c : After-stride) where
+  abbrev s : Shape
+  s = c.args.shape
+
+  abbrev r : ℕ
+  r = c.args.r
+
+  product : r * c.stride.result ≡ r * stride s.width s.size
+  product = ap (λ n. r * n) c.stride.ensures
+
+  bound : row_offset s.width s.size r ≤ 450000
+  bound = small_row s.width s.size r (omega arith) (omega arith)
+
+pub overflow_mul-result : goal.overflow_mul-result
+overflow_mul-result c = omega (arith, product (goal.at.overflow_mul-result c).After-stride, bound (goal.at.overflow_mul-result c).After-stride)
+
+pub overflow_add-result : goal.overflow_add-result
+overflow_add-result c = omega (arith, product (goal.at.overflow_add-result c).After-stride, bound (goal.at.overflow_add-result c).After-stride)
+
+pub returns : goal.returns
+returns c = record {
+  start = omega (arith, product (goal.at.returns c).After-stride);
+  end = omega (arith, product (goal.at.returns c).After-stride, row_fits ((s (goal.at.returns c).After-stride).width + 1) (stride (s (goal.at.returns c).After-stride).width (s (goal.at.returns c).After-stride).size) (r (goal.at.returns c).After-stride) (omega arith));
+  wide = flags_fit _ _;
+  small = omega (arith, product (goal.at.returns c).After-stride, bound (goal.at.returns c).After-stride);
+
+}

@@ -1,0 +1,8 @@
+-- `table::stride` meets its contract.
+use Rattle.words.specs.Words.{arith, rules}
+use Rattle.table.specs.Window.{stride}
+use Rattle.table.proofs.stride.Goals as goal
+
+pub returns : goal.returns
+unfolding stride
+returns c = omega arith
