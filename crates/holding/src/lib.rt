@@ -1,7 +1,6 @@
 // A receiver's memory: its header (`front`), and where the position and the symbol with an ESI stand (`find`).
 #![tactic(auto)]
 
-
 pub mod find;
 pub mod front;
 

@@ -20,7 +20,7 @@ use Rattle.wire.specs.declared.Answer.TheVariants.{Done, Refused}
 use Rattle.wire.specs.declared.Refusal.TheVariants.{Values}
 use Rattle.wire.specs.Numbers.{within}
 use Rattle.wire.specs.Answers.{value}
-use Rattle.wire.specs.Opening.{HaveValues, SizeAnswered}
+use Rattle.wire.specs.Opening.{SizeAnswered}
 use Rattle.wire.specs.Packets.{zeros}
 use Rattle.wire.specs.Settings.{scheme_number, scheme_of, in_range, setting_of, Valid}
 use Rattle.wire.specs.Stored.{field, setting_in, setting_bytes, checked_of}

@@ -1,5 +1,5 @@
 -- `coefficients::byte` meets its contract: each way out rewrites with its tests, and with the draw.
-use Rattle.words.specs.Words.{rules, le-leb, lt-leb, ne_eqb, eq-eqb}
+use Rattle.words.specs.Words.{le-leb, lt-leb, ne_eqb, eq-eqb}
 use Rattle.coefficients.specs.Coefficients.{byte_of}
 use Rattle.coefficients.proofs.byte.Goals as goal
 

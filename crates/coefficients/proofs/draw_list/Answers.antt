@@ -1,6 +1,6 @@
 -- `coefficients::draw_list` meets its contract. The loop's invariant: the bytes before i are the first i coefficients (`Partly`).
-use Rattle.words.specs.Words.{◌≡◌, arith, ◌≤◌, length, rules, refl, sym, ◌-◌, not-false, not-true, length-set}
-use Rattle.coefficients.proofs.Fills.{Partly, partly_none, partly_more, next_draws, partly_draws, partly_refused, partly_all, fills_done, fills_refused}
+use Rattle.words.specs.Words.{not-true, not-false, ◌≡◌, arith, length, refl, sym, length-set}
+use Rattle.coefficients.proofs.Fills.{partly_none, partly_more, next_draws, partly_draws, partly_refused, partly_all, fills_done, fills_refused}
 use Rattle.coefficients.proofs.draw_list.Goals as goal
 
 pub loop-i-init : goal.loop-i-init
@@ -28,6 +28,6 @@ loop-i-preserved c =
 
 pub returns : goal.returns
 returns c =
-    let e : c.loop-i.i ≡ length (now c.args.out) = omega arith in
+    let e : c.loop-i.i ≡ length c.args.out.now = omega arith in
     let f = rw e at c.loop-i.invariant.2 in
     fills_done f.ok f.draws c.loop-i.invariant.1 (partly_all f (sym c.loop-i.invariant.1))

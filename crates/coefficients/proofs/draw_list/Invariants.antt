@@ -1,6 +1,6 @@
 -- `coefficients::draw_list` meets its contract. The loop's invariant: the bytes before i are the first i coefficients (`Partly`).
-use Rattle.words.specs.Words.{◌≡◌, arith, ◌≤◌, length, rules, refl, sym, ◌-◌, not-false, not-true, length-set}
-use Rattle.coefficients.proofs.Fills.{Partly, partly_none, partly_more, next_draws, partly_draws, partly_refused, partly_all, fills_done, fills_refused}
+use Rattle.words.specs.Words.{◌≡◌, ◌≤◌, length, ◌-◌}
+use Rattle.coefficients.proofs.Fills.{Partly}
 use Rattle.coefficients.proofs.draw_list.Given as goal
 
 abbrev pub invariant-loop-i : goal.invariant-loop-i

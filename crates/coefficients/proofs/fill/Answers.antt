@@ -1,9 +1,8 @@
 -- `coefficients::fill` meets its contract: all ones, or what `draw_list` promises.
-use Rattle.words.specs.Words.{rules}
 use Rattle.coefficients.proofs.Fills.{fills_ones}
 use Rattle.coefficients.proofs.fill.Goals as goal
 
 pub returns-then-dt-eq15 : goal.returns-then-dt-eq15
 returns-then-dt-eq15 c =
-    fills_ones _ _ _ _ _ c.enum_told-1.given.1 c.if-dt-eq15.true
+    fills_ones _ _ _ _ _ c.in-Gf2.is c.if-dt-eq15.true
     c.fill.ensures

@@ -1,7 +1,7 @@
 -- `coefficients::fill_lists` meets its contract. The loop's invariant: the lists before i stand in the output (`Listed`).
-use Rattle.words.specs.Words.{◌≡◌, arith, ◌≤◌, ◌+◌, length, rules, ◌-◌, ◌*◌}
+use Rattle.words.specs.Words.{◌≡◌, arith, ◌≤◌, ◌+◌, length, ◌*◌}
 use Rattle.memory.proofs.Parts.{row_fits}
-use Rattle.coefficients.proofs.Fills.{Listed, listed-none, lent_length, listed_more, listed_draws, lists_refused, lists_done}
+use Rattle.coefficients.proofs.Fills.{listed-none, lent_length, listed_more, listed_draws, lists_refused, lists_done}
 use Rattle.coefficients.proofs.fill_lists.Goals as goal
 use Rattle.coefficients.proofs.fill_lists.Goals.{In-loop-i}
 
@@ -20,37 +20,25 @@ fill-requires c =
 
 pub returns-in_default : goal.returns-in_default
 returns-in_default c =
-    lists_refused c.requires.0 c.loop-i-test.true c.loop-i.invariant.1 p.fill.ensures c.enum_told-1.given.1
+    lists_refused c.requires.0 c.loop-i-test.true c.loop-i.invariant.1 c.fill.ensures c.in_default.is
 
 pub overflow_add-draws : goal.overflow_add-draws
 overflow_add-draws c =
     omega (
       arith,
-      listed_draws c.requires.1 c.requires.2 (listed_more c.requires.0 c.loop-i-test.true c.loop-i.invariant.1 p.fill.ensures
-          c.more-1.given.1),
+      listed_draws c.requires.1 c.requires.2 (listed_more c.requires.0 c.loop-i-test.true c.loop-i.invariant.1 c.fill.ensures
+          c.in-Done.is),
     )
 
 pub loop-i-preserved : goal.loop-i-preserved
-loop-i-preserved c =
-    (
-      omega arith,
-      rw c.next-key.ensures
-          (listed_more c.requires.0 c.loop-i-test.true c.loop-i.invariant.1 p.fill.ensures
-          c.more-1.given.1),
-    )
+loop-i-preserved c = (
+  omega arith,
+  rw c.next-key.ensures
+      (listed_more c.requires.0 c.loop-i-test.true c.loop-i.invariant.1 c.fill.ensures
+      c.in-Done.is),
+)
 
 pub returns : goal.returns
 returns c =
     let e : c.loop-i.i ≡ c.args.count = omega arith in
     lists_done (rw e at c.loop-i.invariant.1)
-
--- LEFT -- an inline answer, at place 1 of 18 (needs now: 13):
--- LEFT (λ c. omega (arith, in-room c))
--- LEFT -- an inline answer, at place 2 of 18 (needs now: 13):
--- LEFT (λ c. omega (arith, in-room c))
--- LEFT -- an inline answer, at place 3 of 18 (needs now: 13):
--- LEFT (λ c. omega (arith, in-room c))
--- LEFT -- an inline answer, at place 4 of 18 (needs now: 13):
--- LEFT (λ c. omega (arith, in-room c))
--- LEFT -- an inline answer, at place 5 of 18 (needs now: 13):
--- LEFT (λ c. omega (arith, in-room c))

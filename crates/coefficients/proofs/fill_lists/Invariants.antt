@@ -1,7 +1,6 @@
 -- `coefficients::fill_lists` meets its contract. The loop's invariant: the lists before i stand in the output (`Listed`).
-use Rattle.words.specs.Words.{◌≡◌, arith, ◌≤◌, ◌+◌, length, rules, ◌-◌, ◌*◌}
-use Rattle.memory.proofs.Parts.{row_fits}
-use Rattle.coefficients.proofs.Fills.{Listed, listed-none, lent_length, listed_more, listed_draws, lists_refused, lists_done}
+use Rattle.words.specs.Words.{◌≤◌, ◌-◌}
+use Rattle.coefficients.proofs.Fills.{Listed}
 use Rattle.coefficients.proofs.fill_lists.Given as goal
 
 abbrev pub invariant-loop-i : goal.invariant-loop-i

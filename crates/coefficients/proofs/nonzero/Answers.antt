@@ -1,9 +1,9 @@
 -- `coefficients::nonzero` meets its contract. The loop's invariant: what is still to be drawn gives what was asked.
-use Rattle.words.specs.Words.{◌≡◌, arith, ℕ, ◌≤◌, ◌+◌, List, rules, ◌<◌, ◌∙◌, ap, ◌-◌, ne_eqb, ⊎_elim}
+use Rattle.words.specs.Words.{◌≡◌, arith, ℕ, ◌+◌, List, ◌∙◌, ap, ◌-◌, ne_eqb}
 use Rattle.coefficients.specs.Coefficients.{last_zero, found, nonzero_from}
 use Rattle.coefficients.proofs.Zeros.{zero-byte, nonzero_byte}
 use Rattle.coefficients.proofs.nonzero.Goals as goal
-use Rattle.coefficients.proofs.nonzero.Goals.{After-rand256-b}
+use Rattle.coefficients.proofs.nonzero.Goals.{After-rand256-b, then-b-ne0, else-b-ne0+then-draws-last}
 
 pub loop-b-init : goal.loop-b-init
 loop-b-init c =
@@ -12,23 +12,20 @@ loop-b-init c =
 
 -- a turn's draw gave zero, or the byte
 module _ (p : After-rand256-b) where
-  abbrev args : After-rand256-b
-  args = p⟪Start⟫
-
   abbrev used : ℕ
   used = p.loop-b.draws + 1
 
   abbrev state : List ℕ
   state = p.draw-d.result.state
 
-  gave-zero : p.rand256-b.result ≡ 0 → nonzero_from last_zero args.args.before args.args.s ≡ nonzero_from (args.args.before + last_zero - used) used state
+  gave-zero : p.rand256-b.result ≡ 0 → nonzero_from last_zero p.args.before p.args.s ≡ nonzero_from (p.args.before + last_zero - used) used state
   gave-zero e =
-      p.loop-b.inv.2 ∙ zero-byte _ _ (omega arith) p.draw-d.ensures p.rand256-b.ensures e
+      p.loop-b.invariant.2 ∙ zero-byte _ _ (omega arith) p.draw-d.ensures p.rand256-b.ensures e
 
-  gave-byte : (p.rand256-b.result ≡ 0 → ⊥) → nonzero_from last_zero args.args.before args.args.s ≡ found p.rand256-b.result used state
+  gave-byte : (p.rand256-b.result ≡ 0 → ⊥) → nonzero_from last_zero p.args.before p.args.s ≡ found p.rand256-b.result used state
   gave-byte h =
-      p.loop-b.inv.2
-      ∙ nonzero_byte _ _ {n = args.args.before + last_zero - used} (omega arith) p.draw-d.ensures p.rand256-b.ensures h
+      p.loop-b.invariant.2
+      ∙ nonzero_byte _ _ {n = p.args.before + last_zero - used} (omega arith) p.draw-d.ensures p.rand256-b.ensures h
 
 pub loop-b-preserved : goal.loop-b-preserved
 loop-b-preserved c = (omega arith, omega arith, gave-zero (goal.at.loop-b-preserved c).After-rand256-b c.if-b-ne0.false)
@@ -36,9 +33,10 @@ loop-b-preserved c = (omega arith, omega arith, gave-zero (goal.at.loop-b-preser
 pub returns : goal.returns
 unfolding nonzero_from
 returns c =
-    ⊎_elim
-    (λ w. rw (w.1, ne_eqb _ _ w.0.taken, gave-byte (goal.at.returns c).After-rand256-b w.0.taken))
-    (λ w.
-    let e : p.args.before + last_zero - (p.loop-b.draws + 1) ≡ 0 = omega (arith, w.1.taken) in
-    rw (w.2, w.0.left, gave-zero (goal.at.returns c).After-rand256-b w.0.left, e))
-    c.if-b-ne0.branch
+    let p = (goal.at.returns c).After-rand256-b in
+    elim c.if-b-ne0.branch [
+      | then-b-ne0 w ↦ rw (w.value-is, ne_eqb _ _ w.if-b-ne0.true, gave-byte p w.if-b-ne0.true)
+      | else-b-ne0+then-draws-last w ↦
+          let e : c.args.before + last_zero - (c.loop-b.draws + 1) ≡ 0 = omega (arith, w.if-draws-last.true) in
+          rw (w.value-is, w.if-b-ne0.false, gave-zero p w.if-b-ne0.false, e)
+    ]

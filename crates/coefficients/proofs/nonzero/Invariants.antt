@@ -1,7 +1,6 @@
 -- `coefficients::nonzero` meets its contract. The loop's invariant: what is still to be drawn gives what was asked.
-use Rattle.words.specs.Words.{◌≡◌, arith, ℕ, ◌≤◌, ◌+◌, List, rules, ◌<◌, ◌∙◌, ap, ◌-◌, ne_eqb, ⊎_elim}
-use Rattle.coefficients.specs.Coefficients.{last_zero, found, nonzero_from}
-use Rattle.coefficients.proofs.Zeros.{zero-byte, nonzero_byte}
+use Rattle.words.specs.Words.{◌≡◌, ◌≤◌, ◌<◌, ◌-◌}
+use Rattle.coefficients.specs.Coefficients.{last_zero, nonzero_from}
 use Rattle.coefficients.proofs.nonzero.Given as goal
 
 abbrev pub invariant-loop-b : goal.invariant-loop-b

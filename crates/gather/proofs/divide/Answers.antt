@@ -1,5 +1,4 @@
 -- `gather::divide` meets its contract.
-use Rattle.words.specs.Words.{rules}
 use Rattle.gather.proofs.Admitting.{divided_one}
 use Rattle.gather.proofs.divide.Goals as goal
 

@@ -1,5 +1,5 @@
 -- `gather::lay` meets its contract.
-use Rattle.words.specs.Words.{arith, rules}
+use Rattle.words.specs.Words.{arith}
 use Rattle.gather.proofs.Laying.{laid_short, laid_long}
 use Rattle.gather.proofs.lay.Goals as goal
 

@@ -1,5 +1,5 @@
 -- `gather::reduce` meets its contract.
-use Rattle.words.specs.Words.{arith, rules, subst, sym}
+use Rattle.words.specs.Words.{arith, subst, sym}
 use Rattle.gather.specs.GatherSteps.{StateReduced}
 use Rattle.gather.proofs.Reducing.{state_empty}
 use Rattle.gather.proofs.reduce.Goals as goal
@@ -16,7 +16,7 @@ pub returns-then-n-eq1 : goal.returns-then-n-eq1
 returns-then-n-eq1 c =
     let a = c.args in
     let sum = c.reduce_column in (
-      subst (λ n. StateReduced a.shape.width a.shape.size a.k a.first n a.mem.now a.work.now sum.new.1.0) (sym c.if-n-eq1.true)
+      subst (λ n. StateReduced a.shape.width a.shape.size a.k a.first n a.mem.now a.work.now sum.new.work) (sym c.if-n-eq1.true)
           sum.ensures.0,
       sum.ensures.1,
     )

@@ -7,9 +7,9 @@ use Rattle.gather.proofs.reduce_columns.Goals as goal
 
 pub collect-any-requires : goal.collect-any-requires
 collect-any-requires c =
-    let a = ⟪start.args⟫ in (
-      ⟪start.requires.0⟫,
-      length_lent c.row-offset.result a.shape.width a.work.now (omega arith),
+    let a = c.args in (
+      c.requires.0,
+      length_lent c.row_offset-at.result a.shape.width a.work.now (omega arith),
       search rules,
       search rules,
       search rules,
@@ -17,25 +17,25 @@ collect-any-requires c =
 
 pub returns-then-any-eq0 : goal.returns-then-any-eq0
 returns-then-any-eq0 c =
-    let a = ⟪start.args⟫ in
-    let at = c.row-offset in
+    let a = c.args in
+    let at = c.row_offset-at in
     let found = c.collect-any in
     let read = subst (λ l. Collected a.shape.width a.shape.size a.first a.n found.result a.mem.now l (replicate 255 0)
-    found.new.1.1.0) (cut at.result a.shape.width a.work.now) found.ensures in
+    found.new.multipliers) (cut at.result a.shape.width a.work.now) found.ensures in
     state_none a.shape.width a.shape.size a.k a.first a.n at.result found.result a.mem.now a.work.now (replicate 255 0)
-    found.new.1.1.0 at.ensures.start ⟪start.requires.1⟫ (zeros 255) read (omega arith)
+    found.new.multipliers at.ensures.start c.requires.1 (zeros 255) read (omega arith)
 
 pub add_rows-requires : goal.add_rows-requires
 add_rows-requires c =
-    (⟪start.requires.0⟫, ⟪start.requires.1⟫, omega (arith, c.collect-any.ensures.size))
+    (c.requires.0, c.requires.1, omega (arith, c.collect-any.ensures.size))
 
 pub returns : goal.returns
 returns c =
-    let a = ⟪start.args⟫ in
-    let at = c.row-offset in
+    let a = c.args in
+    let at = c.row_offset-at in
     let found = c.collect-any in
     let read = subst (λ l. Collected a.shape.width a.shape.size a.first a.n found.result a.mem.now l (replicate 255 0)
-    found.new.1.1.0) (cut at.result a.shape.width a.work.now) found.ensures in
+    found.new.multipliers) (cut at.result a.shape.width a.work.now) found.ensures in
     state_some a.shape.width a.shape.size a.k a.first a.n at.result found.result a.mem.now a.work.now (replicate 255 0)
-    found.new.1.1.0 at.ensures.start ⟪start.requires.1⟫ (zeros 255) read c.add_rows.new.1.0
+    found.new.multipliers at.ensures.start c.requires.1 (zeros 255) read c.add_rows.new.work
     c.add_rows.ensures

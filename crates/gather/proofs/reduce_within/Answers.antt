@@ -1,7 +1,5 @@
 -- `gather::reduce_within` meets its contract. The loop: the pivots of the rows so far are eliminated.
-use Rattle.words.specs.Words.{◌≡◌, arith, ◌≤◌, length, rules, refl, ◌-◌, subst}
-use Rattle.memory.specs.Number.{Bytes}
-use Rattle.table.specs.Packet.{Works}
+use Rattle.words.specs.Words.{arith, rules, refl, subst}
 use Rattle.table.proofs.Offsets.{flags_fit}
 use Rattle.gather.specs.GatherSteps.{PacketReduced}
 use Rattle.gather.proofs.Framing.{works_only}

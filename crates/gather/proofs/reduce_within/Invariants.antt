@@ -1,11 +1,8 @@
 -- `gather::reduce_within` meets its contract. The loop: the pivots of the rows so far are eliminated.
-use Rattle.words.specs.Words.{◌≡◌, arith, ◌≤◌, length, rules, refl, ◌-◌, subst}
+use Rattle.words.specs.Words.{◌≡◌, ◌≤◌, length, ◌-◌}
 use Rattle.memory.specs.Number.{Bytes}
 use Rattle.table.specs.Packet.{Works}
-use Rattle.table.proofs.Offsets.{flags_fit}
 use Rattle.gather.specs.GatherSteps.{PacketReduced}
-use Rattle.gather.proofs.Framing.{works_only}
-use Rattle.gather.proofs.Reducing.{packet-none, packet-more}
 use Rattle.gather.proofs.reduce_within.Given as goal
 
 abbrev pub invariant-loop-j : goal.invariant-loop-j

@@ -1,5 +1,5 @@
 -- `gather::staying` meets its contract.
-use Rattle.words.specs.Words.{arith, rules}
+use Rattle.words.specs.Words.{arith}
 use Rattle.gather.proofs.Collecting.{staying_none, staying_some}
 use Rattle.gather.proofs.staying.Goals as goal
 

@@ -1,5 +1,4 @@
 -- `interleave::deinterleave` meets its contract: the grid with rows and columns exchanged has the same bytes.
-use Rattle.words.specs.Words.{rules}
 use native.Mathlib.Nat.{mul_comm}
 use Rattle.interleave.proofs.Answers.{fits_where, turned_fits, rearranged}
 use Rattle.interleave.proofs.deinterleave.Goals as goal

@@ -1,5 +1,4 @@
 -- `interleave::interleave` meets its contract.
-use Rattle.words.specs.Words.{rules}
 use Rattle.interleave.proofs.Answers.{fits_where, rearranged}
 use Rattle.interleave.proofs.interleave.Goals as goal
 

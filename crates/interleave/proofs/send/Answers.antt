@@ -1,9 +1,9 @@
 -- `interleave::send` meets its contract: at each place a turn of `Sending`.
-use Rattle.words.specs.Words.{◌≡◌, arith, ◌≤◌, rules, ◌-◌, ◌*◌, length, ⊎_elim}
+use Rattle.words.specs.Words.{◌≡◌, arith, ◌*◌, length}
 use Rattle.interleave.proofs.Answers.{products}
-use Rattle.interleave.proofs.Sending.{Sending, begun, Turn, turn, next_row, next_column}
+use Rattle.interleave.proofs.Sending.{begun, Turn, turn, next_row, next_column}
 use Rattle.interleave.proofs.send.Goals as goal
-use Rattle.interleave.proofs.send.Goals.{In-loop-p}
+use Rattle.interleave.proofs.send.Goals.{In-loop-p, then-row-rows, else-row-rows}
 
 -- what is known at a turn
 known : (c : In-loop-p)
@@ -39,10 +39,12 @@ loop-p-preserved c =
     let y = c.copy_part in
     let f = c.requires in (
       omega arith,
-      ⊎_elim
-          (λ w. rw (w.1, w.2) (next_column _ _ _ _ _ f _ _ _ _ l.invariant.1 (omega arith) _ y.ensures (omega arith)))
-          (λ w. rw (w.1, w.2) (next_row _ _ _ _ _ f _ _ _ _ l.invariant.1 (omega arith) _ y.ensures (omega arith)))
-          c.if-row-rows.branch,
+      elim c.if-row-rows.branch [
+        | then-row-rows w ↦
+            rw (w.row-is, w.column-is) (next_column _ _ _ _ _ f _ _ _ _ l.invariant.1 (omega arith) _ y.ensures (omega arith))
+        | else-row-rows w ↦
+            rw (w.row-is, w.column-is) (next_row _ _ _ _ _ f _ _ _ _ l.invariant.1 (omega arith) _ y.ensures (omega arith))
+      ],
     )
 
 pub returns : goal.returns
@@ -51,14 +53,3 @@ returns c =
     let a = c.args in
     let e : l.p ≡ a.rows * a.columns = omega arith in
     cc l.invariant.1.written
-
--- LEFT -- an inline answer, at place 2 of 14 (needs now: 12):
--- LEFT (λ c. omega (arith, (known c.before).write, (known c.before).most))
--- LEFT -- an inline answer, at place 3 of 14 (needs now: 12):
--- LEFT (λ c. omega (arith, (known c.before).taken_most))
--- LEFT -- an inline answer, at place 5 of 14 (needs now: 12):
--- LEFT (λ c. omega (arith, (known c.before).read, (known c.before).most))
--- LEFT -- an inline answer, at place 8 of 14 (needs now: 12):
--- LEFT (λ c. omega (arith, (known c.before.before.before.before.before).column_most))
--- LEFT -- an inline answer, at place 9 of 14 (needs now: 12):
--- LEFT (λ c. omega (arith, (known c.before.before.before.before.before).place_most))

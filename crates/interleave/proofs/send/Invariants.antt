@@ -1,7 +1,6 @@
 -- `interleave::send` meets its contract: at each place a turn of `Sending`.
-use Rattle.words.specs.Words.{◌≡◌, arith, ◌≤◌, rules, ◌-◌, ◌*◌, length, ⊎_elim}
-use Rattle.interleave.proofs.Answers.{products}
-use Rattle.interleave.proofs.Sending.{Sending, begun, Turn, turn, next_row, next_column}
+use Rattle.words.specs.Words.{◌≤◌, ◌-◌}
+use Rattle.interleave.proofs.Sending.{Sending}
 use Rattle.interleave.proofs.send.Given as goal
 
 abbrev pub invariant-loop-p : goal.invariant-loop-p

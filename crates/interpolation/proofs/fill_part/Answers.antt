@@ -1,23 +1,8 @@
 -- `interpolation::fill_part` meets its contract.
-use Rattle.words.specs.Words.{◌≡◌, arith, length, rules}
+use Rattle.words.specs.Words.{◌≡◌, arith, length}
 use Rattle.memory.specs.Part.{part}
 use Rattle.memory.proofs.Parts.{put, cut, length_part}
 use Rattle.interpolation.proofs.fill_part.Goals as goal
-
-pub overflow_add-a : goal.overflow_add-a
-overflow_add-a c = search rules
-
-pub slice_bounds-fill-count : goal.slice_bounds-fill-count
-slice_bounds-fill-count c = search rules
-
-pub slice_bounds-fill-start : goal.slice_bounds-fill-start
-slice_bounds-fill-start c = search rules
-
-pub slice_bounds-fill-end : goal.slice_bounds-fill-end
-slice_bounds-fill-end c = search rules
-
-pub fill-requires : goal.fill-requires
-fill-requires c = search rules
 
 pub returns : goal.returns
 returns c =

@@ -1,14 +1,8 @@
 -- `interpolation::fill_repair` meets its contract. The loop's invariant: c is the coefficient before i, and those before i are filled in.
-use Rattle.words.specs.Words.{◌≡◌, sym, ap, subst, ◌∙◌, ℕ, ◌≤◌, ◌+◌, ◌-◌, arith, length, length-set, rules}
+use Rattle.words.specs.Words.{◌≡◌, sym, ap, subst, ◌∙◌, ℕ, ◌+◌, ◌-◌, arith, length, length-set}
 use Rattle.interpolation.specs.Lagrange.{lagrange}
 use Rattle.interpolation.proofs.Filling.{Filled, filled_more, filled_all}
 use Rattle.interpolation.proofs.fill_repair.Goals as goal
-
-pub first-c-requires : goal.first-c-requires
-first-c-requires c = search rules
-
-pub bounds-out-0 : goal.bounds-out-0
-bounds-out-0 c = search rules
 
 pub loop-i-init : goal.loop-i-init
 loop-i-init c = (
@@ -17,20 +11,7 @@ loop-i-init c = (
   simp length-set,
   c.first-c.ensures,
   filled_more _ _ c.args.out.now 0 _ (omega arith) c.first-c.ensures (λ m h. absurd (omega arith)),
-
 )
-
-pub overflow_sub-i : goal.overflow_sub-i
-overflow_sub-i c = search rules
-
-pub next-c-requires : goal.next-c-requires
-next-c-requires c = search rules
-
-pub bounds-out-i : goal.bounds-out-i
-bounds-out-i c = search rules
-
-pub loop-i-smaller : goal.loop-i-smaller
-loop-i-smaller c = search rules
 
 pub loop-i-preserved : goal.loop-i-preserved
 loop-i-preserved c =
@@ -53,7 +34,3 @@ returns c =
     let k = length a.out.now in
     let e : c.loop-i.i ≡ k = omega arith in
     filled_all k a.esi c.loop-i.out c.loop-i.invariant.2 (subst (λ (n : ℕ). Filled k a.esi c.loop-i.out n) e c.loop-i.invariant.4)
-
--- LEFT -- no such goal now: overflow-add-i
--- LEFT add-i : tie.Need-overflow-add-i invariant-loop decreases-loop
--- LEFT add-i c = search rules

@@ -1,29 +1,11 @@
 -- `interpolation::first` meets its contract. The loop's invariant: the factors before m are multiplied.
-use Rattle.words.specs.Words.{◌≡◌, ap, ◌∙◌, ℕ, ◌≤◌, ◌-◌, arith, rules}
+use Rattle.words.specs.Words.{◌≡◌, ap, ◌∙◌, ℕ, arith}
 use Rattle.interpolation.specs.Lagrange.{lagrange}
 use Rattle.interpolation.proofs.Neighbours.{first_one, first_more}
 use Rattle.interpolation.proofs.first.Goals as goal
 
 pub loop-m-init : goal.loop-m-init
 loop-m-init c = (omega arith, omega arith, first_one _)
-
-pub gap-requires : goal.gap-requires
-gap-requires c = search rules
-
-pub inverse-under-requires : goal.inverse-under-requires
-inverse-under-requires c = search rules
-
-pub gap-requires-in-loop-m : goal.gap-requires-in-loop-m
-gap-requires-in-loop-m c = search rules
-
-pub product-factor-requires : goal.product-factor-requires
-product-factor-requires c = search rules
-
-pub product-c-requires : goal.product-c-requires
-product-c-requires c = search rules
-
-pub loop-m-smaller : goal.loop-m-smaller
-loop-m-smaller c = search rules
 
 pub loop-m-preserved : goal.loop-m-preserved
 loop-m-preserved c =
@@ -33,7 +15,3 @@ pub returns : goal.returns
 returns c =
     let e : c.loop-m.m ≡ c.args.k = omega arith in
     c.loop-m.invariant.2 ∙ ap (λ (n : ℕ). lagrange n 0 c.args.esi) e
-
--- LEFT -- no such goal now: overflow-add-m
--- LEFT add-m : tie.Need-overflow-add-m invariant-loop decreases-loop
--- LEFT add-m c = search rules

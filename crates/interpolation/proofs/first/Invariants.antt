@@ -1,7 +1,6 @@
 -- `interpolation::first` meets its contract. The loop's invariant: the factors before m are multiplied.
-use Rattle.words.specs.Words.{◌≡◌, ap, ◌∙◌, ℕ, ◌≤◌, ◌-◌, arith, rules}
+use Rattle.words.specs.Words.{◌≡◌, ◌≤◌, ◌-◌}
 use Rattle.interpolation.specs.Lagrange.{lagrange}
-use Rattle.interpolation.proofs.Neighbours.{first_one, first_more}
 use Rattle.interpolation.proofs.first.Given as goal
 
 abbrev pub invariant-loop-m : goal.invariant-loop-m

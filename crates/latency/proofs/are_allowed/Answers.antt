@@ -1,24 +1,23 @@
 -- `latency::are_allowed` meets its contract: each way out rewrites with the tests before it.
-use Rattle.words.specs.Words.{rules, not-false, not-true}
 use Rattle.latency.proofs.are_allowed.Goals as goal
 
 pub returns-then-not-between : goal.returns-then-not-between
-returns-then-not-between c = rw (← c.between.ensures, not-true c.between.result c.if-not-between.true)
+returns-then-not-between c = rw (← c.between.ensures, c.if-not-between.true)
 
 pub returns-then-not-between-2 : goal.returns-then-not-between-2
 returns-then-not-between-2 c =
     rw (
-      ← p.between.ensures,
-      not-false p.between.result p.if-not-between.false,
+      ← c.between.ensures,
+      c.if-not-between.false,
       ← c.between-2.ensures,
-      not-true c.between-2.result c.if-not-between-2.true,
+      c.if-not-between-2.true,
     )
 
 pub returns : goal.returns
 returns c =
     rw (
-      ← p.between.ensures,
-      not-false p.between.result p.if-not-between.false,
+      ← c.between.ensures,
+      c.if-not-between.false,
       ← c.between-2.ensures,
-      not-false c.between-2.result c.if-not-between-2.false,
+      c.if-not-between-2.false,
     ) c.between-3.ensures

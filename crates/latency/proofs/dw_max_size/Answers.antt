@@ -1,15 +1,15 @@
 -- `latency::dw_max_size` meets its contract.
-use Rattle.words.specs.Words.{rules, ◌∙◌, sym, ap, not-false, not-true}
+use Rattle.words.specs.Words.{◌∙◌, sym, ap}
 use Rattle.latency.specs.Window.{window_in}
 use Rattle.latency.proofs.Laws.{bounds, window_answered}
 use Rattle.latency.proofs.dw_max_size.Goals as goal
 
 pub returns-then-not-are_allowed : goal.returns-then-not-are_allowed
-returns-then-not-are_allowed c = window_answered _ _ _ _ (rw (← c.are_allowed.ensures, not-true c.are_allowed.result c.if-not-are_allowed.true))
+returns-then-not-are_allowed c = window_answered _ _ _ _ (rw (← c.are_allowed.ensures, c.if-not-are_allowed.true))
 
 pub divide-requires : goal.divide-requires
-divide-requires c = bounds _ _ _ (sym c.are_allowed.ensures ∙ not-false _ c.if-not-are_allowed.false)
+divide-requires c = bounds _ _ _ (sym c.are_allowed.ensures ∙ c.if-not-are_allowed.false)
 
 pub returns : goal.returns
 returns c =
-    window_answered _ _ _ _ (rw (← c.are_allowed.ensures, not-false c.are_allowed.result c.if-not-are_allowed.false) (ap window_in c.divide.ensures))
+    window_answered _ _ _ _ (rw (← c.are_allowed.ensures, c.if-not-are_allowed.false) (ap window_in c.divide.ensures))

@@ -1,8 +1,8 @@
-
 use Rattle.words.specs.Words.{arith, rules}
 use Rattle.placing.proofs.Placing.{cleared_unused, cleared_row}
 use Rattle.table.proofs.Offsets.{row_end}
 use Rattle.placing.proofs.clear_coefficient.Goals as goal
+use Rattle.placing.proofs.clear_coefficient.Goals.{After-row_offset-at}
 
 pub bounds-mem-at : goal.bounds-mem-at
 bounds-mem-at c =
@@ -32,7 +32,7 @@ returns c =
     let added = c.add_part in
     cleared_row a.shape.width a.shape.size a.r a.q _ a.row.now a.mem.now added.new.mem _
     c.requires.0 (omega arith) (omega arith) (omega arith)
-    (λ i. (c.type_inv.mem i).fits)
+    (λ i. ((goal.at.returns c).After-row_offset-at.type_inv.mem i).fits)
     (λ i. (c.type_inv.row i).fits)
     at.result at.ensures.start
     (rw (← at.ensures.start) at c.requires.4)

@@ -1,4 +1,3 @@
-
 use Rattle.words.specs.Words.{arith, rules}
 use Rattle.table.proofs.Marking.{tested_alone, tested_other}
 use Rattle.table.proofs.Offsets.{row_end}

@@ -1,5 +1,5 @@
 -- `placing::is_known` meets its contract.
-use Rattle.words.specs.Words.{arith, ◌+◌, rules, ◌∙◌, sym, ap, get_or, eqb}
+use Rattle.words.specs.Words.{arith, ◌+◌, ◌∙◌, sym, ap, get_or, eqb}
 use Rattle.table.proofs.Flags.{flag_at}
 use Rattle.placing.proofs.Showing.{flag-known}
 use Rattle.table.proofs.Offsets.{row_end}

@@ -1,6 +1,6 @@
 -- `placing::next_with` meets its contract. The loop: the rows from `from` on and before q have no coefficient in the column.
-use Rattle.words.specs.Words.{arith, rules, ◌-◌}
-use Rattle.placing.proofs.Placing.{Passed, passed_none, passed_more, passed_here, passed_all}
+use Rattle.words.specs.Words.{arith}
+use Rattle.placing.proofs.Placing.{passed_none, passed_more, passed_here, passed_all}
 use Rattle.table.proofs.Offsets.{row_end}
 use Rattle.placing.proofs.next_with.Goals as goal
 

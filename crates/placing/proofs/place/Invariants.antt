@@ -1,9 +1,8 @@
 -- `placing::place` meets its contract. The loop: the column is clear in the rows before q, of which count have become known, and the
 -- row q has a coefficient there.
-use Rattle.words.specs.Words.{arith, ◌≤◌, ◌+◌, rules, ◌<◌, ◌-◌, get_or, ◌≢◌}
+use Rattle.words.specs.Words.{◌≤◌, ◌+◌, ◌<◌, ◌-◌, get_or, ◌≢◌}
 use Rattle.table.specs.Window.{row_offset}
-use Rattle.table.proofs.Rows.{fits_kept}
-use Rattle.placing.proofs.Placing.{Cleared, cleared_none, cleared_more, cleared_skip, settled}
+use Rattle.placing.proofs.Placing.{Cleared}
 use Rattle.placing.proofs.place.Given as goal
 
 abbrev pub invariant-loop-q : goal.invariant-loop-q

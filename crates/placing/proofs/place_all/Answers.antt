@@ -1,6 +1,5 @@
 -- `placing::place_all` meets its contract. The loop: the rows before k have joined the system, and total positions have become known.
-use Rattle.words.specs.Words.{◌≡◌, arith, ◌≤◌, rules, ◌-◌}
-use Rattle.placing.specs.PlaceSteps.{RowsPlaced}
+use Rattle.words.specs.Words.{◌≡◌, arith, rules}
 use Rattle.table.proofs.Rows.{fits_kept}
 use Rattle.placing.proofs.Joining.{joined-none, joined-more, joined_all}
 use Rattle.placing.proofs.place_all.Goals as goal
@@ -24,15 +23,15 @@ place_kept-total-requires c =
 pub overflow_add-total : goal.overflow_add-total
 overflow_add-total c =
     let turn = c.loop-k in
-    omega (arith, turn.invariant.1.most, c.Place-kept.ensures.most, c.requires.1.within, c.requires.1.wide)
+    omega (arith, turn.invariant.1.most, c.place_kept-total.ensures.most, c.requires.1.within, c.requires.1.wide)
 
 pub loop-k-preserved : goal.loop-k-preserved
 loop-k-preserved c =
     let a = c.args in
     let turn = c.loop-k in
-    let done = c.Place-kept in
+    let done = c.place_kept-total in
     let more =
-    joined-more a.shape.width a.shape.size turn.k turn.total done.result a.work.now a.mem.now turn.mem done.new.0
+    joined-more a.shape.width a.shape.size turn.k turn.total done.result a.work.now a.mem.now turn.mem done.new.mem
     c.requires.0 turn.invariant.1 done.ensures in
     (search rules, more)
 

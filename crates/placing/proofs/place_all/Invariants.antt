@@ -1,8 +1,6 @@
 -- `placing::place_all` meets its contract. The loop: the rows before k have joined the system, and total positions have become known.
-use Rattle.words.specs.Words.{◌≡◌, arith, ◌≤◌, rules, ◌-◌}
+use Rattle.words.specs.Words.{◌≤◌, ◌-◌}
 use Rattle.placing.specs.PlaceSteps.{RowsPlaced}
-use Rattle.table.proofs.Rows.{fits_kept}
-use Rattle.placing.proofs.Joining.{joined-none, joined-more, joined_all}
 use Rattle.placing.proofs.place_all.Given as goal
 
 abbrev pub invariant-loop-k : goal.invariant-loop-k

@@ -1,5 +1,4 @@
-
-use Rattle.words.specs.Words.{arith, ◌+◌, length, rules, ◌<◌, ◌∙◌, sym, ap, get_or, subst}
+use Rattle.words.specs.Words.{arith, ◌+◌, length, ◌<◌, ◌∙◌, sym, ap, get_or, subst}
 use Rattle.memory.proofs.Parts.{length_part}
 use Rattle.table.specs.Window.{row}
 use Rattle.placing.specs.PlaceSteps.{RowPlaced}
@@ -47,9 +46,3 @@ returns c =
     (settled_line (without_flags w E a.k at.result a.work.now c.requires.0.some_width at.ensures.start)
     (subst (λ l. RowPlaced w E (get_or a.work.now (at.result + (w + E)) 0) done.result l a.mem.now done.new.mem)
     c.part.ensures.bytes done.ensures))
-
--- LEFT -- no such goal now: overflow-cast-r
--- LEFT cast-r : tie.Need-overflow-cast-r
--- LEFT cast-r c =
--- LEFT     let a = c.before.before.before.before.before.args in
--- LEFT     omega (arith, c.shared-slice-known2.given (c.before.before.row-offset.result + (a.shape.width + a.shape.size)))

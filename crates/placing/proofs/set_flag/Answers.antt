@@ -1,5 +1,5 @@
 -- `placing::set_flag` meets its contract.
-use Rattle.words.specs.Words.{arith, ◌+◌, rules, ◌∙◌, ap, [], ◌∷◌}
+use Rattle.words.specs.Words.{arith, ◌+◌, ◌∙◌, ap, [], ◌∷◌}
 use Rattle.memory.specs.Part.{splice}
 use Rattle.table.proofs.Offsets.{row_end}
 use Rattle.table.proofs.Rows.{set-splice}

@@ -1,4 +1,3 @@
-
 use Rattle.words.specs.Words.{arith, rules}
 use Rattle.placing.proofs.Placing.{stored_copy}
 use Rattle.table.proofs.Offsets.{row_end}

@@ -1,5 +1,5 @@
 -- `printing::put_field` meets its contract.
-use Rattle.words.specs.Words.{arith, rules}
+use Rattle.words.specs.Words.{arith}
 use Rattle.text.proofs.Decimals.{decimal-length}
 use Rattle.printing.proofs.Laws.{put_then}
 use Rattle.printing.proofs.put_field.Goals as goal

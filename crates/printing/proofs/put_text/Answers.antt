@@ -1,5 +1,5 @@
 -- `printing::put_text` meets its contract.
-use Rattle.words.specs.Words.{arith, rules}
+use Rattle.words.specs.Words.{arith}
 use Rattle.printing.proofs.Laws.{put_copy}
 use Rattle.printing.proofs.put_text.Goals as goal
 

@@ -1,10 +1,7 @@
 -- `rows::add` meets its contract. The loop: the first i elements are those of the result.
-use Rattle.words.specs.Words.{arith, rules, ◌-◌}
-use Rattle.field.proofs.Laws.{product-one}
-use Rattle.memory.proofs.Loop.{Turned, turned_all}
+use Rattle.words.specs.Words.{◌-◌}
+use Rattle.memory.proofs.Loop.{Turned}
 use Rattle.rows.specs.Rows.{add_scaled}
-use Rattle.rows.proofs.Sums.{length_add_scaled}
-use Rattle.rows.proofs.Turns.{sum_more}
 use Rattle.rows.proofs.add.Given as goal
 
 abbrev pub invariant-loop-i : goal.invariant-loop-i

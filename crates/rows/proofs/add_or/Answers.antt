@@ -1,9 +1,9 @@
 -- `rows::add_or` meets its contract. The loop: the first i elements are those of the result, and any is zero only where these are.
-use Rattle.words.specs.Words.{arith, rules, ◌-◌}
-use Rattle.memory.proofs.Loop.{Turned, turned_more, turned_all}
+use Rattle.words.specs.Words.{arith, rules}
+use Rattle.memory.proofs.Loop.{turned_more, turned_all}
 use Rattle.rows.specs.Rows.{add_scaled}
 use Rattle.rows.proofs.Sums.{length_add_scaled}
-use Rattle.rows.proofs.Turns.{ZeroBefore, sum_here, zero_more}
+use Rattle.rows.proofs.Turns.{sum_here, zero_more}
 use Rattle.rows.proofs.add_or.Goals as goal
 
 pub loop-i-init : goal.loop-i-init

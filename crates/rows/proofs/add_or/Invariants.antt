@@ -1,9 +1,8 @@
 -- `rows::add_or` meets its contract. The loop: the first i elements are those of the result, and any is zero only where these are.
-use Rattle.words.specs.Words.{arith, rules, ◌-◌}
-use Rattle.memory.proofs.Loop.{Turned, turned_more, turned_all}
+use Rattle.words.specs.Words.{◌-◌}
+use Rattle.memory.proofs.Loop.{Turned}
 use Rattle.rows.specs.Rows.{add_scaled}
-use Rattle.rows.proofs.Sums.{length_add_scaled}
-use Rattle.rows.proofs.Turns.{ZeroBefore, sum_here, zero_more}
+use Rattle.rows.proofs.Turns.{ZeroBefore}
 use Rattle.rows.proofs.add_or.Given as goal
 
 abbrev pub invariant-loop-i : goal.invariant-loop-i

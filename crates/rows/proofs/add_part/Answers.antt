@@ -1,5 +1,5 @@
 -- `rows::add_part` meets its contract.
-use Rattle.words.specs.Words.{arith, rules, ◌∙◌}
+use Rattle.words.specs.Words.{arith, ◌∙◌}
 use Rattle.memory.proofs.Parts.{put, cut}
 use Rattle.rows.proofs.add_part.Goals as goal
 

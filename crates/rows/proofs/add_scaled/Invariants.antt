@@ -1,9 +1,7 @@
 -- `rows::add_scaled` meets its contract. The loop: the first i elements are those of the result.
-use Rattle.words.specs.Words.{◌≡◌, arith, rules, sym, ◌-◌}
-use Rattle.memory.proofs.Loop.{Turned, turned_all}
+use Rattle.words.specs.Words.{◌-◌}
+use Rattle.memory.proofs.Loop.{Turned}
 use Rattle.rows.specs.Rows.{add_scaled}
-use Rattle.rows.proofs.Sums.{length_add_scaled, add_scaled_zero}
-use Rattle.rows.proofs.Turns.{sum_more}
 use Rattle.rows.proofs.add_scaled.Given as goal
 
 abbrev pub invariant-loop-i : goal.invariant-loop-i

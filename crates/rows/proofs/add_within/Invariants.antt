@@ -1,6 +1,6 @@
 -- `rows::add_within` meets its contract. The loop: the first i bytes of the stretch are those of the sum.
-use Rattle.words.specs.Words.{◌≡◌, arith, rules, ◌-◌}
-use Rattle.rows.proofs.Turns.{Within, within-zero, within_none, within_more, within_all}
+use Rattle.words.specs.Words.{◌-◌}
+use Rattle.rows.proofs.Turns.{Within}
 use Rattle.rows.proofs.add_within.Given as goal
 
 abbrev pub invariant-loop-i : goal.invariant-loop-i

@@ -1,5 +1,5 @@
 -- `rows::scale_part` meets its contract.
-use Rattle.words.specs.Words.{arith, rules, ◌∙◌}
+use Rattle.words.specs.Words.{arith, ◌∙◌}
 use Rattle.memory.proofs.Parts.{put, cut}
 use Rattle.rows.proofs.scale_part.Goals as goal
 

@@ -1,7 +1,6 @@
 -- `rows::xor_within` meets its contract. The loop: the first i bytes of the stretch are those of the sum.
-use Rattle.words.specs.Words.{arith, ◌+◌, rules, ◌-◌}
-use Rattle.field.proofs.Laws.{product-one}
-use Rattle.rows.proofs.Turns.{Within, within_none, within_more, within_all}
+use Rattle.words.specs.Words.{◌-◌}
+use Rattle.rows.proofs.Turns.{Within}
 use Rattle.rows.proofs.xor_within.Given as goal
 
 abbrev pub invariant-loop-i : goal.invariant-loop-i

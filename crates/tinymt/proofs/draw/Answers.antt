@@ -1,5 +1,4 @@
 -- `tinymt::draw` meets its contract: what `step` and `output` ensure, joined.
-use Rattle.words.specs.Words.{rules}
 use Rattle.tinymt.specs.Generator.{draw_of}
 use Rattle.tinymt.proofs.draw.Goals as goal
 

@@ -1,5 +1,4 @@
 -- `tinymt::output` meets its contract: what the callees ensure, joined.
-use Rattle.words.specs.Words.{rules}
 use Rattle.tinymt.specs.Generator.{temper}
 use Rattle.tinymt.proofs.output.Goals as goal
 

@@ -1,5 +1,4 @@
 -- `tinymt::seed_round` meets its contract: the code computes the definition's own expression.
-use Rattle.words.specs.Words.{rules}
 use Rattle.tinymt.specs.Generator.{seed_round}
 use Rattle.tinymt.proofs.seed_round.Goals as goal
 

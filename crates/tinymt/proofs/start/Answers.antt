@@ -1,5 +1,5 @@
 -- `tinymt::start` meets its contract. The first loop's invariant: the state is that after the rounds before i; the second's: that after k steps.
-use Rattle.words.specs.Words.{◌≡◌, arith, ◌≤◌, rules, refl, ◌-◌}
+use Rattle.words.specs.Words.{◌≡◌, arith, refl}
 use Rattle.tinymt.proofs.Laws.{seeded-more, steps-more}
 use Rattle.tinymt.specs.Generator.{steps, seeded, start_of}
 use Rattle.tinymt.proofs.start.Goals as goal
@@ -25,6 +25,3 @@ unfolding start_of
 returns c =
     let e : c.loop-k.k ≡ 8 = omega arith in
     rw e at c.loop-k.invariant.1
-
--- LEFT -- an inline answer, at place 1 of 11 (needs now: 9):
--- LEFT (λ c κs. omega arith)

@@ -1,7 +1,6 @@
 -- `tinymt::start` meets its contract. The first loop's invariant: the state is that after the rounds before i; the second's: that after k steps.
-use Rattle.words.specs.Words.{◌≡◌, arith, ◌≤◌, rules, refl, ◌-◌}
-use Rattle.tinymt.proofs.Laws.{seeded-more, steps-more}
-use Rattle.tinymt.specs.Generator.{steps, seeded, start_of}
+use Rattle.words.specs.Words.{◌≡◌, ◌≤◌, ◌-◌}
+use Rattle.tinymt.specs.Generator.{steps, seeded}
 use Rattle.tinymt.proofs.start.Given as goal
 
 abbrev pub invariant-loop-i : goal.invariant-loop-i

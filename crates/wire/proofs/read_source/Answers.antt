@@ -1,5 +1,5 @@
 -- `wire::read_source` meets its contract.
-use Rattle.words.specs.Words.{arith, rules}
+use Rattle.words.specs.Words.{arith}
 use Rattle.wire.specs.Packets.{source_esi}
 use Rattle.wire.proofs.Headers.{no_source, source-read}
 use Rattle.wire.proofs.read_source.Goals as goal

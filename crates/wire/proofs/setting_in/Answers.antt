@@ -1,5 +1,5 @@
 -- `wire::setting_in` meets its contract.
-use Rattle.words.specs.Words.{rules, ◌∙◌, sym}
+use Rattle.words.specs.Words.{◌∙◌, sym}
 use Rattle.wire.proofs.Settings.{short_none, other_none, header_read}
 use Rattle.wire.proofs.setting_in.Goals as goal
 
@@ -13,9 +13,9 @@ returns-then-field_at-kind c =
 
 pub returns : goal.returns
 returns c =
-    let a = p.args in
+    let a = c.args in
     rw (
-      header_read a.kind a.mem.now p.if-mem-lt8.false (sym p.field_at.ensures.0 ∙ p.if-field_at-kind.false),
+      header_read a.kind a.mem.now c.if-mem-lt8.false (sym c.field_at.ensures.0 ∙ c.if-field_at-kind.false),
       ← c.field_at-2.ensures.0,
       ← c.field_at-3.ensures.0,
       ← c.field_at-4.ensures.0,

@@ -1,5 +1,5 @@
 -- `wire::symbol_count` meets its contract.
-use Rattle.words.specs.Words.{rules, refl}
+use Rattle.words.specs.Words.{refl}
 use Rattle.wire.specs.Packets.{symbol_count}
 use Rattle.wire.proofs.symbol_count.Goals as goal
 

@@ -1,5 +1,5 @@
 -- `wire::write_flows` meets its contract.
-use Rattle.words.specs.Words.{◌≡◌, arith, length, rules}
+use Rattle.words.specs.Words.{◌≡◌, arith, length}
 use Rattle.memory.proofs.Parts.{whole}
 use Rattle.wire.proofs.write_flows.Goals as goal
 

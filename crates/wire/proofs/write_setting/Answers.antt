@@ -1,5 +1,5 @@
 -- `wire::write_setting` meets its contract.
-use Rattle.words.specs.Words.{rules, refl, ◌++◌}
+use Rattle.words.specs.Words.{refl, ◌++◌}
 use Rattle.memory.specs.Number.{bytes}
 use Rattle.wire.specs.Settings.{scheme_number}
 use Rattle.wire.specs.Stored.{setting_bytes}
@@ -9,7 +9,7 @@ use Rattle.wire.proofs.write_setting.Goals as goal
 pub returns : goal.returns
 unfolding setting_bytes
 returns c =
-    let a = p.args in
+    let a = c.args in
     let x = bytes 2 a.kind in
     let y = bytes 2 (scheme_number a.setting.scheme) in
     let z = bytes 2 a.setting.size in

@@ -1,5 +1,5 @@
 -- `wire::write_source` meets its contract.
-use Rattle.words.specs.Words.{length, rules, refl}
+use Rattle.words.specs.Words.{length, refl}
 use Rattle.memory.specs.Number.{bytes}
 use Rattle.memory.proofs.Parts.{whole}
 use Rattle.wire.specs.Packets.{source_packet}

@@ -1,5 +1,5 @@
 -- `field::Multiples::times` meets its contract.
-use Rattle.words.specs.Words.{arith, ℕ, List, rules, ap, xor_zero_r}
+use Rattle.words.specs.Words.{arith, ℕ, List, ap, xor_zero_r}
 use Rattle.field.proofs.Linear.{chosen, chosen_product}
 use Rattle.field.proofs.Multiples.times.Goals as goal
 

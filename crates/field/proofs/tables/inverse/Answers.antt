@@ -1,5 +1,5 @@
 -- `field::tables::inverse` meets its contract: the inverse of 2^e is 2^(255 - e).
-use Rattle.words.specs.Words.{rules, ◌∙◌, sym, ap}
+use Rattle.words.specs.Words.{◌∙◌, sym, ap}
 use Rattle.field.specs.Powers.{inverse}
 use Rattle.field.proofs.Laws.{inverse_by_logarithm, inverse-zero}
 use Rattle.field.proofs.tables.inverse.Goals as goal

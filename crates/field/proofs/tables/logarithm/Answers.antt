@@ -1,5 +1,5 @@
 -- `field::tables::logarithm` meets its contract, by the rule of the table.
-use Rattle.words.specs.Words.{arith, ℕ, List, rules, ◌-◌, get_or}
+use Rattle.words.specs.Words.{arith, ℕ, List, ◌-◌, get_or}
 use mathlib.Core.Path.{subst⁻¹}
 use Rattle.field.specs.Logarithm.{IsLogarithm}
 use Rattle.field.proofs.Laws.{logarithms_at}
@@ -9,7 +9,3 @@ pub returns : goal.returns
 returns c =
     subst⁻¹ (λ (l : List ℕ). IsLogarithm c.args.x (get_or l (c.args.x - 1) 0)) c.requires.0
     (logarithms_at c.args.x c.requires.1 (omega arith))
-
--- LEFT -- no such goal now: overflow-cast-result
--- LEFT cast-result : tie.Need-overflow-cast-result
--- LEFT cast-result c = omega (arith, returns c)

@@ -1,5 +1,5 @@
 -- `holding::find::side_of` meets its contract.
-use Rattle.words.specs.Words.{arith, rules}
+use Rattle.words.specs.Words.{arith}
 use Rattle.history.specs.History.{halfway}
 use Rattle.holding.proofs.Standing.{finds_ahead, finds_behind}
 use Rattle.holding.proofs.find.side_of.Goals as goal

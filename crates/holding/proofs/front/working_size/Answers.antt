@@ -1,5 +1,5 @@
 -- `holding::front::working_size` meets its contract: one row more than a receiver needs, and a byte for it.
-use Rattle.words.specs.Words.{rules, arith, ℕ, ◌+◌, ◌*◌, ◌≡◌, suc-mul, add-one}
+use Rattle.words.specs.Words.{arith, ℕ, ◌+◌, ◌*◌, ◌≡◌, suc-mul, add-one}
 use Rattle.wire.specs.declared.Setting.{Setting}
 use Rattle.history.specs.History.{memory_size, working_size}
 use Rattle.table.specs.Window.{stride}
@@ -15,19 +15,16 @@ sum s a b e f =
     let more : (s.width + 1) * k ≡ s.width * k + k = rw add-one (suc-mul s.width k) in
     omega (arith, e, f, more)
 
-abbrev start : After-stride → After-stride
-start p = p⟪Start⟫
-
-total : (p : After-stride) → p.memory_size.result + p.stride.result + 1 ≡ working_size (start p).args.setting
-total p =
-    let rows = p.rows_of_lem.ensures in
-    sum (start p).args.setting _ _ p.memory_size.ensures (rw (rows.0, rows.1) at p.stride.ensures)
+total : (c : After-stride) → c.memory_size.result + c.stride.result + 1 ≡ working_size c.args.setting
+total c =
+    let rows = c.rows_of.ensures in
+    sum c.args.setting _ _ c.memory_size.ensures (rw (rows.0, rows.1) at c.stride.ensures)
 
 pub overflow_add-result : goal.overflow_add-result
-overflow_add-result c = omega (arith, working_area _ (start (goal.at.overflow_add-result c).After-stride).requires, total (goal.at.overflow_add-result c).After-stride, (start (goal.at.overflow_add-result c).After-stride).requires.width_most)
+overflow_add-result c = omega (arith, working_area _ c.requires, total c, c.requires.width_most)
 
 pub overflow_add-result-2 : goal.overflow_add-result-2
-overflow_add-result-2 c = omega (arith, working_area _ (start (goal.at.overflow_add-result-2 c).After-stride).requires, total (goal.at.overflow_add-result-2 c).After-stride, (start (goal.at.overflow_add-result-2 c).After-stride).requires.width_most)
+overflow_add-result-2 c = omega (arith, working_area _ c.requires, total c, c.requires.width_most)
 
 pub returns : goal.returns
-returns c = total (goal.at.returns c).After-stride
+returns c = total c
