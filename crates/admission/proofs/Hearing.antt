@@ -13,7 +13,7 @@ use Rattle.origins.proofs.Hearing.{hears_same}
 use Rattle.history.specs.History.{memory_size}
 use Rattle.history.specs.Model.{Joined}
 use Rattle.holding.specs.declared.Header.{Header}
-use Rattle.holding.specs.Layout.{header_from, MarksFrom}
+use Rattle.holding.specs.Layout.{MarksFrom}
 use Rattle.holding.proofs.Headers.{memory_is}
 use Rattle.admission.specs.declared.packet.Location.{Location}
 use Rattle.admission.specs.Joining.{Based}

@@ -1,10 +1,9 @@
 -- A source packet's equations: a row with the coefficient one at the symbol's position spells the model's equation, and all are the model's packet.
 use Rattle.words.specs.Words.{◌≡◌, arith, ℕ, length, ◌+◌, List, ◌<◌, refl, ◌∙◌, sym, ap, ◌-◌, [], ◌%◌, ◌∷◌, suc, zero, get_or, map, ap₂, mod-add-mod}
 use Rattle.memory.specs.Part.{splice}
-use Rattle.wire.specs.Packets.{symbol_count, adui, symbol_at, source_symbols}
+use Rattle.wire.specs.Packets.{symbol_count, symbol_at, source_symbols}
 use Rattle.decoder.specs.Bytes.{Coded}
-use Rattle.decoder.specs.Stretch.{symbol_cut_at}
-use Rattle.table.specs.Window.{row_offset, row}
+use Rattle.table.specs.Window.{row_offset}
 use Rattle.table.specs.RowSteps.{RowOf}
 use Rattle.gather.proofs.Spelling.{spells_one}
 use Rattle.admission.specs.declared.packet.Location.{Location}

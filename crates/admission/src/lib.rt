@@ -2,7 +2,6 @@
 // equations are found to agree with the state, the state is only read.
 #![tactic(auto)]
 
-
 pub mod packet;
 pub mod repair;
 pub mod source;

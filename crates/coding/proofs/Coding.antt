@@ -8,7 +8,7 @@ use mir.Val.{to_z, of_z}
 use mir.Facts.{to_z_pos, to_z-of_z}
 use Rattle.wire.specs.declared.Refusal.{Refusal}
 use Rattle.wire.specs.declared.Refusal.TheVariants.{Values, Short, Unopened, Long, Form, Range, Empty, Behind, Ahead, Draws, Contradiction, Unknown, NoStart}
-use Rattle.wire.specs.declared.Refusal.TheVariants.{Padding}
+use Rattle.wire.specs.declared.Refusal.TheVariants.{Padding, Unannounced, Grid, Block}
 use Rattle.wire.specs.Numbers.{number_of}
 use Rattle.latency.specs.declared.WindowAnswer.{WindowAnswer}
 use Rattle.latency.specs.declared.WindowAnswer.TheVariants.{Divided, NotDivided}

@@ -13,7 +13,7 @@ use Rattle.wire.specs.Numbers.{number_of}
 use Rattle.wire.specs.Flows.{announced, flows_in}
 use Rattle.wire.specs.Packets.{symbol_count}
 use Rattle.decoder.specs.Bytes.{Coded}
-use Rattle.decoder.specs.Model.{State, end}
+use Rattle.decoder.specs.Model.{State}
 use Rattle.table.specs.Window.{row_offset, Window, Fits}
 use Rattle.placing.specs.Place.{KnownAt}
 use Rattle.placing.proofs.Showing.{symbol_bytes}

@@ -14,7 +14,6 @@ use Rattle.table.specs.Window.{header_size, stride, row_offset, Fits}
 use Rattle.starts.specs.Starts.{Starts, owning, moved, pass, seen}
 use Rattle.starts.proofs.Settling.{unseen_settled}
 use Rattle.marks.proofs.Gaining.{unseen_empty}
-use Rattle.wire.specs.declared.Answer.{Answer}
 use Rattle.wire.specs.declared.Answer.TheVariants.{Done, Refused}
 use Rattle.holding.specs.declared.Header.{Header}
 use Rattle.admission.specs.declared.packet.Location.{Location}

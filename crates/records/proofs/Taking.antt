@@ -12,7 +12,7 @@ use Prim.Native.Nat.{suc-le-suc, zero-le}
 use Rattle.lines.specs.Lines.{lines_from}
 use Rattle.lines.specs.Promises.{Unbroken}
 use Rattle.records.specs.declared.Progress.{Progress}
-use Rattle.records.specs.Standing.{Standing, opening, closed, working, after_line, printed_line, after, printed_by, Stands}
+use Rattle.records.specs.Standing.{Standing, opening, closed, working, after_line, printed_line, printed_by, Stands}
 use Rattle.records.specs.Taking.{is_final, takes_line, taken_of, taken_from, ended_in, unended_in, takes_after, Exactly, TakenExactly}
 use Rattle.records.specs.Promises.{is_over}
 

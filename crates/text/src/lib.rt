@@ -1,3 +1,2 @@
 // Text as bytes. No code: the definitions stand in specs/.
 #![tactic(auto)]
-

@@ -1,7 +1,6 @@
 -- `buckets::fill` meets its contract. The loop: the first k rows are in the buckets.
-use Rattle.words.specs.Words.{◌≡◌, sym, ap, ◌∙◌, mod-lt, ℕ, ◌≤◌, ◌<◌, ◌-◌, arith, length, length-replicate, rules}
+use Rattle.words.specs.Words.{◌≡◌, ap, ◌∙◌, mod-lt, ℕ, ◌<◌, arith, length, length-replicate, rules}
 use Rattle.rows.specs.Combination.{coefficient}
-use Rattle.buckets.specs.Buckets.{Filled}
 use Rattle.buckets.proofs.Filling.{filled_none, filled_turn}
 use Rattle.buckets.proofs.fill.Goals as goal
 
@@ -53,7 +52,3 @@ returns c =
     let t = c.loop-k in
     let e : t.k ≡ length c.args.cs.now = omega arith in
     (t.invariant.1, rw e at t.invariant.2)
-
--- LEFT -- no such goal now: overflow-cast-c
--- LEFT cast-c : tie.Need-overflow-cast-c invariant-loop decreases-loop
--- LEFT cast-c c = search (needs, c.shared-slice-known3.given c.before.before.loop.k)

@@ -1,8 +1,6 @@
 -- `buckets::fill` meets its contract. The loop: the first k rows are in the buckets.
-use Rattle.words.specs.Words.{◌≡◌, sym, ap, ◌∙◌, mod-lt, ℕ, ◌≤◌, ◌<◌, ◌-◌, arith, length, length-replicate, rules}
-use Rattle.rows.specs.Combination.{coefficient}
+use Rattle.words.specs.Words.{◌≡◌, ◌≤◌, ◌-◌, length}
 use Rattle.buckets.specs.Buckets.{Filled}
-use Rattle.buckets.proofs.Filling.{filled_none, filled_turn}
 use Rattle.buckets.proofs.fill.Given as goal
 
 abbrev pub invariant-loop-k : goal.invariant-loop-k

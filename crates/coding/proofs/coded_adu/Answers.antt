@@ -1,5 +1,4 @@
 -- `coding::coded_adu` meets its contract.
-use Rattle.words.specs.Words.{rules}
 use Rattle.coding.proofs.Coding.{adu_large}
 use Rattle.coding.proofs.coded_adu.Goals as goal
 

@@ -1,5 +1,5 @@
 -- `coding::coded_count` meets its contract: the count alone, or the draws alone, are past the largest number; or they make a value together.
-use Rattle.words.specs.Words.{arith, rules}
+use Rattle.words.specs.Words.{arith}
 use Rattle.coding.proofs.Coding.{value_large}
 use Rattle.coding.proofs.coded_count.Goals as goal
 

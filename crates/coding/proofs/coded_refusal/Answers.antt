@@ -1,5 +1,5 @@
 -- `coding::coded_refusal` meets its contract.
-use Rattle.words.specs.Words.{arith, rules, ◌∙◌, ap}
+use Rattle.words.specs.Words.{arith, ◌∙◌, ap}
 use Rattle.wire.specs.Answers.{refusal}
 use Rattle.coding.specs.Coding.{coded}
 use Rattle.coding.proofs.Coding.{handed, negated, negated_fits}

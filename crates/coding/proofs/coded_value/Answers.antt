@@ -1,5 +1,4 @@
 -- `coding::coded_value` meets its contract.
-use Rattle.words.specs.Words.{rules}
 use Rattle.coding.proofs.Coding.{value_small, value_large}
 use Rattle.coding.proofs.coded_value.Goals as goal
 

@@ -26,7 +26,8 @@ reduce_within-requires c = works-then (goal.at.reduce_within-requires c).After-r
 pub settle-requires : goal.settle-requires
 settle-requires c =
     let a = c.args in (
-      works_only (omega (arith, flags_fit a.shape.width a.shape.size)) c.reduce_within.ensures.only (works-then (goal.at.settle-requires c).After-reduce-any),
+      works_only (omega (arith, flags_fit a.shape.width a.shape.size)) c.reduce_within.ensures.only
+          (works-then (goal.at.settle-requires c).After-reduce-any),
       search rules,
     )
 

@@ -35,9 +35,3 @@ returns c =
     c.row_offset-at.ensures.start
     c.row_offset-from.ensures.start c.requires.0 c.requires.1
     c.add_within.new.mem c.add_within.ensures
-
--- LEFT -- no such goal now: overflow-cast-c
--- LEFT cast-c : tie.Need-overflow-cast-c
--- LEFT cast-c c =
--- LEFT     let a = c.before.before.before.before.before.args in
--- LEFT     omega (arith, c.slice-known2.given (c.before.row-offset2.result + (a.shape.width + a.shape.size)))

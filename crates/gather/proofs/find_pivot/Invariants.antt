@@ -6,7 +6,8 @@ use Rattle.gather.proofs.find_pivot.Given as goal
 
 abbrev pub invariant-loop-i : goal.invariant-loop-i
 invariant-loop-i l =
-    (l.i ≤ l.w) × (l.w ≡ l.shape.width) × (l.c ≡ (l.first + l.i) % l.w) × (l.c < l.w) × Blank l.w l.first l.i (row l.w l.shape.size l.r l.work)
+    (l.i ≤ l.w) × (l.w ≡ l.shape.width) × (l.c ≡ (l.first + l.i) % l.w) × (l.c < l.w)
+    × Blank l.w l.first l.i (row l.w l.shape.size l.r l.work)
 
 abbrev pub decreases-loop-i : goal.decreases-loop-i
 decreases-loop-i l = l.w - l.i

@@ -7,7 +7,8 @@ use Rattle.gather.proofs.reduce_within.Given as goal
 
 abbrev pub invariant-loop-j : goal.invariant-loop-j
 invariant-loop-j l =
-    (l.j ≤ l.k) × PacketReduced l.shape.width l.shape.size l.k l.j l.initial.work l.work × Works l.shape.width l.shape.size l.k l.work × Bytes l.work
+    (l.j ≤ l.k) × PacketReduced l.shape.width l.shape.size l.k l.j l.initial.work l.work
+    × Works l.shape.width l.shape.size l.k l.work × Bytes l.work
     × (length l.work ≡ length l.initial.work)
 
 abbrev pub decreases-loop-j : goal.decreases-loop-j

@@ -1,6 +1,6 @@
 -- `handing::all_known` meets its contract. The loop: the positions before the i-th from d on are known.
-use Rattle.words.specs.Words.{arith, ◌≤◌, ◌+◌, rules, ◌-◌, true, false, not-false, not-true}
-use Rattle.handing.proofs.Giving.{KnownFrom, known_is, known-none, known_more, known_all, known-not, known_beyond}
+use Rattle.words.specs.Words.{arith, ◌+◌, rules, true, false}
+use Rattle.handing.proofs.Giving.{known_is, known-none, known_more, known_all, known-not, known_beyond}
 use Rattle.handing.proofs.all_known.Goals as goal
 
 pub returns-then-shape-d : goal.returns-then-shape-d
@@ -19,7 +19,7 @@ returns-then-not-is_known c =
     let known = c.is_known in
     known-not _ _ _ _ c.requires.0 (λ i. (c.type_inv.mem i).fits) _ _ loop.i
     (omega arith) (omega arith)
-    (known_is _ _ _ _ (c.args.d + loop.i) _ _ false c.row_of-r.ensures.is (not-true known.result c.if-not-is_known.true) known.ensures)
+    (known_is _ _ _ _ (c.args.d + loop.i) _ _ false c.row_of-r.ensures.is c.if-not-is_known.true known.ensures)
 
 pub loop-i-preserved : goal.loop-i-preserved
 loop-i-preserved c =
@@ -29,7 +29,7 @@ loop-i-preserved c =
     let known = c.is_known in (
       search rules,
       known_more s.width s.size s.oldest a.mem.now a.d loop.i loop.invariant.1
-          (known_is _ _ _ _ (a.d + loop.i) _ _ true c.row_of-r.ensures.is (not-false known.result c.if-not-is_known.false) known.ensures),
+          (known_is _ _ _ _ (a.d + loop.i) _ _ true c.row_of-r.ensures.is c.if-not-is_known.false known.ensures),
     )
 
 pub returns : goal.returns

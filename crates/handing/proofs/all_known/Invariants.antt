@@ -1,6 +1,6 @@
 -- `handing::all_known` meets its contract. The loop: the positions before the i-th from d on are known.
-use Rattle.words.specs.Words.{arith, ◌≤◌, ◌+◌, rules, ◌-◌, true, false, not-false, not-true}
-use Rattle.handing.proofs.Giving.{KnownFrom, known_is, known-none, known_more, known_all, known-not, known_beyond}
+use Rattle.words.specs.Words.{◌≤◌, ◌-◌}
+use Rattle.handing.proofs.Giving.{KnownFrom}
 use Rattle.handing.proofs.all_known.Given as goal
 
 abbrev pub invariant-loop-i : goal.invariant-loop-i

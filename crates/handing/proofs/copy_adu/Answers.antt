@@ -1,7 +1,6 @@
 -- `handing::copy_adu` meets its contract. The loop: the ADU's bytes of the symbols before the i-th have been copied.
-use Rattle.words.specs.Words.{◌≡◌, arith, ◌≤◌, length, rules, ◌-◌}
-use Rattle.handing.specs.HandSteps.{text}
-use Rattle.handing.proofs.Copying.{span_some, Copied, copied_none, copied_length, copied_all, copied_more}
+use Rattle.words.specs.Words.{◌≡◌, arith, length, rules}
+use Rattle.handing.proofs.Copying.{span_some, copied_none, copied_length, copied_all, copied_more}
 use Rattle.handing.proofs.copy_adu.Goals as goal
 use Rattle.handing.proofs.copy_adu.Goals.{At-loop-i}
 
@@ -23,14 +22,14 @@ pub symbol_of-from-requires : goal.symbol_of-from-requires
 symbol_of-from-requires c = (search rules, omega (arith, c.requires.2.within), search rules, search rules)
 
 pub overflow_add-from : goal.overflow_add-from
-overflow_add-from c = omega (arith, c.symbol_of_index.ensures.small, c.loop-i.invariant.1.skips)
+overflow_add-from c = omega (arith, c.symbol_of-from.ensures.small, c.loop-i.invariant.1.skips)
 
 pub copy_part-requires : goal.copy_part-requires
 copy_part-requires c =
     let s = c.requires in
     let done = c.loop-i.invariant.1 in
     let k = c.least-k.ensures in
-    (omega (arith, same (goal.at.copy_part-requires c).At-loop-i, k, done.most), omega (arith, c.symbol_of_index.ensures.end, s.0.room, k, done.skips))
+    (omega (arith, same (goal.at.copy_part-requires c).At-loop-i, k, done.most), omega (arith, c.symbol_of-from.ensures.end, s.0.room, k, done.skips))
 
 pub overflow_add-at : goal.overflow_add-at
 overflow_add-at c =
@@ -39,7 +38,7 @@ overflow_add-at c =
 pub loop-i-preserved : goal.loop-i-preserved
 loop-i-preserved c =
     let s = c.requires in
-    let symbol = c.symbol_of_index in
+    let symbol = c.symbol_of-from in
     let k = c.least-k in (
       search rules,
       copied_more _ _ _ _ _ _ _ _ _ _ _ _ s.0 s.2 s.3 c.loop-i.invariant.1 (omega arith) k.result k.ensures symbol.result

@@ -1,7 +1,7 @@
 -- `handing::copy_adu` meets its contract. The loop: the ADU's bytes of the symbols before the i-th have been copied.
-use Rattle.words.specs.Words.{◌≡◌, arith, ◌≤◌, length, rules, ◌-◌}
+use Rattle.words.specs.Words.{◌≤◌, ◌-◌}
 use Rattle.handing.specs.HandSteps.{text}
-use Rattle.handing.proofs.Copying.{span_some, Copied, copied_none, copied_length, copied_all, copied_more}
+use Rattle.handing.proofs.Copying.{Copied}
 use Rattle.handing.proofs.copy_adu.Given as goal
 
 abbrev pub invariant-loop-i : goal.invariant-loop-i

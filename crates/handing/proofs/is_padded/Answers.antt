@@ -20,7 +20,8 @@ pub overflow_sub-n : goal.overflow_sub-n
 overflow_sub-n c = omega (arith, some (goal.at.overflow_sub-n c).Start)
 
 pub symbol_of-last-requires : goal.symbol_of-last-requires
-symbol_of-last-requires c = (search rules, omega (arith, some (goal.at.symbol_of-last-requires c).Start, c.requires.2.within), search rules, search rules)
+symbol_of-last-requires c =
+    (search rules, omega (arith, some (goal.at.symbol_of-last-requires c).Start, c.requires.2.within), search rules, search rules)
 
 pub overflow_sub-len : goal.overflow_sub-len
 overflow_sub-len c = omega (arith, before (goal.at.overflow_sub-len c).Start)
@@ -29,9 +30,9 @@ pub or_all-requires : goal.or_all-requires
 or_all-requires c =
     let p = c.requires in
     let last = span_last _ _ _ _ _ p.0.some_symbol p.2 in
-    (omega (arith, last), omega (arith, c.symbol_of_index.ensures.end, p.0.room))
+    (omega (arith, last), omega (arith, c.symbol_of-last.ensures.end, p.0.room))
 
 pub returns : goal.returns
 returns c =
     let p = c.requires in
-    padding_test _ _ _ _ _ _ _ p.0 p.2 _ _ c.symbol_of_index.ensures.start c.or_all.ensures
+    padding_test _ _ _ _ _ _ _ p.0 p.2 _ _ c.symbol_of-last.ensures.start c.or_all.ensures

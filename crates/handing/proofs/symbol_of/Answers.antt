@@ -1,5 +1,4 @@
 -- `handing::symbol_of` meets its contract.
-use Rattle.words.specs.Words.{rules}
 use Rattle.handing.proofs.Copying.{symbol_found}
 use Rattle.handing.proofs.symbol_of.Goals as goal
 

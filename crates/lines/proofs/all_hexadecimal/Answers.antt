@@ -1,6 +1,5 @@
 -- `lines::all_hexadecimal` meets its contract. The loop's invariant: all are digits if those before i are, and the others are.
-use Rattle.words.specs.Words.{◌≡◌, arith, ◌≤◌, length, rules, refl, ◌∙◌, sym, ◌-◌, drop, ◌&&◌}
-use Rattle.lines.specs.Inner.{all_digits}
+use Rattle.words.specs.Words.{arith, refl, ◌∙◌, sym}
 use Rattle.lines.proofs.Digits.{next_looked_at, all_looked_at}
 use Rattle.lines.proofs.all_hexadecimal.Goals as goal
 

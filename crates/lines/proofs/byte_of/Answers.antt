@@ -1,22 +1,16 @@
 -- `lines::byte_of` meets its contract.
-use Rattle.words.specs.Words.{arith, rules}
-use Rattle.lines.proofs.Digits.{Paired, paired}
+use Rattle.words.specs.Words.{arith}
+use Rattle.lines.proofs.Digits.{paired}
 use Rattle.lines.proofs.byte_of.Goals as goal
-use Rattle.lines.proofs.byte_of.Goals.{Start}
 
--- the values of the two digits
-values : (c : Start) → Paired c.args.high c.args.low
-values c = paired c.args.high c.args.low c.requires.0 c.requires.1
+pub overflow_sub-values : goal.overflow_sub-values
+overflow_sub-values c = let p = paired c.args.high c.args.low c.requires.0 c.requires.1 in omega arith
 
--- LEFT -- an inline answer, at place 2 of 9 (needs now: 9):
--- LEFT (λ c. omega (arith, values c))
--- LEFT -- an inline answer, at place 3 of 9 (needs now: 9):
--- LEFT (λ c. omega (arith, values c))
--- LEFT -- an inline answer, at place 4 of 9 (needs now: 9):
--- LEFT (λ c. omega (arith, values c))
--- LEFT -- an inline answer, at place 6 of 9 (needs now: 9):
--- LEFT (λ c. omega (arith, values c))
--- LEFT -- an inline answer, at place 7 of 9 (needs now: 9):
--- LEFT (λ c. omega (arith, values c))
--- LEFT -- an inline answer, at place 8 of 9 (needs now: 9):
--- LEFT (λ c. omega (arith, values c))
+pub overflow_sub-values-2 : goal.overflow_sub-values-2
+overflow_sub-values-2 c = let p = paired c.args.high c.args.low c.requires.0 c.requires.1 in omega arith
+
+pub overflow_cast-result : goal.overflow_cast-result
+overflow_cast-result c = let p = paired c.args.high c.args.low c.requires.0 c.requires.1 in omega arith
+
+pub returns : goal.returns
+returns c = let p = paired c.args.high c.args.low c.requires.0 c.requires.1 in omega arith

@@ -1,8 +1,6 @@
 -- `lines::ends_within` meets its contract. The loop's invariant: where no 0A was found, none of the k bytes is one.
-use Rattle.words.specs.Words.{◌≡◌, arith, ◌≤◌, ◌-◌, false, drop}
-use borrow.Author.Count.{below_none}
+use Rattle.words.specs.Words.{◌≡◌, ◌≤◌, ◌-◌, false, drop}
 use Rattle.lines.specs.Inner.{NoEnd}
-use Rattle.lines.proofs.Breaks.{piece_more}
 use Rattle.lines.proofs.ends_within.Given as goal
 
 abbrev pub invariant-loop-k : goal.invariant-loop-k

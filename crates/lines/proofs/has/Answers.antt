@@ -1,6 +1,5 @@
 -- `lines::has` meets its contract. The loop's invariant: the text is at `at` exactly where its bytes from i on are at `at + i`.
-use Rattle.words.specs.Words.{◌≡◌, arith, ◌≤◌, ◌+◌, length, ◌∙◌, sym, ◌-◌, drop, add-zero}
-use Rattle.lines.specs.Reading.{after}
+use Rattle.words.specs.Words.{◌≡◌, arith, length, ◌∙◌, sym, add-zero}
 use Rattle.lines.proofs.Texts.{no_room, same_byte, other_byte, all_bytes}
 use Rattle.lines.proofs.has.Goals as goal
 
@@ -12,13 +11,13 @@ loop-i-init c = (omega arith, rw add-zero)
 
 pub returns-then-line-at-2 : goal.returns-then-line-at-2
 returns-then-line-at-2 c =
-    let a = p.args in
-    sym p.loop-i.invariant.1 ∙ other_byte a.line.now a.text.now a.at p.loop-i.i (omega arith) (omega arith) c.if-line-at-2.true
+    let a = c.args in
+    sym c.loop-i.invariant.1 ∙ other_byte a.line.now a.text.now a.at c.loop-i.i (omega arith) (omega arith) c.if-line-at-2.true
 
 pub loop-i-preserved : goal.loop-i-preserved
 loop-i-preserved c =
-    let a = p.args in
-    (omega arith, same_byte a.line.now a.text.now a.at p.loop-i.i (omega arith) (omega arith) c.if-line-at-2.false ∙ p.loop-i.invariant.1)
+    let a = c.args in
+    (omega arith, same_byte a.line.now a.text.now a.at c.loop-i.i (omega arith) (omega arith) c.if-line-at-2.false ∙ c.loop-i.invariant.1)
 
 pub returns : goal.returns
 returns c =

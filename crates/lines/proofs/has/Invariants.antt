@@ -1,7 +1,6 @@
 -- `lines::has` meets its contract. The loop's invariant: the text is at `at` exactly where its bytes from i on are at `at + i`.
-use Rattle.words.specs.Words.{◌≡◌, arith, ◌≤◌, ◌+◌, length, ◌∙◌, sym, ◌-◌, drop, add-zero}
+use Rattle.words.specs.Words.{◌≡◌, ◌≤◌, ◌+◌, length, ◌-◌, drop}
 use Rattle.lines.specs.Reading.{after}
-use Rattle.lines.proofs.Texts.{no_room, same_byte, other_byte, all_bytes}
 use Rattle.lines.proofs.has.Given as goal
 
 abbrev pub invariant-loop-i : goal.invariant-loop-i

@@ -1,5 +1,5 @@
 -- `lines::is_hexadecimal` meets its contract: each way out rewrites with the tests before it.
-use Rattle.words.specs.Words.{rules, le-leb, lt-leb}
+use Rattle.words.specs.Words.{le-leb, lt-leb}
 use Rattle.lines.proofs.Digits.{digits-named}
 use Rattle.lines.proofs.is_hexadecimal.Goals as goal
 

@@ -1,7 +1,6 @@
 -- `lines::line_end` meets its contract. The loop's invariant: no byte before i is 0A.
-use Rattle.words.specs.Words.{arith, ◌≤◌, length, rules, ◌-◌}
+use Rattle.words.specs.Words.{arith}
 use borrow.Author.Count.{below_more}
-use Rattle.lines.specs.Inner.{NoEnd}
 use Rattle.lines.proofs.line_end.Goals as goal
 
 pub returns-then-input-i-eq10 : goal.returns-then-input-i-eq10
@@ -12,6 +11,3 @@ loop-i-preserved c = (omega arith, below_more _ _ c.loop-i.invariant.1 c.if-inpu
 
 pub returns : goal.returns
 returns c = record { within = omega arith; before = c.loop-i.invariant.1; found = λ h. absurd (omega arith) }
-
--- LEFT -- an inline answer, at place 1 of 8 (needs now: 8):
--- LEFT (λ c. c.passed_over.ensures)

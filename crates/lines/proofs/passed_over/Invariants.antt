@@ -1,8 +1,6 @@
 -- `lines::passed_over` meets its contract. The loop's invariant: no line ends before i.
-use Rattle.words.specs.Words.{arith, ◌≤◌, length, ◌-◌}
-use borrow.Author.Count.{below_none}
+use Rattle.words.specs.Words.{◌≤◌, length, ◌-◌}
 use Rattle.lines.specs.Inner.{NoEnd}
-use Rattle.lines.proofs.Breaks.{piece_passed}
 use Rattle.lines.proofs.passed_over.Given as goal
 
 abbrev pub invariant-loop-i : goal.invariant-loop-i

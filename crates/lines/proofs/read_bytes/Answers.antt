@@ -1,6 +1,6 @@
 -- `lines::read_bytes` meets its contract. The loop's invariant: the bytes before k are those of the digits before `at + 2 * k`.
-use Rattle.words.specs.Words.{◌≡◌, arith, ◌≤◌, ◌+◌, length, rules, refl, ◌∙◌, sym, ◌-◌, ◌*◌, drop, ◌/◌, not-false, not-true, length-drop, length-set}
-use Rattle.lines.proofs.Digits.{odd_digits, no_digits, Bytewise, nothing_read, next_digits, more-read, all_read}
+use Rattle.words.specs.Words.{◌≡◌, arith, length, refl, ◌∙◌, sym, ◌-◌, drop, ◌/◌, length-drop, length-set}
+use Rattle.lines.proofs.Digits.{odd_digits, no_digits, nothing_read, next_digits, more-read, all_read}
 use Rattle.lines.proofs.read_bytes.Goals as goal
 
 pub returns-then-digits-eq1 : goal.returns-then-digits-eq1
@@ -11,12 +11,15 @@ returns-then-digits-eq1 c =
 pub returns-then-not-all_hexadecimal : goal.returns-then-not-all_hexadecimal
 returns-then-not-all_hexadecimal c =
     let p = c.all_hexadecimal in
-    record { bytes = sym (no_digits _ (sym p.ensures ∙ not-true p.result c.if-not-all_hexadecimal.true)); fits = tt }
+    record { bytes = sym (no_digits _ (sym p.ensures ∙ c.if-not-all_hexadecimal.true)); fits = tt }
 
 pub loop-k-init : goal.loop-k-init
 loop-k-init c =
     let p = c.all_hexadecimal in
-    (omega arith, refl, omega arith, nothing_read _ (sym p.ensures ∙ not-false p.result c.if-not-all_hexadecimal.false))
+    (omega arith, refl, omega arith, nothing_read _ (sym p.ensures ∙ c.if-not-all_hexadecimal.false))
+
+pub byte_of-requires : goal.byte_of-requires
+byte_of-requires c = next_digits c.loop-k.invariant.3 (omega arith)
 
 pub loop-k-preserved : goal.loop-k-preserved
 loop-k-preserved c =
@@ -29,8 +32,3 @@ returns c =
     let a = c.args in
     let e : l.k ≡ (length a.line.now - a.at) / 2 = omega arith in
     record { bytes = rw (← e) (all_read l.invariant.3 (omega arith)); fits = omega arith }
-
--- LEFT -- an inline answer, at place 12 of 19 (needs now: 17):
--- LEFT (λ c κs. next_digits c.before.before.before.loop.invariant.3 (omega arith))
--- LEFT -- an inline answer, at place 17 of 19 (needs now: 17):
--- LEFT (λ c. c.before.loop.invariant.1)

@@ -1,6 +1,6 @@
 -- `lines::read_bytes` meets its contract. The loop's invariant: the bytes before k are those of the digits before `at + 2 * k`.
-use Rattle.words.specs.Words.{◌≡◌, arith, ◌≤◌, ◌+◌, length, rules, refl, ◌∙◌, sym, ◌-◌, ◌*◌, drop, ◌/◌, not-false, not-true, length-drop, length-set}
-use Rattle.lines.proofs.Digits.{odd_digits, no_digits, Bytewise, nothing_read, next_digits, more-read, all_read}
+use Rattle.words.specs.Words.{◌≡◌, ◌≤◌, ◌+◌, length, ◌-◌, ◌*◌}
+use Rattle.lines.proofs.Digits.{Bytewise}
 use Rattle.lines.proofs.read_bytes.Given as goal
 
 abbrev pub invariant-loop-k : goal.invariant-loop-k

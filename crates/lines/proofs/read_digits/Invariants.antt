@@ -1,8 +1,6 @@
 -- `lines::read_digits` meets its contract. The loop's invariant: the number that has begun with `value` goes on from i.
-use Rattle.words.specs.Words.{◌≡◌, arith, ℕ, ◌≤◌, length, rules, refl, ◌∙◌, sym, ◌-◌, true, get_or, drop, not-false, not-true}
-use Rattle.wire.proofs.Settings.{within_bounds}
-use Rattle.lines.specs.Reading.{is_digit, number_from}
-use Rattle.lines.proofs.Numbers.{at_end, no_digit, too_large, one-digit}
+use Rattle.words.specs.Words.{◌≡◌, ◌≤◌, length, ◌-◌, drop}
+use Rattle.lines.specs.Reading.{number_from}
 use Rattle.lines.proofs.read_digits.Given as goal
 
 abbrev pub invariant-loop-i : goal.invariant-loop-i

@@ -1,5 +1,5 @@
 -- `lists::add_digit` meets its contract.
-use Rattle.words.specs.Words.{◌∙◌, ap, ap₂, rules}
+use Rattle.words.specs.Words.{◌∙◌, ap, ap₂}
 use Rattle.memory.proofs.Parts.{whole}
 use Rattle.rows.specs.Rows.{add_scaled}
 use Rattle.rows.specs.Sums.{row_at}

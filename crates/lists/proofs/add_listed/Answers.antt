@@ -1,7 +1,6 @@
 -- `lists::add_listed` meets its contract. The loop: the rows of the first j elements of the list have been added.
-use Rattle.words.specs.Words.{◌≡◌, refl, arith, ◌≤◌, ◌-◌, ◌*◌, ◌+◌, length, get_or, rules}
+use Rattle.words.specs.Words.{◌≡◌, refl, arith, ◌*◌, get_or, rules}
 use Rattle.memory.proofs.Parts.{get_or-part}
-use Rattle.rows.specs.Sums.{row_at}
 use Rattle.lists.specs.Named.{added, list_of}
 use Rattle.lists.proofs.Named.{added_turn}
 use Rattle.lists.proofs.add_listed.Goals as goal
@@ -62,14 +61,3 @@ returns c =
     let a = c.args in
     let e : c.loop-j.j ≡ get_or a.counts.now a.t 0 = omega arith in
     rw e at c.loop-j.invariant.1
-
--- LEFT -- no such goal now: overflow-cast-r
--- LEFT cast-r : tie.Need-overflow-cast-r invariant-loop decreases-loop
--- LEFT cast-r c =
--- LEFT     let a = c.before.before.before.before.before.before.before.before.args in
--- LEFT     omega (arith, (c.shared-slice-known5.given (a.t * 64 + c.before.before.loop.j)).fits)
--- LEFT -- no such goal now: overflow-add-j
--- LEFT add-j : tie.Need-overflow-add-j invariant-loop decreases-loop
--- LEFT add-j c =
--- LEFT     let s = c.before.before.before.before.before.before.before.before.before.before.before.before in
--- LEFT     omega (arith, s.requires.2.few s.args.t (omega arith))

@@ -1,9 +1,7 @@
 -- `lists::add_listed` meets its contract. The loop: the rows of the first j elements of the list have been added.
-use Rattle.words.specs.Words.{◌≡◌, refl, arith, ◌≤◌, ◌-◌, ◌*◌, ◌+◌, length, get_or, rules}
-use Rattle.memory.proofs.Parts.{get_or-part}
+use Rattle.words.specs.Words.{◌≡◌, ◌≤◌, ◌-◌, length}
 use Rattle.rows.specs.Sums.{row_at}
 use Rattle.lists.specs.Named.{added, list_of}
-use Rattle.lists.proofs.Named.{added_turn}
 use Rattle.lists.proofs.add_listed.Given as goal
 
 abbrev pub invariant-loop-j : goal.invariant-loop-j

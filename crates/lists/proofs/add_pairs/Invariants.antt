@@ -1,8 +1,7 @@
 -- `lists::add_pairs` meets its contract. The loop: the j highest of the pairs have been added.
-use Rattle.words.specs.Words.{◌≡◌, refl, arith, ◌≤◌, ◌-◌, length, rules}
+use Rattle.words.specs.Words.{◌≡◌, ◌≤◌, ◌-◌, length}
 use Rattle.rows.specs.Sums.{row_at}
 use Rattle.lists.specs.Named.{pairs_added}
-use Rattle.lists.proofs.Named.{pairs_turn}
 use Rattle.lists.proofs.add_pairs.Given as goal
 
 abbrev pub invariant-loop-j : goal.invariant-loop-j

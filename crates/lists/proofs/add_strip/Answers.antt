@@ -1,19 +1,12 @@
 -- `lists::add_strip` meets its contract. The loop: the first i bytes are those of the sum.
-use Rattle.words.specs.Words.{◌≡◌, arith, ◌+◌, ◌≤◌, ◌-◌, length, get_or, rules}
+use Rattle.words.specs.Words.{◌≡◌, arith, ◌+◌, length, get_or}
 use Rattle.field.proofs.Laws.{product-one}
 use Rattle.memory.specs.Part.{part}
 use Rattle.memory.proofs.Parts.{length_part, get_or-part}
-use Rattle.memory.proofs.Loop.{Turned, turned_all}
-use Rattle.rows.specs.Rows.{add_scaled}
+use Rattle.memory.proofs.Loop.{turned_all}
 use Rattle.rows.proofs.Sums.{length_add_scaled}
 use Rattle.rows.proofs.Turns.{sum_more}
 use Rattle.lists.proofs.add_strip.Goals as goal
-
-pub bounds-acc-i : goal.bounds-acc-i
-bounds-acc-i c = search rules
-
-pub bounds-acc-i-in-loop-i : goal.bounds-acc-i-in-loop-i
-bounds-acc-i-in-loop-i c = search rules
 
 pub loop-i-preserved : goal.loop-i-preserved
 loop-i-preserved c =

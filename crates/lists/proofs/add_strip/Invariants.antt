@@ -1,12 +1,8 @@
 -- `lists::add_strip` meets its contract. The loop: the first i bytes are those of the sum.
-use Rattle.words.specs.Words.{◌≡◌, arith, ◌+◌, ◌≤◌, ◌-◌, length, get_or, rules}
-use Rattle.field.proofs.Laws.{product-one}
+use Rattle.words.specs.Words.{◌≤◌, ◌-◌}
 use Rattle.memory.specs.Part.{part}
-use Rattle.memory.proofs.Parts.{length_part, get_or-part}
-use Rattle.memory.proofs.Loop.{Turned, turned_all}
+use Rattle.memory.proofs.Loop.{Turned}
 use Rattle.rows.specs.Rows.{add_scaled}
-use Rattle.rows.proofs.Sums.{length_add_scaled}
-use Rattle.rows.proofs.Turns.{sum_more}
 use Rattle.lists.proofs.add_strip.Given as goal
 
 abbrev pub invariant-loop-i : goal.invariant-loop-i

@@ -1,5 +1,5 @@
 -- `lists::add_sum` meets its contract.
-use Rattle.words.specs.Words.{◌∙◌, ap, rules}
+use Rattle.words.specs.Words.{◌∙◌, ap}
 use Rattle.memory.proofs.Parts.{whole}
 use Rattle.rows.specs.Rows.{add_scaled}
 use Rattle.lists.proofs.add_sum.Goals as goal

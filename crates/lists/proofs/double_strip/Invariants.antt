@@ -1,9 +1,7 @@
 -- `lists::double_strip` meets its contract. The loop: the first i elements are those of the result.
-use Rattle.words.specs.Words.{arith, ◌≤◌, rules, ◌-◌}
-use Rattle.memory.proofs.Loop.{Turned, turned_all}
+use Rattle.words.specs.Words.{◌≤◌, ◌-◌}
+use Rattle.memory.proofs.Loop.{Turned}
 use Rattle.rows.specs.Rows.{scaled}
-use Rattle.rows.proofs.Sums.{length-scaled}
-use Rattle.rows.proofs.Turns.{scale_more}
 use Rattle.lists.proofs.double_strip.Given as goal
 
 abbrev pub invariant-loop-i : goal.invariant-loop-i

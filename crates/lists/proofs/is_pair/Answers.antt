@@ -1,5 +1,5 @@
 -- `lists::is_pair` meets its contract.
-use Rattle.words.specs.Words.{eq-eqb, ne_eqb, rules}
+use Rattle.words.specs.Words.{eq-eqb, ne_eqb}
 use Rattle.lists.proofs.is_pair.Goals as goal
 
 pub returns-then-c-e : goal.returns-then-c-e

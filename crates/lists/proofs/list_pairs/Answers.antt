@@ -1,7 +1,7 @@
 -- `lists::list_pairs` meets its contract. The loop: the first t lists are made.
-use Rattle.words.specs.Words.{◌≡◌, ◌∙◌, ap, arith, ◌≤◌, ◌-◌, ◌*◌, length, rules}
+use Rattle.words.specs.Words.{◌≡◌, ◌∙◌, ap, arith, ◌*◌, length}
 use Rattle.memory.proofs.Parts.{cut, put, length_part}
-use Rattle.lists.proofs.Named.{ListedFirst, listed-first, listed_pair}
+use Rattle.lists.proofs.Named.{listed-first, listed_pair}
 use Rattle.lists.proofs.list_pairs.Goals as goal
 
 pub overflow_mul-t-end : goal.overflow_mul-t-end
@@ -58,7 +58,3 @@ returns c =
     let e : t.t ≡ 3 * p.result = omega arith in
     let f = rw e at t.invariant.1 in
     record { most = p.ensures.0; above = p.ensures.1; listed = f.listed; others = f.others }
-
--- LEFT -- no such goal now: overflow-add-t
--- LEFT add-t : tie.Need-overflow-add-t invariant-loop decreases-loop
--- LEFT add-t c = omega (arith, c.before.before.before.before.before.before.pairs_of.ensures.0)

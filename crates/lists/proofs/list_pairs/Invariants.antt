@@ -1,7 +1,6 @@
 -- `lists::list_pairs` meets its contract. The loop: the first t lists are made.
-use Rattle.words.specs.Words.{◌≡◌, ◌∙◌, ap, arith, ◌≤◌, ◌-◌, ◌*◌, length, rules}
-use Rattle.memory.proofs.Parts.{cut, put, length_part}
-use Rattle.lists.proofs.Named.{ListedFirst, listed-first, listed_pair}
+use Rattle.words.specs.Words.{◌≤◌, ◌-◌}
+use Rattle.lists.proofs.Named.{ListedFirst}
 use Rattle.lists.proofs.list_pairs.Given as goal
 
 abbrev pub invariant-loop-t : goal.invariant-loop-t

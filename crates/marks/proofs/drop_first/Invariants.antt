@@ -1,8 +1,6 @@
 -- `marks::drop_first` meets its contract.
-use Rattle.words.specs.Words.{◌≡◌, arith, ◌≤◌, rules, ◌-◌}
+use Rattle.words.specs.Words.{◌≤◌, ◌-◌}
 use Rattle.marks.specs.MarkSteps.{Dropped}
-use Rattle.marks.proofs.Only.{only_fits}
-use Rattle.marks.proofs.Marking.{dropped_none, dropped_more, dropped_to}
 use Rattle.marks.proofs.drop_first.Given as goal
 
 abbrev pub invariant-loop-i : goal.invariant-loop-i

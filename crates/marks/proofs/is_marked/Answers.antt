@@ -1,5 +1,5 @@
 -- `marks::is_marked` meets its contract.
-use Rattle.words.specs.Words.{rules, ap, get_or, ltb}
+use Rattle.words.specs.Words.{ap, get_or, ltb}
 use Rattle.marks.proofs.is_marked.Goals as goal
 
 pub returns : goal.returns

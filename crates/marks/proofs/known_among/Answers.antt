@@ -1,6 +1,5 @@
 -- `marks::known_among` meets its contract.
-use Rattle.words.specs.Words.{arith, ◌≤◌, rules, ◌-◌}
-use Rattle.marks.specs.MarkSteps.{Tallied}
+use Rattle.words.specs.Words.{arith, rules}
 use Rattle.marks.proofs.Gaining.{tallied_none, tallied_more, tallied_to}
 use Rattle.marks.proofs.known_among.Goals as goal
 

@@ -1,7 +1,6 @@
 -- `marks::known_among` meets its contract.
-use Rattle.words.specs.Words.{arith, ◌≤◌, rules, ◌-◌}
+use Rattle.words.specs.Words.{◌≤◌, ◌-◌}
 use Rattle.marks.specs.MarkSteps.{Tallied}
-use Rattle.marks.proofs.Gaining.{tallied_none, tallied_more, tallied_to}
 use Rattle.marks.proofs.known_among.Given as goal
 
 abbrev pub invariant-loop-i : goal.invariant-loop-i

@@ -1,5 +1,5 @@
 -- `marks::move_on` meets its contract.
-use Rattle.words.specs.Words.{arith, rules, refl}
+use Rattle.words.specs.Words.{arith, refl}
 use Rattle.table.proofs.Offsets.{header-long}
 use Rattle.marks.proofs.Only.{only_fits, only_trans}
 use Rattle.marks.proofs.Marking.{written-only, moved_none, moved-far, moved_near}

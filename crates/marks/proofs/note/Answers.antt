@@ -1,5 +1,5 @@
 -- `marks::note` meets its contract.
-use Rattle.words.specs.Words.{arith, rules}
+use Rattle.words.specs.Words.{arith}
 use Rattle.table.proofs.Offsets.{header-long}
 use Rattle.marks.proofs.Passing.{noted_byte}
 use Rattle.marks.proofs.note.Goals as goal

@@ -1,5 +1,5 @@
 -- `marks::one_known` meets its contract.
-use Rattle.words.specs.Words.{arith, rules}
+use Rattle.words.specs.Words.{arith}
 use Rattle.marks.proofs.Gaining.{one_outside, one_known, one_unknown}
 use Rattle.marks.proofs.one_known.Goals as goal
 

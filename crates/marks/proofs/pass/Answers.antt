@@ -1,5 +1,5 @@
 -- `marks::pass` meets its contract.
-use Rattle.words.specs.Words.{arith, rules}
+use Rattle.words.specs.Words.{arith}
 use Rattle.marks.proofs.Only.{starts_fits}
 use Rattle.marks.proofs.Passing.{noted_only, passed_all}
 use Rattle.marks.proofs.pass.Goals as goal

@@ -1,11 +1,11 @@
 -- `marks::reach` meets its contract.
-use Rattle.words.specs.Words.{arith, rules, inr, inl}
+use Rattle.words.specs.Words.{arith, inr, inl}
 use Rattle.marks.proofs.Passing.{followed_none, followed_own}
 use Rattle.marks.proofs.reach.Goals as goal
 
 pub must_pass-requires : goal.must_pass-requires
 must_pass-requires c =
-    omega (arith, ⟪p2.requires.0.room⟫)
+    omega (arith, c.requires.0.room)
 
 pub returns-then-must_pass : goal.returns-then-must_pass
 returns-then-must_pass c =

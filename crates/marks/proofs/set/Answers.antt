@@ -1,5 +1,5 @@
 -- `marks::set` meets its contract.
-use Rattle.words.specs.Words.{arith, rules}
+use Rattle.words.specs.Words.{arith}
 use Rattle.marks.proofs.Marking.{added}
 use Rattle.marks.proofs.set.Goals as goal
 

@@ -1,5 +1,4 @@
 -- `marks::set_own` meets its contract.
-use Rattle.words.specs.Words.{rules}
 use Rattle.marks.proofs.Passing.{owned_some, owned_none}
 use Rattle.marks.proofs.set_own.Goals as goal
 

@@ -1,7 +1,7 @@
 -- `marks::step_all` meets its contract.
-use Rattle.words.specs.Words.{arith, ◌≤◌, rules, ◌-◌}
+use Rattle.words.specs.Words.{arith, rules}
 use Rattle.marks.proofs.Only.{starts_fits}
-use Rattle.marks.proofs.Passing.{Passing, passing-none, passing-more, passed}
+use Rattle.marks.proofs.Passing.{passing-none, passing-more, passed}
 use Rattle.marks.proofs.step_all.Goals as goal
 
 pub loop-i-init : goal.loop-i-init

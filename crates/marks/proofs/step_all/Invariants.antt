@@ -1,7 +1,6 @@
 -- `marks::step_all` meets its contract.
-use Rattle.words.specs.Words.{arith, ◌≤◌, rules, ◌-◌}
-use Rattle.marks.proofs.Only.{starts_fits}
-use Rattle.marks.proofs.Passing.{Passing, passing-none, passing-more, passed}
+use Rattle.words.specs.Words.{◌≤◌, ◌-◌}
+use Rattle.marks.proofs.Passing.{Passing}
 use Rattle.marks.proofs.step_all.Given as goal
 
 abbrev pub invariant-loop-i : goal.invariant-loop-i

@@ -1,7 +1,7 @@
 -- `marks::walk` meets its contract.
-use Rattle.words.specs.Words.{arith, ◌-◌}
+use Rattle.words.specs.Words.{arith}
 use Rattle.marks.proofs.Only.{starts_fits}
-use Rattle.marks.proofs.Passing.{Walking, walking_none, walking_more, walked}
+use Rattle.marks.proofs.Passing.{walking_none, walking_more, walked}
 use Rattle.marks.proofs.walk.Goals as goal
 
 pub loop-i-init : goal.loop-i-init

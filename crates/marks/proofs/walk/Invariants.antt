@@ -1,7 +1,6 @@
 -- `marks::walk` meets its contract.
-use Rattle.words.specs.Words.{arith, ◌-◌}
-use Rattle.marks.proofs.Only.{starts_fits}
-use Rattle.marks.proofs.Passing.{Walking, walking_none, walking_more, walked}
+use Rattle.words.specs.Words.{◌-◌}
+use Rattle.marks.proofs.Passing.{Walking}
 use Rattle.marks.proofs.walk.Given as goal
 
 abbrev pub invariant-loop-i : goal.invariant-loop-i

@@ -1,6 +1,5 @@
 -- `marks::walk_all` meets its contract.
-use Rattle.words.specs.Words.{arith, ◌≤◌, ◌+◌, rules, ◌<◌, ◌-◌}
-use Rattle.marks.specs.MarkSteps.{Followed}
+use Rattle.words.specs.Words.{arith, rules}
 use Rattle.marks.proofs.Only.{starts_fits}
 use Rattle.marks.proofs.Passing.{followed_none, followed_more, followed_to}
 use Rattle.marks.proofs.walk_all.Goals as goal

@@ -1,5 +1,5 @@
 -- `marks::write` meets its contract.
-use Rattle.words.specs.Words.{arith, rules}
+use Rattle.words.specs.Words.{arith}
 use Rattle.marks.proofs.Marking.{written}
 use Rattle.marks.proofs.write.Goals as goal
 

@@ -1,6 +1,5 @@
 -- `origins::fill` meets its contract.
-use Rattle.words.specs.Words.{arith, ◌≤◌, rules, ◌-◌}
-use Rattle.origins.specs.Steps.{Filled}
+use Rattle.words.specs.Words.{arith, rules}
 use Rattle.origins.proofs.Filling.{filled_none, filled_more, filled_to}
 use Rattle.origins.proofs.fill.Goals as goal
 

@@ -1,7 +1,6 @@
 -- `origins::fill` meets its contract.
-use Rattle.words.specs.Words.{arith, ◌≤◌, rules, ◌-◌}
+use Rattle.words.specs.Words.{◌≤◌, ◌-◌}
 use Rattle.origins.specs.Steps.{Filled}
-use Rattle.origins.proofs.Filling.{filled_none, filled_more, filled_to}
 use Rattle.origins.proofs.fill.Given as goal
 
 abbrev pub invariant-loop-i : goal.invariant-loop-i

@@ -1,5 +1,5 @@
 -- `origins::update` meets its contract.
-use Rattle.words.specs.Words.{arith, rules}
+use Rattle.words.specs.Words.{arith}
 use Rattle.origins.proofs.Filling.{only_fits, updated}
 use Rattle.origins.proofs.update.Goals as goal
 

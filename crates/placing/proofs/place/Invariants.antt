@@ -7,7 +7,8 @@ use Rattle.placing.proofs.place.Given as goal
 
 abbrev pub invariant-loop-q : goal.invariant-loop-q
 invariant-loop-q l =
-    (l.q ≤ l.w) × Cleared l.shape.width l.shape.size l.r l.q l.count l.row l.initial.mem l.mem × (l.q < l.w → get_or l.mem (row_offset l.shape.width l.shape.size l.q + l.r) 0 ≢ 0)
+    (l.q ≤ l.w) × Cleared l.shape.width l.shape.size l.r l.q l.count l.row l.initial.mem l.mem
+    × (l.q < l.w → get_or l.mem (row_offset l.shape.width l.shape.size l.q + l.r) 0 ≢ 0)
 
 abbrev pub decreases-loop-q : goal.decreases-loop-q
 decreases-loop-q l = l.w - l.q

@@ -1,10 +1,9 @@
 -- `receiver::symbol` meets its contract.
-use Rattle.words.specs.Words.{rules}
 use Rattle.receiver.proofs.Showing.{shown-found, shown_missing}
 use Rattle.receiver.proofs.symbol.Goals as goal
 
 pub returns-in-At : goal.returns-in-At
-returns-in-At c = shown-found _ _ c.find.result _ _ _ c.heard-1.given.1 c.find.ensures
+returns-in-At c = shown-found _ _ c.find.result _ _ _ c.in-At.is c.find.ensures
 
 pub returns-in-Nowhere : goal.returns-in-Nowhere
-returns-in-Nowhere c = shown_missing _ _ c.find.result _ c.n-1.given.1 c.find.ensures
+returns-in-Nowhere c = shown_missing _ _ c.find.result _ c.in-Nowhere.is c.find.ensures

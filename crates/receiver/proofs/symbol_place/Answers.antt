@@ -1,10 +1,9 @@
 -- `receiver::symbol_place` meets its contract.
-use Rattle.words.specs.Words.{rules}
 use Rattle.receiver.proofs.Placing.{place_found, place_missing}
 use Rattle.receiver.proofs.symbol_place.Goals as goal
 
 pub returns-in-At : goal.returns-in-At
-returns-in-At c = place_found _ _ c.find.result _ _ _ c.at-1.given.1 c.find.ensures
+returns-in-At c = place_found _ _ c.find.result _ _ _ c.in-At.is c.find.ensures
 
 pub returns-in-Nowhere : goal.returns-in-Nowhere
-returns-in-Nowhere c = place_missing _ _ c.find.result _ c.n-1.given.1 c.find.ensures
+returns-in-Nowhere c = place_missing _ _ c.find.result _ c.in-Nowhere.is c.find.ensures

@@ -1,5 +1,5 @@
 -- `strips::add_rows` meets its contract. The loop: the first `at` bytes are those of the sum.
-use Rattle.words.specs.Words.{◌≡◌, refl, sym, ap, ap₂, ◌∙◌, ◌+◌, ◌≤◌, ◌-◌, arith, length, rules}
+use Rattle.words.specs.Words.{◌≡◌, refl, sym, ap, ap₂, ◌∙◌, ◌+◌, ◌-◌, arith, length, rules}
 use Rattle.memory.specs.Part.{part}
 use Rattle.memory.proofs.Parts.{cut, put, length_part}
 use Rattle.rows.specs.Rows.{add_scaled}
@@ -24,8 +24,8 @@ add_strip-requires c =
     let l : length (part t.at 64 t.dst) ≡ 64 = length_part t.at 64 t.dst (omega arith) in
     rw (cut t.at 64 t.dst) (
       l,
-      ready_at a.a (a.a + t.at) (length a.dst.now) a.s (length a.mem.now) f.ensures c.requires.2 f.auto.lists f.auto.counts.0
-          f.auto.counts.1.0 f.auto.counts.1.1.0 c.requires.0 c.requires.1 (omega arith),
+      ready_at a.a (a.a + t.at) (length a.dst.now) a.s (length a.mem.now) f.ensures c.requires.2 f.auto.lists f.auto.counts
+          f.auto.order f.auto.ends c.requires.0 c.requires.1 (omega arith),
     )
 
 pub loop-at-preserved : goal.loop-at-preserved
@@ -56,33 +56,33 @@ add_strip-requires-2 c =
     let t = c.loop-at in
     let f = c.prepare-pairs in (
       refl,
-      ready_at a.a _ (length a.dst.now) a.s (length a.mem.now) f.ensures c.requires.2 f.auto.lists f.auto.counts.0
-          f.auto.counts.1.0 f.auto.counts.1.1.0 c.requires.0 c.requires.1 (omega arith),
+      ready_at a.a _ (length a.dst.now) a.s (length a.mem.now) f.ensures c.requires.2 f.auto.lists f.auto.counts
+          f.auto.order f.auto.ends c.requires.0 c.requires.1 (omega arith),
     )
 
 pub add-requires : goal.add-requires
 add-requires c =
-    let t = c.loop in
-    let d = ⟪c.before.before.before.before.before.before.before.before.before.before.before.before.before.before.before.before.before.before.before.before.before.before.before.before.before.args.dst.now⟫ in
+    let t = c.loop-at in
+    let d = c.args.dst.now in
     let w = length d - t.at in
-    let x = c.add-strip2 in
+    let x = c.add_strip-2 in
     let l = length_part t.at w t.dst (omega arith) in
-    let k = length_part (64 - w) w x.new.0 (omega (arith, x.auto.0)) in
-    rw (cut t.at w t.dst, cut (64 - w) w x.new.0) (l ∙ sym k)
+    let k = length_part (64 - w) w x.new.dst (omega (arith, x.auto.dst)) in
+    rw (cut t.at w t.dst, cut (64 - w) w x.new.dst) (l ∙ sym k)
 
 pub returns : goal.returns
 returns c =
-    let a = ⟪s.args⟫ in
-    let t = c.loop in
+    let a = c.args in
+    let t = c.loop-at in
     let d = a.dst.now in
     let w = length d - t.at in
     let r = c.add in
-    let x = c.add-strip2 in
+    let x = c.add_strip-2 in
     let e : t.at + w ≡ length d = omega arith in
     let row = row_at a.mem.now a.a a.s (length d) in
     let sum = rows_added a.cs.now a.mem.now a.a a.s (length d) d in
     put t.at w r.new.dst t.dst (omega arith) r.auto.dst
     ∙ strip_rest a.cs.now a.mem.now a.a a.s d t.dst r.new.dst t.at (a.a + t.at - (64 - w)) w
-    (λ i. (c.shared-slice-known.given i).fits) (omega (arith, c.loop-test.false)) (omega (arith, c.loop-test.false, ⟪s.requires.3⟫)) (omega arith) t.invariant.1
-    (r.ensures ∙ ap₂ (add_scaled 1) (cut t.at w t.dst) (cut (64 - w) w x.new.0 ∙ ap (part (64 - w) w) x.ensures))
+    (λ i. (c.type_inv.cs i).fits) (omega arith) (omega (arith, c.requires.3)) (omega arith) t.invariant.1
+    (r.ensures ∙ ap₂ (add_scaled 1) (cut t.at w t.dst) (cut (64 - w) w x.new.dst ∙ ap (part (64 - w) w) x.ensures))
     ∙ ap (done sum d) e ∙ done_all sum d (length d) (length-combined row (coefficient a.cs.now) (length a.cs.now) d) refl

@@ -1,5 +1,5 @@
 -- `strips::add_strip` meets its contract.
-use Rattle.words.specs.Words.{◌≡◌, ap, ◌∙◌, sym, ℕ, ◌+◌, ◌*◌, arith, length, replicate, not-true, not-false, rules}
+use Rattle.words.specs.Words.{◌≡◌, ap, ◌∙◌, sym, ℕ, ◌+◌, ◌*◌, arith, length, replicate}
 use Rattle.memory.specs.Number.{Bytes}
 use Rattle.memory.proofs.Parts.{length_part}
 use Rattle.rows.specs.Rows.{add_scaled}
@@ -17,7 +17,7 @@ pub add_sum-requires : goal.add_sum-requires
 add_sum-requires c =
     let a = c.args in
     let r = c.requires.1 in
-    let e : listed_for a.way a.cs.now ≡ a.cs.now = listed_own a.way a.cs.now (sym c.in_buckets.ensures ∙ not-true _ c.if-not-in_buckets.true) in (
+    let e : listed_for a.way a.cs.now ≡ a.cs.now = listed_own a.way a.cs.now (sym c.in_buckets.ensures ∙ c.if-not-in_buckets.true) in (
       c.requires.0,
       r.listed.most,
       listed-room a.cs.now a.lists.now a.counts.now a.pairs a.a a.s (length a.mem.now) (rw e at r.listed) (rw e at r.short) r.all
@@ -29,7 +29,7 @@ unfolding row_at
 returns-then-not-in_buckets c =
     let a = c.args in
     let r = c.requires.1 in
-    let e : listed_for a.way a.cs.now ≡ a.cs.now = listed_own a.way a.cs.now (sym c.in_buckets.ensures ∙ not-true _ c.if-not-in_buckets.true) in
+    let e : listed_for a.way a.cs.now ≡ a.cs.now = listed_own a.way a.cs.now (sym c.in_buckets.ensures ∙ c.if-not-in_buckets.true) in
     let bytes : Bytes a.cs.now = (λ i. (c.type_inv.cs i).fits) in
     let row = row_at a.mem.now a.a a.s 64 in
     c.add_sum.ensures
@@ -43,7 +43,7 @@ pub add_sum-requires-2 : goal.add_sum-requires-2
 add_sum-requires-2 c =
     let a = c.args in
     let r = c.requires.1 in
-    let e : listed_for a.way a.cs.now ≡ weights = listed-weights a.way a.cs.now (sym c.in_buckets.ensures ∙ not-false _ c.if-not-in_buckets.false) in
+    let e : listed_for a.way a.cs.now ≡ weights = listed-weights a.way a.cs.now (sym c.in_buckets.ensures ∙ c.if-not-in_buckets.false) in
     let f = c.fill in
     let lb = f.ensures.0 in (
       c.requires.0,
@@ -56,7 +56,7 @@ pub returns : goal.returns
 returns c =
     let a = c.args in
     let r = c.requires.1 in
-    let e : listed_for a.way a.cs.now ≡ weights = listed-weights a.way a.cs.now (sym c.in_buckets.ensures ∙ not-false _ c.if-not-in_buckets.false) in
+    let e : listed_for a.way a.cs.now ≡ weights = listed-weights a.way a.cs.now (sym c.in_buckets.ensures ∙ c.if-not-in_buckets.false) in
     let f = c.fill in
     let bytes : Bytes a.cs.now = (λ i. (c.type_inv.cs i).fits) in
     let row = row_at a.mem.now a.a a.s 64 in

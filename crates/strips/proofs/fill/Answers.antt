@@ -1,5 +1,5 @@
 -- `strips::fill` meets its contract.
-use Rattle.words.specs.Words.{ap, arith, length, rules}
+use Rattle.words.specs.Words.{ap, arith, length}
 use Rattle.buckets.proofs.Sorting.{sorted_ordered, sorted_filled}
 use Rattle.strips.specs.Ways.{sorts}
 use Rattle.strips.proofs.Ways.{most_few}
@@ -11,7 +11,7 @@ fill-requires c =
     let a = c.args in
     let r = c.requires.1 in (
       ap length c.requires.0,
-      sorted_ordered a.a a.s (length a.mem.now) (r.sorted (ap sorts c.enum_told-1.given.1))
+      sorted_ordered a.a a.s (length a.mem.now) (r.sorted (ap sorts c.in-SortedBuckets.is))
           r.all r.both (omega (arith, r.few, most_few a.way)) r.fits,
     )
 
@@ -23,7 +23,7 @@ returns-in-SortedBuckets c =
     let f = c.fill in (
       f.ensures.0,
       sorted_filled a.mem.now a.a a.s f.new.buckets
-          (r.sorted (ap sorts c.enum_told-1.given.1)) r.both (λ i. (c.type_inv.cs i).fits)
+          (r.sorted (ap sorts c.in-SortedBuckets.is)) r.both (λ i. (c.type_inv.cs i).fits)
           (λ i. (c.type_inv.mem i).fits) r.fits f.ensures.1,
     )
 

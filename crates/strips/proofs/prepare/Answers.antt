@@ -1,5 +1,5 @@
 -- `strips::prepare` meets its contract.
-use Rattle.words.specs.Words.{refl, subst, arith, ◌≤◌, length, rules}
+use Rattle.words.specs.Words.{refl, subst, arith, ◌≤◌, length}
 use Rattle.buckets.specs.Buckets.{weights}
 use Rattle.strips.specs.Ways.{most_rows}
 use Rattle.strips.proofs.Ways.{most_few, prepared_lists, prepared_buckets, prepared_sorted}
@@ -8,19 +8,19 @@ use Rattle.strips.proofs.prepare.Goals as goal
 pub list_pairs-requires : goal.list_pairs-requires
 unfolding most_rows
 list_pairs-requires c =
-    (c.requires.0, c.requires.1, subst (λ w. length c.args.cs.now ≤ most_rows w) c.enum_told-1.given.1 c.requires.4)
+    (c.requires.0, c.requires.1, subst (λ w. length c.args.cs.now ≤ most_rows w) c.in-Lists.is c.requires.4)
 
 pub sort-requires : goal.sort-requires
 sort-requires c =
     (c.requires.2, c.requires.3, refl, omega (arith, c.requires.4, most_few c.args.way))
 
 pub returns-in-Lists : goal.returns-in-Lists
-returns-in-Lists c = rw c.enum_told-1.given.1 (prepared_lists c.list_pairs.ensures)
+returns-in-Lists c = rw c.in-Lists.is (prepared_lists c.list_pairs.ensures)
 
 pub returns-in-Buckets : goal.returns-in-Buckets
 unfolding weights
-returns-in-Buckets c = rw c.enum_told-in-Buckets-1.given.1 (prepared_buckets c.list_pairs-in-Buckets.ensures)
+returns-in-Buckets c = rw c.in-Buckets.is (prepared_buckets c.list_pairs-in-Buckets.ensures)
 
 pub returns-in-SortedBuckets : goal.returns-in-SortedBuckets
 unfolding weights
-returns-in-SortedBuckets c = rw c.enum_told-in-SortedBuckets-1.given.1 (prepared_sorted c.list_pairs-in-SortedBuckets.ensures c.sort.ensures)
+returns-in-SortedBuckets c = rw c.in-SortedBuckets.is (prepared_sorted c.list_pairs-in-SortedBuckets.ensures c.sort.ensures)

@@ -1,9 +1,7 @@
 -- `sums::add_blocks` meets its contract. The loop: the first k rows have been added.
-use Rattle.words.specs.Words.{◌≡◌, refl, ◌≤◌, ◌-◌, arith, length, rules}
-use Rattle.memory.proofs.Parts.{cut, length_part}
+use Rattle.words.specs.Words.{◌≡◌, ◌≤◌, ◌-◌, length}
 use Rattle.rows.specs.Sums.{combined, row_at}
 use Rattle.rows.specs.Combination.{coefficient}
-use Rattle.rows.proofs.Combinations.{block-added, block_fits}
 use Rattle.sums.proofs.add_blocks.Given as goal
 
 abbrev pub invariant-loop-k : goal.invariant-loop-k

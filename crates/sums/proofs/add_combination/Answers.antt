@@ -1,5 +1,4 @@
 -- `sums::add_combination` meets its contract.
-use Rattle.words.specs.Words.{rules}
 use Rattle.sums.proofs.add_combination.Goals as goal
 
 pub add_blocks-requires : goal.add_blocks-requires

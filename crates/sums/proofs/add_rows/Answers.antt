@@ -1,7 +1,7 @@
 -- `sums::add_rows` meets its contract. The loop: the first k rows have been added.
-use Rattle.words.specs.Words.{◌≡◌, ◌≤◌, ◌-◌, arith, length, rules}
+use Rattle.words.specs.Words.{◌≡◌, arith, length, rules}
 use Rattle.memory.proofs.Parts.{row_fits}
-use Rattle.rows.specs.Sums.{combined, row_at}
+use Rattle.rows.specs.Sums.{combined}
 use Rattle.rows.specs.Combination.{coefficient}
 use Rattle.rows.proofs.Combinations.{row-added}
 use Rattle.sums.proofs.add_rows.Goals as goal

@@ -1,9 +1,7 @@
 -- `sums::add_rows` meets its contract. The loop: the first k rows have been added.
-use Rattle.words.specs.Words.{◌≡◌, ◌≤◌, ◌-◌, arith, length, rules}
-use Rattle.memory.proofs.Parts.{row_fits}
+use Rattle.words.specs.Words.{◌≡◌, ◌≤◌, ◌-◌, length}
 use Rattle.rows.specs.Sums.{combined, row_at}
 use Rattle.rows.specs.Combination.{coefficient}
-use Rattle.rows.proofs.Combinations.{row-added}
 use Rattle.sums.proofs.add_rows.Given as goal
 
 abbrev pub invariant-loop-k : goal.invariant-loop-k

@@ -1,5 +1,4 @@
 -- `sums::combine` meets its contract.
-use Rattle.words.specs.Words.{rules}
 use Rattle.sums.proofs.combine.Goals as goal
 
 pub returns : goal.returns

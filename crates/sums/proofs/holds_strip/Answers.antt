@@ -1,5 +1,5 @@
 -- `sums::holds_strip` meets its contract.
-use Rattle.words.specs.Words.{arith, ◌-◌, leb-true, rules}
+use Rattle.words.specs.Words.{arith, ◌-◌, leb-true}
 use Rattle.sums.proofs.holds_strip.Goals as goal
 
 pub returns : goal.returns

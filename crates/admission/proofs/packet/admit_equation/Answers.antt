@@ -1,5 +1,5 @@
 -- `admission::packet::admit_equation` meets its contract.
-use Rattle.words.specs.Words.{arith, rules, sym, subst}
+use Rattle.words.specs.Words.{arith, sym, subst}
 use Rattle.table.proofs.Offsets.{flags_fit}
 use Rattle.gather.proofs.Framing.{works_only}
 use Rattle.admission.specs.Steps.{EquationAdmitted}
@@ -17,7 +17,7 @@ returns c =
     let a = c.args in
     let laid = c.lay in
     let admitted = c.admit-verdict in
-    subst (λ r. EquationAdmitted a.location a.kept a.first a.coefficients.now r a.mem.now a.work.now admitted.new.1.0)
+    subst (λ r. EquationAdmitted a.location a.kept a.first a.coefficients.now r a.mem.now a.work.now admitted.new.work)
     (sym c.gathered_by.ensures)
     (equation_admitted a.location a.kept a.first a.coefficients.now admitted.result a.mem.now a.work.now laid.new.work
-    admitted.new.1.0 c.requires.1 laid.ensures admitted.ensures)
+    admitted.new.work c.requires.1 laid.ensures admitted.ensures)

@@ -1,10 +1,10 @@
 -- `admission::packet::gathered_by` meets its contract.
-use Rattle.words.specs.Words.{rules, sym, ap}
+use Rattle.words.specs.Words.{sym, ap}
 use Rattle.admission.specs.Steps.{gathered_by}
 use Rattle.admission.proofs.packet.gathered_by.Goals as goal
 
 pub returns-in-Kept : goal.returns-in-Kept
-returns-in-Kept c = let a = c.args in ap (gathered_by a.kept) (sym c.enum_told-1.given.1)
+returns-in-Kept c = let a = c.args in ap (gathered_by a.kept) (sym c.in-Kept.is)
 
 pub returns-in-Implied : goal.returns-in-Implied
-returns-in-Implied c = let a = c.args in ap (gathered_by a.kept) (sym c.enum_told-in-Implied-1.given.1)
+returns-in-Implied c = let a = c.args in ap (gathered_by a.kept) (sym c.in-Implied.is)

@@ -1,5 +1,5 @@
 -- `admission::packet::join` meets its contract.
-use Rattle.words.specs.Words.{arith, rules}
+use Rattle.words.specs.Words.{arith}
 use Rattle.admission.proofs.Joining.{for_joined, for_fresh}
 use Rattle.admission.proofs.packet.join.Goals as goal
 

@@ -1,5 +1,5 @@
 -- `admission::repair::admit_symbol` meets its contract.
-use Rattle.words.specs.Words.{◌≡◌, arith, ◌+◌, rules}
+use Rattle.words.specs.Words.{◌≡◌, arith, ◌+◌}
 use Rattle.memory.specs.Part.{splice}
 use Rattle.memory.proofs.Parts.{whole}
 use Rattle.table.specs.Window.{row_offset}
@@ -9,16 +9,13 @@ use Rattle.admission.proofs.Repairing.{symbol_admitted}
 use Rattle.admission.proofs.repair.admit_symbol.Goals as goal
 use Rattle.admission.proofs.repair.admit_symbol.Goals.{After-copy_part}
 
-abbrev start : After-copy_part → After-copy_part
-start p = p⟪Start⟫
-
 -- The symbol as it was stored.
-stored : (p : After-copy_part) → let a = (start p).args in
+stored : (c : After-copy_part) → let a = c.args in
     let s = a.location.shape in
-    p.copy_part.new.mem ≡ splice (row_offset s.width s.size a.kept + s.width) a.symbol.now a.work.now
-stored p =
-    let s = start p in
-    rw (p.symbol_offset-at.ensures.start, whole s.args.location.shape.size s.args.symbol.now s.pre.5) at p.copy_part.ensures
+    c.copy_part.new.mem ≡ splice (row_offset s.width s.size a.kept + s.width) a.symbol.now a.work.now
+stored c =
+    let a = c.args in
+    rw (c.symbol_offset-at.ensures.start, whole a.location.shape.size a.symbol.now c.requires.5) at c.copy_part.ensures
 
 pub symbol_offset-at-requires : goal.symbol_offset-at-requires
 symbol_offset-at-requires c = let g = c.requires.1 in (g.within, g.wide, g.long)
@@ -31,14 +28,12 @@ copy_part-requires c =
 
 pub admit_equation-requires : goal.admit_equation-requires
 admit_equation-requires c =
-    let s = start (goal.at.admit_equation-requires c).After-copy_part in
-    let a = s.args in
-    (s.pre.0, works_stored _ _ a.kept _ _ _ s.pre.1 s.pre.5 (stored (goal.at.admit_equation-requires c).After-copy_part), s.pre.2, s.pre.3, s.pre.4)
+    let p = c.requires in
+    let at = stored (goal.at.admit_equation-requires c).After-copy_part in
+    (p.0, works_stored _ _ c.args.kept _ _ _ p.1 p.5 at, p.2, p.3, p.4)
 
 pub returns : goal.returns
 returns c =
-    let s = start (goal.at.returns c).After-copy_part in
-    let a = s.args in
-    symbol_admitted a.location a.kept a.list.now a.symbol.now a.mem.now a.work.now _ _ _ s.pre.1 s.pre.5
-    (stored (goal.at.returns c).After-copy_part)
-    c.admit_equation.ensures
+    let a = c.args in
+    symbol_admitted a.location a.kept a.list.now a.symbol.now a.mem.now a.work.now _ _ _ c.requires.1 c.requires.5
+    (stored (goal.at.returns c).After-copy_part) c.admit_equation.ensures

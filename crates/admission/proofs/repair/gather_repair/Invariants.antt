@@ -1,11 +1,8 @@
 -- `admission::repair::gather_repair` meets its contract. The loop: working memory keeps `kept` rows of the first i equations.
-use Rattle.words.specs.Words.{arith, ◌≤◌, length, ◌+◌, rules, ◌∙◌, ◌-◌, ◌*◌}
-use Rattle.memory.proofs.Parts.{cut, length_part, row_fits}
+use Rattle.words.specs.Words.{◌≤◌, ◌-◌}
 use Rattle.admission.specs.declared.packet.Gathered.TheVariants.{All}
-use Rattle.admission.specs.Steps.{Admits, Gathers}
+use Rattle.admission.specs.Steps.{Gathers}
 use Rattle.admission.specs.RepairSteps.{equation_at}
-use Rattle.admission.proofs.Gathering.{gathers_none, gathers_on, gathers_stop, gathers_all}
-use Rattle.admission.proofs.Repairing.{symbol_of_index}
 use Rattle.admission.proofs.repair.gather_repair.Given as goal
 
 abbrev pub invariant-loop-i : goal.invariant-loop-i

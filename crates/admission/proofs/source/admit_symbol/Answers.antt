@@ -1,5 +1,5 @@
 -- `admission::source::admit_symbol` meets its contract.
-use Rattle.words.specs.Words.{arith, rules}
+use Rattle.words.specs.Words.{arith}
 use Rattle.admission.proofs.Gathering.{works_stored}
 use Rattle.admission.proofs.Sourcing.{length_symbol, symbol_admitted}
 use Rattle.admission.proofs.source.admit_symbol.Goals as goal
@@ -25,4 +25,4 @@ returns c =
     let written = c.write_row in
     let admitted = c.admit_equation in
     symbol_admitted a.location a.kept a.flow a.i row.result a.adu.now a.mem.now a.work.now written.new.work
-    admitted.new.1.0 admitted.result p.1 p.5 row.ensures written.ensures admitted.ensures
+    admitted.new.work admitted.result p.1 p.5 row.ensures written.ensures admitted.ensures

@@ -1,9 +1,5 @@
 -- `admission::source::gather_source` meets its contract.
-use Rattle.words.specs.Words.{arith, ◌≤◌, length, rules, ◌-◌}
-use Rattle.wire.specs.Packets.{symbol_count}
-use Rattle.admission.specs.declared.packet.Gathered.TheVariants.{All}
-use Rattle.admission.specs.Steps.{Gathers}
-use Rattle.admission.specs.SourceSteps.{equation_of}
+use Rattle.words.specs.Words.{arith}
 use Rattle.admission.proofs.Gathering.{gathers_none, gathers_on, gathers_stop, gathers_all}
 use Rattle.admission.proofs.source.gather_source.Goals as goal
 
@@ -21,17 +17,17 @@ pub returns-in_default : goal.returns-in_default
 returns-in_default c =
     let l = c.loop-i in
     let admitted = c.admit_symbol in
-    gathers_stop _ _ _ _ _ l.i _ l.auto admitted.result l.work admitted.new.1.0 (omega arith) l.invariant.1 admitted.ensures
-    c.enum_told-1.given.1
+    gathers_stop _ _ _ _ _ l.i _ l.kept admitted.result l.work admitted.new.work (omega arith) l.invariant.1 admitted.ensures
+    c.in_default.is
 
 pub loop-i-preserved : goal.loop-i-preserved
 loop-i-preserved c =
     let l = c.loop-i in
     let admitted = c.admit_symbol in (
       omega arith,
-      gathers_on _ _ _ _ _ l.i l.auto _ admitted.result l.work admitted.new.1.0 l.invariant.1 admitted.ensures
-          c.now-1.given.1,
+      gathers_on _ _ _ _ _ l.i l.kept _ admitted.result l.work admitted.new.work l.invariant.1 admitted.ensures
+          c.in-All.is,
     )
 
 pub returns : goal.returns
-returns c = let l = c.loop-i in gathers_all _ _ _ _ _ l.i _ l.auto l.work (omega arith) l.invariant.1
+returns c = let l = c.loop-i in gathers_all _ _ _ _ _ l.i _ l.kept l.work (omega arith) l.invariant.1

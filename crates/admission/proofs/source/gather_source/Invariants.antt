@@ -1,10 +1,9 @@
 -- `admission::source::gather_source` meets its contract.
-use Rattle.words.specs.Words.{arith, ◌≤◌, length, rules, ◌-◌}
+use Rattle.words.specs.Words.{◌≤◌, length, ◌-◌}
 use Rattle.wire.specs.Packets.{symbol_count}
 use Rattle.admission.specs.declared.packet.Gathered.TheVariants.{All}
 use Rattle.admission.specs.Steps.{Gathers}
 use Rattle.admission.specs.SourceSteps.{equation_of}
-use Rattle.admission.proofs.Gathering.{gathers_none, gathers_on, gathers_stop, gathers_all}
 use Rattle.admission.proofs.source.gather_source.Given as goal
 
 abbrev pub invariant-loop-i : goal.invariant-loop-i
