@@ -16,7 +16,7 @@ use Rattle.history.specs.Model.{opened}
 use Rattle.receiver.specs.Promises.{opening}
 use Rattle.holding.specs.Layout.{HoldsWith}
 use Rattle.lines.specs.declared.First.{First}
-use Rattle.lines.specs.Forms.{Values, longest}
+use Rattle.lines.specs.Forms.{longest}
 use Rattle.lines.specs.Reading.{on, values_in}
 use Rattle.lines.specs.Inner.{values_of}
 use Rattle.lines.proofs.Options.{cond_same}

@@ -10,52 +10,56 @@ use coefficients::Filled;
 use field::Gf256;
 use report::{print, print_bytes, print_number, print_refusal};
 use sender::{Answer, RepairAnswer};
+use std::io;
 use wire::{Refusal, RepairKey, Scheme};
 
-fn print_value(n: u8) {
-    print_number(n as usize);
+fn print_value(rt: &impl Print, n: u8) -> io::Result<()> {
+    print_number(rt, n as usize)
 }
 
 // The first n numbers of a row.
-fn print_numbers(row: &[u8], n: usize) {
+fn print_numbers(rt: &impl Print, row: &[u8], n: usize) -> io::Result<()> {
     for i in 0..n {
         if i < row.len() {
-            print_value(row[i]);
+            print_value(rt, row[i])?;
         }
     }
+    Ok(())
 }
 
 // The ADU of a source packet, and the ESI.
-fn print_source(answer: Answer, out: &[u8]) {
+fn print_source(rt: &impl Print, answer: Answer, out: &[u8]) -> io::Result<()> {
     match answer {
         Answer::Done(n) => {
             if 4 <= n {
                 if n <= out.len() {
                     let end = n - 4;
-                    print_bytes(&out[0..end]);
-                    print_bytes(&out[end..n]);
+                    print_bytes(rt, &out[0..end])?;
+                    print_bytes(rt, &out[end..n])?;
                 }
             }
         }
-        Answer::Refused(refusal) => print_refusal(refusal),
+        Answer::Refused(refusal) => print_refusal(rt, refusal)?,
     }
+    Ok(())
 }
 
 // The fields of a repair packet: key, DT and NSS, FSS_ESI, and the repair symbols.
-fn print_repair(answer: RepairAnswer, out: &[u8]) {
+fn print_repair(rt: &impl Print, answer: RepairAnswer, out: &[u8]) -> io::Result<()> {
     match answer {
         RepairAnswer::Made(n, _) => {
             if 8 <= n {
                 if n <= out.len() {
-                    print_bytes(&out[0..2]);
-                    print_bytes(&out[2..4]);
-                    print_bytes(&out[4..8]);
-                    print_bytes(&out[8..n]);
+                    print_bytes(rt, &out[0..2])?;
+                    print_bytes(rt, &out[2..4])?;
+                    print_bytes(rt, &out[4..8])?;
+                    print_bytes(rt, &out[8..n])?;
                 }
             }
         }
-        RepairAnswer::NotMade(refusal) => print_refusal(refusal),
+        RepairAnswer::NotMade(refusal) => print_refusal(rt, refusal)?,
     }
+    Ok(())
 }
 
 // The memory of a sender with E 4 and width 2, and room for its packets.
@@ -71,74 +75,80 @@ fn output() -> [u8; 12]
     [0; 12]
 }
 
-fn field_case(name: &[u8], value: Gf256) {
-    print(name);
-    print_value(value.0);
-    print(b"\n");
+fn field_case(rt: &impl Print, name: &[u8], value: Gf256) -> io::Result<()> {
+    print(rt, name)?;
+    print_value(rt, value.0)?;
+    print(rt, b"\n")
 }
 
 // The first n coefficients for the key 1, and the draws that they took.
-fn coefficients_case(name: &[u8], n: usize, scheme: Scheme, dt: u8) {
+fn coefficients_case(
+    rt: &impl Print,
+    name: &[u8],
+    n: usize,
+    scheme: Scheme,
+    dt: u8,
+) -> io::Result<()> {
     if 255 < n {
-        return;
+        return Ok(());
     }
-    print(name);
+    print(rt, name)?;
     let mut row = coefficients::room_for_lists();
     match coefficients::fill_lists(&mut row, n, scheme, RepairKey(1), dt, 1) {
         Filled::Done(draws) => {
-            print_numbers(&row, n);
-            print(b"; draws");
-            print_number(draws as usize);
+            print_numbers(rt, &row, n)?;
+            print(rt, b"; draws")?;
+            print_number(rt, draws as usize)?;
         }
-        Filled::Refused => print_refusal(Refusal::Draws),
+        Filled::Refused => print_refusal(rt, Refusal::Draws)?,
     }
-    print(b"\n");
+    print(rt, b"\n")
 }
 
 // E 4, F 1, ADUs 41 and 42: two source packets and a repair packet of scheme 9.
-fn packets_case() {
+fn packets_case(rt: &impl Print) -> io::Result<()> {
     let mut mem = memory_for_two();
     let mut out = output();
     let announced = flows::all();
     sender::open(&mut mem, 9, 4, 2, &announced);
-    print(b"C7");
+    print(rt, b"C7")?;
     let first = sender::add_adu(&mut mem, 1, b"\x41", &mut out);
-    print_source(first, &out);
-    print(b";");
+    print_source(rt, first, &out)?;
+    print(rt, b";")?;
     let second = sender::add_adu(&mut mem, 1, b"\x42", &mut out);
-    print_source(second, &out);
-    print(b";");
+    print_source(rt, second, &out)?;
+    print(rt, b";")?;
     let repair = sender::make_repair(&mem, RepairKey(1), 15, 1, &mut out);
-    print_repair(repair, &out);
-    print(b"\n");
+    print_repair(rt, repair, &out)?;
+    print(rt, b"\n")
 }
 
 // E 4, width 2: an ADU of 5 bytes taken, one of 6 refused.
-fn width_case() {
+fn width_case(rt: &impl Print) -> io::Result<()> {
     let mut mem = memory_for_two();
     let mut out = output();
     let announced = flows::all();
     sender::open(&mut mem, 9, 4, 2, &announced);
-    print(b"C9");
+    print(rt, b"C9")?;
     let taken = sender::add_adu(&mut mem, 1, b"\0\0\0\0\0", &mut out);
-    print_source(taken, &out);
-    print(b";");
+    print_source(rt, taken, &out)?;
+    print(rt, b";")?;
     let refused = sender::add_adu(&mut mem, 1, b"\0\0\0\0\0\0", &mut out);
-    print_source(refused, &out);
-    print(b"\n");
+    print_source(rt, refused, &out)?;
+    print(rt, b"\n")
 }
 
-fn main() {
-    field_case(b"C1", Gf256(2).product(Gf256(128)));
-    field_case(b"C2", Gf256(3).product(Gf256(7)));
-    field_case(b"C3", Gf256(2).inverse());
-    coefficients_case(b"C4", 5, Scheme::Gf256, 15);
-    coefficients_case(b"C5", 6, Scheme::Gf2, 4);
-    coefficients_case(b"C6", 5, Scheme::Gf256, 4);
-    packets_case();
-    receiving::solved_case();
-    width_case();
-    receiving::places_case();
-    receiving::contradiction_case();
-    receiving::departed_case();
+fn main(rt: HostRuntime) -> io::Result<()> {
+    field_case(&rt, b"C1", Gf256(2).product(Gf256(128)))?;
+    field_case(&rt, b"C2", Gf256(3).product(Gf256(7)))?;
+    field_case(&rt, b"C3", Gf256(2).inverse())?;
+    coefficients_case(&rt, b"C4", 5, Scheme::Gf256, 15)?;
+    coefficients_case(&rt, b"C5", 6, Scheme::Gf2, 4)?;
+    coefficients_case(&rt, b"C6", 5, Scheme::Gf256, 4)?;
+    packets_case(&rt)?;
+    receiving::solved_case(&rt)?;
+    width_case(&rt)?;
+    receiving::places_case(&rt)?;
+    receiving::contradiction_case(&rt)?;
+    receiving::departed_case(&rt)
 }

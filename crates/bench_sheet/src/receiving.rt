@@ -2,6 +2,7 @@
 ghost use Rattle.words.specs.Words.{◌≡◌, length};
 
 use report::{print, repair, show, source};
+use std::io;
 
 // The memory of a receiver of width 4, enough for the smaller widths too, and its working memory.
 fn receiver_memory() -> [u8; 148]
@@ -22,66 +23,66 @@ fn open(mem: &mut [u8], width: usize) {
 }
 
 // Width 2: the first and the repair packet of C7, then symbol 1.
-pub fn solved_case() {
+pub fn solved_case(rt: &impl Print) -> io::Result<()> {
     let mut mem = receiver_memory();
     let mut work = working_memory();
     open(&mut mem, 2);
-    print(b"C8");
-    source(&mut mem, &mut work, b"\x41\0\0\0\0");
-    repair(&mut mem, &mut work, b"\0\0\xF0\x02\0\0\0\0\0\0\0\x03");
-    print(b";");
-    show(&mem, 1);
-    print(b"\n");
+    print(rt, b"C8")?;
+    source(rt, &mut mem, &mut work, b"\x41\0\0\0\0")?;
+    repair(rt, &mut mem, &mut work, b"\0\0\xF0\x02\0\0\0\0\0\0\0\x03")?;
+    print(rt, b";")?;
+    show(rt, &mem, 1)?;
+    print(rt, b"\n")
 }
 
 // An empty ADU at an ESI, after one at ESI 0: base 0.
-fn place(mem: &mut [u8], work: &mut [u8], packet: &[u8]) {
+fn place(rt: &impl Print, mem: &mut [u8], work: &mut [u8], packet: &[u8]) -> io::Result<()> {
     open(mem, 1);
-    source(mem, work, b"\0\0\0\0");
-    source(mem, work, packet);
+    source(rt, mem, work, b"\0\0\0\0")?;
+    source(rt, mem, work, packet)
 }
 
 // ESI 65535, 65536, 2147483647, 2147483648.
-pub fn places_case() {
+pub fn places_case(rt: &impl Print) -> io::Result<()> {
     let mut mem = receiver_memory();
     let mut work = working_memory();
-    print(b"C10");
-    place(&mut mem, &mut work, b"\0\0\xFF\xFF");
-    print(b";");
-    place(&mut mem, &mut work, b"\0\x01\0\0");
-    print(b";");
-    place(&mut mem, &mut work, b"\x7F\xFF\xFF\xFF");
-    print(b";");
-    place(&mut mem, &mut work, b"\x80\0\0\0");
-    print(b"\n");
+    print(rt, b"C10")?;
+    place(rt, &mut mem, &mut work, b"\0\0\xFF\xFF")?;
+    print(rt, b";")?;
+    place(rt, &mut mem, &mut work, b"\0\x01\0\0")?;
+    print(rt, b";")?;
+    place(rt, &mut mem, &mut work, b"\x7F\xFF\xFF\xFF")?;
+    print(rt, b";")?;
+    place(rt, &mut mem, &mut work, b"\x80\0\0\0")?;
+    print(rt, b"\n")
 }
 
 // C7's repair, then an ADU of five zero bytes that contradicts it; neither symbol is known.
-pub fn contradiction_case() {
+pub fn contradiction_case(rt: &impl Print) -> io::Result<()> {
     let mut mem = receiver_memory();
     let mut work = working_memory();
     open(&mut mem, 2);
-    print(b"C11");
-    repair(&mut mem, &mut work, b"\0\0\xF0\x02\0\0\0\0\0\0\0\x03");
-    source(&mut mem, &mut work, b"\0\0\0\0\0\0\0\0\0");
-    print(b";");
-    show(&mem, 0);
-    show(&mem, 1);
-    print(b"\n");
+    print(rt, b"C11")?;
+    repair(rt, &mut mem, &mut work, b"\0\0\xF0\x02\0\0\0\0\0\0\0\x03")?;
+    source(rt, &mut mem, &mut work, b"\0\0\0\0\0\0\0\0\0")?;
+    print(rt, b";")?;
+    show(rt, &mem, 0)?;
+    show(rt, &mem, 1)?;
+    print(rt, b"\n")
 }
 
 // Width 4: repairs over 0..1 and 0..3, sources 4, 5 and 3, then symbol 2.
-pub fn departed_case() {
+pub fn departed_case(rt: &impl Print) -> io::Result<()> {
     let mut mem = receiver_memory();
     let mut work = working_memory();
     open(&mut mem, 4);
-    print(b"C12");
-    repair(&mut mem, &mut work, b"\0\0\xF0\x02\0\0\0\0\0\0\0\x03");
-    repair(&mut mem, &mut work, b"\0\0\xF0\x04\0\0\0\0\0\0\0\x04");
-    source(&mut mem, &mut work, b"\x45\0\0\0\x04");
-    source(&mut mem, &mut work, b"\x46\0\0\0\x05");
-    source(&mut mem, &mut work, b"\x44\0\0\0\x03");
-    print(b";");
-    show(&mem, 2);
-    print(b"\n");
+    print(rt, b"C12")?;
+    repair(rt, &mut mem, &mut work, b"\0\0\xF0\x02\0\0\0\0\0\0\0\x03")?;
+    repair(rt, &mut mem, &mut work, b"\0\0\xF0\x04\0\0\0\0\0\0\0\x04")?;
+    source(rt, &mut mem, &mut work, b"\x45\0\0\0\x04")?;
+    source(rt, &mut mem, &mut work, b"\x46\0\0\0\x05")?;
+    source(rt, &mut mem, &mut work, b"\x44\0\0\0\x03")?;
+    print(rt, b";")?;
+    show(rt, &mem, 2)?;
+    print(rt, b"\n")
 }

@@ -18,7 +18,7 @@ use Rattle.table.proofs.Offsets.{flags_fit, row_end}
 use Rattle.placing.specs.Place.{KnownAt}
 use Rattle.placing.proofs.Showing.{symbol_bytes}
 use Rattle.history.specs.History.{IsValue}
-use Rattle.history.specs.Model.{shows, hides}
+use Rattle.history.specs.Model.{hides}
 use Rattle.history.proofs.Cases.{numeral}
 use Rattle.holding.specs.declared.Spot.{Spot}
 use Rattle.holding.specs.declared.Spot.TheVariants.{At, Nowhere}

@@ -14,7 +14,7 @@ use Rattle.decoder.specs.Model.{Row, State, Rref, insert, known}
 use Rattle.decoder.specs.Receiver.{and_then, is_new, count_new, advance_by, insert_all, newly}
 use Rattle.decoder.specs.Chain.{place_rows}
 use Rattle.decoder.specs.Table.{Line, read}
-use Rattle.table.specs.Window.{header_size, stride, row_offset, row, line, Window, Kept}
+use Rattle.table.specs.Window.{header_size, stride, row_offset, row, line, Window}
 use Rattle.table.specs.Packet.{Works}
 use Rattle.table.proofs.Rows.{kept_refl}
 use Rattle.table.proofs.Offsets.{flags_fit}

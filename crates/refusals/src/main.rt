@@ -26,8 +26,9 @@
 ghost use Rattle.words.specs.Words.{◌≡◌, ◌≤◌, length};
 
 use block_receiver::{PacketAnswer, SymbolAnswer};
-use libc::STDIN_FILENO;
 use report::print;
+use std::io;
+use std::io::Read;
 use wire::RepairKey;
 
 // How many bytes of the memory, of the working memory and of the output are lent.
@@ -102,33 +103,51 @@ fn read_bytes(line: &[u8], args: &mut [u8; 16]) -> usize
 }
 
 // Opening an end.
-fn opens(step: u8, scheme: u8, size: u8, width: u8, announced: &[u8; 32], mem: &mut [u8]) {
+fn opens(
+    rt: &impl Print,
+    step: u8,
+    scheme: u8,
+    size: u8,
+    width: u8,
+    announced: &[u8; 32],
+    mem: &mut [u8],
+) -> io::Result<()> {
     let scheme = scheme as usize;
     let size = size as usize;
     let width = width as usize;
     match step {
-        b's' => report::print_answer(sender::open(mem, scheme, size, width, announced)),
+        b's' => report::print_answer(rt, sender::open(mem, scheme, size, width, announced)),
         b'S' => {
             sender::open(mem, scheme, size, width, announced);
+            Ok(())
         }
-        b'r' => report::print_answer(receiver::open(mem, scheme, size, width, announced)),
+        b'r' => report::print_answer(rt, receiver::open(mem, scheme, size, width, announced)),
         b'R' => {
             receiver::open(mem, scheme, size, width, announced);
+            Ok(())
         }
-        _ => {}
+        _ => Ok(()),
     }
 }
 
 // A call that takes the bytes as they are, the first n.
-fn takes(step: u8, args: &[u8; 16], n: usize, mem: &mut [u8], work: &mut [u8], out: &mut [u8])
+fn takes(
+    rt: &impl Print,
+    step: u8,
+    args: &[u8; 16],
+    n: usize,
+    mem: &mut [u8],
+    work: &mut [u8],
+    out: &mut [u8],
+) -> io::Result<()>
     requires { n ≤ 16 }
 {
     let bytes = memory::part(args, 0, n);
     match step {
-        b'a' => report::print_answer(sender::add_adu(mem, 1, bytes, out)),
-        b'p' => report::source(mem, work, bytes),
-        b'q' => report::repair(mem, work, bytes),
-        _ => {}
+        b'a' => report::print_answer(rt, sender::add_adu(mem, 1, bytes, out)),
+        b'p' => report::source(rt, mem, work, bytes),
+        b'q' => report::repair(rt, mem, work, bytes),
+        _ => Ok(()),
     }
 }
 
@@ -138,86 +157,110 @@ fn esi_of(args: &[u8; 16]) -> u32 {
 }
 
 // A call that takes numbers: DT and count, or an ESI.
-fn asks(step: u8, dt: u8, count: u8, esi: u32, mem: &[u8], out: &mut [u8]) {
+fn asks(
+    rt: &impl Print,
+    step: u8,
+    dt: u8,
+    count: u8,
+    esi: u32,
+    mem: &[u8],
+    out: &mut [u8],
+) -> io::Result<()> {
     match step {
-        b'k' => report::print_made(sender::make_repair(
-            mem,
-            RepairKey(1),
-            dt as usize,
-            count as usize,
-            out,
-        )),
-        b'y' => report::show(mem, esi),
-        b'h' => report::hand(mem, esi, out),
-        _ => {}
+        b'k' => report::print_made(
+            rt,
+            sender::make_repair(mem, RepairKey(1), dt as usize, count as usize, out),
+        ),
+        b'y' => report::show(rt, mem, esi),
+        b'h' => report::hand(rt, mem, esi, out),
+        _ => Ok(()),
     }
 }
 
 // A call that takes E, rows and columns, and a grid.
-fn rearranges(step: u8, size: u8, rows: u8, columns: u8, grid: &[u8], out: &mut [u8]) {
+fn rearranges(
+    rt: &impl Print,
+    step: u8,
+    size: u8,
+    rows: u8,
+    columns: u8,
+    grid: &[u8],
+    out: &mut [u8],
+) -> io::Result<()> {
     let size = size as usize;
     let rows = rows as usize;
     let columns = columns as usize;
     match step {
-        b'g' => report::print_answer(interleave::interleave(grid, size, rows, columns, out)),
-        b'G' => report::print_answer(interleave::deinterleave(grid, size, rows, columns, out)),
-        _ => {}
+        b'g' => report::print_answer(rt, interleave::interleave(grid, size, rows, columns, out)),
+        b'G' => report::print_answer(rt, interleave::deinterleave(grid, size, rows, columns, out)),
+        _ => Ok(()),
     }
 }
 
 // Opening an end of a block.
-fn opens_block(step: u8, args: &[u8; 16], mem: &mut [u8]) {
+fn opens_block(rt: &impl Print, step: u8, args: &[u8; 16], mem: &mut [u8]) -> io::Result<()> {
     let size = memory::load_u16(args, 0) as usize;
     let k = memory::load_u16(args, 2) as usize;
     let total = memory::load_u16(args, 4) as usize;
     let number = memory::load_u32(args, 6) as usize;
     match step {
-        b'b' => report::print_answer(block_encoder::open(mem, size, k, total, number)),
+        b'b' => report::print_answer(rt, block_encoder::open(mem, size, k, total, number)),
         b'B' => {
             block_encoder::open(mem, size, k, total, number);
+            Ok(())
         }
-        b'c' => report::print_answer(block_receiver::open(mem, size, k, total, number)),
+        b'c' => report::print_answer(rt, block_receiver::open(mem, size, k, total, number)),
         b'C' => {
             block_receiver::open(mem, size, k, total, number);
+            Ok(())
         }
-        _ => {}
+        _ => Ok(()),
     }
 }
 
 // What a packet call of a block answered.
-fn print_packet(answer: PacketAnswer) {
+fn print_packet(rt: &impl Print, answer: PacketAnswer) -> io::Result<()> {
     match answer {
-        PacketAnswer::Accepted(n, _) => report::print_number(n),
-        PacketAnswer::NotAccepted(refusal) => report::print_refusal(refusal),
+        PacketAnswer::Accepted(n, _) => report::print_number(rt, n),
+        PacketAnswer::NotAccepted(refusal) => report::print_refusal(rt, refusal),
     }
 }
 
 // The symbol of a block with an ESI, without its origin, or the refusal of the symbol call.
-fn show(mem: &[u8], esi: usize) {
+fn show(rt: &impl Print, mem: &[u8], esi: usize) -> io::Result<()> {
     match block_receiver::symbol(mem, esi) {
-        SymbolAnswer::Shown(_) => report::print_bytes(block_receiver::symbol_part(mem, esi)),
-        SymbolAnswer::Hidden(refusal) => report::print_refusal(refusal),
+        SymbolAnswer::Shown(_) => report::print_bytes(rt, block_receiver::symbol_part(mem, esi)),
+        SymbolAnswer::Hidden(refusal) => report::print_refusal(rt, refusal),
     }
 }
 
 // A call of a block that takes an ESI, or the first n bytes as they are.
-fn calls_block(step: u8, args: &[u8; 16], n: usize, mem: &mut [u8], work: &mut [u8], out: &mut [u8])
+fn calls_block(
+    rt: &impl Print,
+    step: u8,
+    args: &[u8; 16],
+    n: usize,
+    mem: &mut [u8],
+    work: &mut [u8],
+    out: &mut [u8],
+) -> io::Result<()>
     requires { n ≤ 16 }
 {
     let esi = esi_of(args) as usize;
     let bytes = memory::part(args, 0, n);
     match step {
-        b'A' => report::print_answer(block_encoder::add_adu(mem, 1, bytes, out)),
-        b'K' => report::print_answer(block_encoder::make_repair(mem, esi, out)),
-        b'P' => print_packet(block_receiver::receive_source(mem, work, 1, bytes)),
-        b'Q' => print_packet(block_receiver::receive_repair(mem, work, bytes)),
-        b'Y' => show(mem, esi),
-        _ => {}
+        b'A' => report::print_answer(rt, block_encoder::add_adu(mem, 1, bytes, out)),
+        b'K' => report::print_answer(rt, block_encoder::make_repair(mem, esi, out)),
+        b'P' => print_packet(rt, block_receiver::receive_source(mem, work, 1, bytes)),
+        b'Q' => print_packet(rt, block_receiver::receive_repair(mem, work, bytes)),
+        b'Y' => show(rt, mem, esi),
+        _ => Ok(()),
     }
 }
 
 // The call of an end or of a grid that a step names, if it names one.
 fn call_end(
+    rt: &impl Print,
     step: u8,
     args: &[u8; 16],
     n: usize,
@@ -225,26 +268,29 @@ fn call_end(
     mem: &mut [u8],
     work: &mut [u8],
     out: &mut [u8],
-)
+) -> io::Result<()>
     requires { n ≤ 16 }
 {
-    opens(step, args[0], args[1], args[2], announced, mem);
-    takes(step, args, n, mem, work, out);
-    asks(step, args[0], args[1], esi_of(args), mem, out);
+    opens(rt, step, args[0], args[1], args[2], announced, mem)?;
+    takes(rt, step, args, n, mem, work, out)?;
+    asks(rt, step, args[0], args[1], esi_of(args), mem, out)?;
     if 3 <= n {
         rearranges(
+            rt,
             step,
             args[0],
             args[1],
             args[2],
             memory::part(args, 3, n - 3),
             out,
-        );
+        )?;
     }
+    Ok(())
 }
 
 // The call that a step names, if it names one.
 fn call(
+    rt: &impl Print,
     step: u8,
     args: &[u8; 16],
     n: usize,
@@ -252,16 +298,17 @@ fn call(
     mem: &mut [u8],
     work: &mut [u8],
     out: &mut [u8],
-)
+) -> io::Result<()>
     requires { n ≤ 16 }
 {
-    call_end(step, args, n, announced, mem, work, out);
-    opens_block(step, args, mem);
-    calls_block(step, args, n, mem, work, out);
+    call_end(rt, step, args, n, announced, mem, work, out)?;
+    opens_block(rt, step, args, mem)?;
+    calls_block(rt, step, args, n, mem, work, out)
 }
 
 // The same on so much of the memories as is lent.
 fn call_on(
+    rt: &impl Print,
     step: u8,
     args: &[u8; 16],
     n: usize,
@@ -270,7 +317,7 @@ fn call_on(
     mem: &mut [u8],
     work: &mut [u8],
     out: &mut [u8],
-)
+) -> io::Result<()>
     requires { n ≤ 16 }
 {
     let m = sizes.mem;
@@ -280,6 +327,7 @@ fn call_on(
         if w <= work.len() {
             if o <= out.len() {
                 call(
+                    rt,
                     step,
                     args,
                     n,
@@ -287,10 +335,11 @@ fn call_on(
                     &mut mem[0..m],
                     &mut work[0..w],
                     &mut out[0..o],
-                );
+                )?;
             }
         }
     }
+    Ok(())
 }
 
 // What is lent after a step.
@@ -339,30 +388,31 @@ fn announces(step: u8, flow: u8, announced: &mut [u8; 32]) {
 
 // A line of the table.
 fn take_step(
+    rt: &impl Print,
     line: &[u8],
     sizes: Sizes,
     announced: &mut [u8; 32],
     mem: &mut [u8],
     work: &mut [u8],
     out: &mut [u8],
-) -> Sizes {
+) -> io::Result<Sizes> {
     if line.len() == 0 {
-        return sizes;
+        return Ok(sizes);
     }
     let step = line[0];
     if step == b'=' {
-        print(&line[1..]);
-        return sizes;
+        print(rt, &line[1..])?;
+        return Ok(sizes);
     }
     if step == b'.' {
-        print(b"\n");
-        return sizes;
+        print(rt, b"\n")?;
+        return Ok(sizes);
     }
     let mut args = [0u8; 16];
     let n = read_bytes(line, &mut args);
-    call_on(step, &args, n, sizes, announced, mem, work, out);
+    call_on(rt, step, &args, n, sizes, announced, mem, work, out)?;
     announces(step, args[0], announced);
-    lends(step, args[0], sizes, mem, out)
+    Ok(lends(step, args[0], sizes, mem, out))
 }
 
 // Where the line that begins at a place ends.
@@ -380,12 +430,13 @@ fn end_from(table: &[u8], at: usize) -> usize
 
 // All lines of the table.
 fn take_all(
+    rt: &impl Print,
     table: &[u8],
     announced: &mut [u8; 32],
     mem: &mut [u8],
     work: &mut [u8],
     out: &mut [u8],
-) {
+) -> io::Result<()> {
     let mut sizes = Sizes {
         mem: 148,
         work: 161,
@@ -395,32 +446,57 @@ fn take_all(
     while at < table.len() {
         let end = end_from(table, at);
         let next = take_step(
+            rt,
             memory::part(table, at, end - at),
             sizes,
             announced,
             mem,
             work,
             out,
-        );
+        )?;
         sizes = next;
         at = end + 1;
     }
+    Ok(())
 }
 
-fn main() {
+// Room for the table.
+fn table_room() -> [u8; 65536]
+    ensures { 65536 ≡ length result }
+{
+    [0; 65536]
+}
+
+// Reads the table until its room is full or the input ends. Gives how many bytes were read.
+fn read_table(rt: &impl Input, table: &mut [u8; 65536]) -> io::Result<usize> {
+    let mut input = rt.reader();
+    let mut n: usize = 0;
+    while n < table.len() {
+        let got = input.read(&mut table[n..])?;
+        if got == 0 {
+            break;
+        }
+        n += got;
+    }
+    Ok(n)
+}
+
+fn main(rt: HostRuntime) -> io::Result<()> {
     let mut announced = flows::all();
     let mut mem = memory_for_four();
     let mut work = working_memory();
     let mut out = output();
-    let mut table = io::large_buffer();
-    let n = io::read_full(STDIN_FILENO, &mut table);
+    let mut table = table_room();
+    let n = read_table(&rt, &mut table)?;
     if n <= 65536 {
         take_all(
+            &rt,
             memory::part(&table, 0, n),
             &mut announced,
             &mut mem,
             &mut work,
             &mut out,
-        );
+        )?;
     }
+    Ok(())
 }

@@ -4,14 +4,14 @@
 --   adds_judged, key_is, repairs_judged
 --   sender_judged, announced-only: every list of calls
 --   opening_judged: every opening
-use Rattle.words.specs.Words.{◌≡◌, arith, ℕ, ◌≤◌, ◌+◌, List, length, ◌<◌, refl, ◌∙◌, sym, ap, [], some, ◌∷◌, true, none, ◌*◌, false, Bool, Option, subst}
-use Rattle.words.specs.Words.{drop, ltb, length-drop, ◌||◌, not, lt-ltb, le-ltb, ◌⊎◌, inl, inr, suc-mul, mul-le-mul_right, eq-eqb, ne_eqb, ℕ_discrete}
+use Rattle.words.specs.Words.{◌≡◌, arith, ℕ, ◌≤◌, ◌+◌, List, length, ◌<◌, refl, ◌∙◌, sym, ap, [], ◌∷◌, true, ◌*◌, false, Bool, subst}
+use Rattle.words.specs.Words.{drop, ltb, length-drop, ◌||◌, not, lt-ltb, le-ltb, suc-mul, mul-le-mul_right, ℕ_discrete}
 use Rattle.memory.specs.Part.{splice}
 use Rattle.wire.specs.declared.Scheme.{Scheme}
 use Rattle.wire.specs.declared.Scheme.TheVariants.{Gf2, Gf256}
 use Rattle.wire.specs.declared.Setting.{Setting}
 use Rattle.wire.specs.Numbers.{within}
-use Rattle.wire.specs.Settings.{scheme_number, scheme_of, in_range, setting_of, Valid}
+use Rattle.wire.specs.Settings.{Valid}
 use Rattle.wire.specs.Packets.{symbol_count}
 use Rattle.wire.specs.Flows.{Announced, announced}
 use Rattle.wire.proofs.Flows.{announced_exactly, announced-not}

@@ -6,7 +6,7 @@ ghost use Rattle.words.specs.Words.{◌≡◌, max};
 ghost use Rattle.survey.specs.Survey.{counted, longest_of_key, longest_at, longest_zeros};
 
 use coefficients::next_coefficient;
-use libc::STDOUT_FILENO;
+use std::io;
 use wire::Scheme;
 
 // The zero bytes drawn for one coefficient, and the state after its draws.
@@ -70,7 +70,7 @@ fn longest_zeros() -> u8
     longest
 }
 
-fn main() {
-    io::print_decimal(STDOUT_FILENO, longest_zeros() as u64);
-    io::write_all(STDOUT_FILENO, b"\n");
+fn main(rt: HostRuntime) -> io::Result<()> {
+    let longest = longest_zeros();
+    println!(rt; "{longest}")
 }

@@ -1,21 +1,22 @@
 -- `block_encoder::encode` meets its contract.
-use Rattle.words.specs.Words.{◌≡◌, arith, length, rules, sym, take, length-take-le}
+use Rattle.words.specs.Words.{◌≡◌, arith, ℕ, ◌≤◌, List, length, sym, take, length-take-le}
 use Rattle.block_encoder.proofs.encode.Goals as goal
-use Rattle.block_encoder.proofs.encode.Goals.{After-no_coefficients-list}
 
--- Where there is room for the coefficients, and the start before that; k of them are lent.
-abbrev start : After-no_coefficients-list → After-no_coefficients-list
-start p = p⟪Start⟫
-
-lent : (p : After-no_coefficients-list) → length (take (start p).args.k p.no_coefficients-list.result) ≡ (start p).args.k
-lent p = length-take-le _ _ (omega (arith, p.no_coefficients-list.ensures, (start p).requires.2))
+-- Of the room for the coefficients k are lent.
+lent : (k : ℕ) (l : List ℕ) → length l ≡ 255 → k ≤ 255 → length (take k l) ≡ k
+lent k l e h = length-take-le _ _ (omega (arith, e, h))
 
 pub slice_bounds-encode_by-end : goal.slice_bounds-encode_by-end
-slice_bounds-encode_by-end c = sym (lent (goal.at.slice_bounds-encode_by-end c).After-no_coefficients-list)
+slice_bounds-encode_by-end c =
+    let lent = lent c.args.k c.no_coefficients-list.result c.no_coefficients-list.ensures c.requires.2 in
+    sym lent
 
 pub encode_by-requires : goal.encode_by-requires
-encode_by-requires c = rw (lent p) (start p).requires
+encode_by-requires c =
+    let lent = lent c.args.k c.no_coefficients-list.result c.no_coefficients-list.ensures c.requires.2 in
+    rw lent c.requires
 
 pub returns : goal.returns
 returns c =
-    rw (lent (goal.at.returns c).After-no_coefficients-list) at c.encode_by.ensures
+    let lent = lent c.args.k c.no_coefficients-list.result c.no_coefficients-list.ensures c.requires.2 in
+    rw lent at c.encode_by.ensures

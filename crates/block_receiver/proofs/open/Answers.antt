@@ -1,62 +1,47 @@
 -- `block_receiver::open` meets its contract.
-use Rattle.words.specs.Words.{◌≡◌, arith, rules, ◌∙◌, sym, ap, subst}
+use Rattle.words.specs.Words.{◌≡◌, arith, ℕ, ◌∙◌, sym, ap, subst}
 use Rattle.memory.specs.Part.{splice}
-use Rattle.wire.specs.declared.Answer.{Answer}
 use Rattle.receiver.specs.Layout.{receiver_layout}
 use Rattle.receiver.specs.Promises as receiver
 use Rattle.blocks.specs.declared.Block.{Block}
+use Rattle.blocks.specs.declared.Named.{Named}
 use Rattle.blocks.specs.declared.Named.TheVariants.{Good}
 use Rattle.blocks.specs.Block.{block_of, Valid}
 use Rattle.blocks.specs.Stored.{block_bytes}
 use Rattle.blocks.proofs.Values.{block_from, good_names}
-use Rattle.block_receiver.proofs.Opening.{opening_bad, opening-refused, opened-room, opening_done}
+use Rattle.block_receiver.proofs.Opening.{opening-refused, opened-room, opening_done}
 use Rattle.block_receiver.proofs.open.Goals as goal
-use Rattle.block_receiver.proofs.open.Goals.{After-open, In-Good-2}
 
 -- The block that the numbers name is theirs, and valid.
-module _ (p : In-Good-2) where
-  abbrev block : Block
-  block = p.block-1.given.0.0
+record Theirs (size k total number : ℕ) (b : Block) : Type 0 where
+  is : b ≡ block_from size k total number
+  valid : Valid (block_from size k total number)
+  good : block_of size k total number ≡ Good (block_from size k total number)
 
-  abbrev theirs : Block
-  theirs = let a = p.args in block_from a.size a.k a.total a.number
-
-  is : block ≡ theirs
-  is = let a = p.args in (good_names a.size a.k a.total a.number block (sym p.Block-of.ensures ∙ p.block-1.given.1)).0
-
-  valid : Valid theirs
-  valid =
-      let a = p.args in
-      subst Valid is (good_names a.size a.k a.total a.number block (sym p.Block-of.ensures ∙ p.block-1.given.1)).1
-
-  good : let a = p.args in block_of a.size a.k a.total a.number ≡ Good theirs
-  good = sym p.Block-of.ensures ∙ p.block-1.given.1 ∙ ap Good is
-
-pub returns-in-Bad : goal.returns-in-Bad
-returns-in-Bad c = opening_bad _ _ _ _ _ _ (sym c.Block-of.ensures ∙ c.why-1.given.1)
-
--- The memory was opened as a receiver's, and what that answered.
-module _ (q : After-open) where
-  abbrev p : After-open
-  p = q⟪In-Good-2⟫
-
-  pub opened : (x : Answer) → q.«open».result ≡ x
-      → let a = p.before.before.before.before.args in
-      receiver.Opened receiver_layout 10 a.size a.k q.no_flows-flows.result a.mem.now q.«open».last.0 x
-  opened x e =
-      let a = p.before.before.before.before.args in
-      subst (λ y. receiver.Opened receiver_layout 10 a.size a.k q.no_flows-flows.result a.mem.now q.«open».last.0 y) e q.«open».ensures
+theirs : (size k total number : ℕ) (n : Named) (b : Block) → n ≡ block_of size k total number → n ≡ Good b → Theirs size k total number b
+theirs size k total number n b q r =
+    let (i, v) = good_names size k total number b (sym q ∙ r) in
+    record { is = i; valid = subst Valid i v; good = sym q ∙ r ∙ ap Good i }
 
 pub write_block-requires : goal.write_block-requires
 write_block-requires c =
-    let r = opened-room _ _ _ _ (valid p) (good p) _ _ _ _ (opened (goal.at.write_block-requires c).After-open _ c.enum_told-1.given.1) in
-    (omega (arith, r), subst Valid (sym (is p)) (valid p))
+    let a = c.args in
+    let t = theirs a.size a.k a.total a.number _ c.in-Good.block c.block_of.ensures c.in-Good.is in
+    let o = subst (receiver.Opened receiver_layout 10 a.size a.k c.no_flows-flows.result a.mem.now c.open.new.mem) c.in-Done.is c.open.ensures in
+    let r = opened-room _ _ _ _ t.valid t.good _ _ _ _ o in
+    (omega (arith, r), subst Valid (sym t.is) t.valid)
 
 pub returns-in-Refused : goal.returns-in-Refused
 returns-in-Refused c =
-    opening-refused _ _ _ _ (valid p) (good p) _ _ _ _ (opened (goal.at.returns-in-Refused c).After-open _ c.why-in-Refused-1.given.1)
+    let a = c.args in
+    let t = theirs a.size a.k a.total a.number _ c.in-Good.block c.block_of.ensures c.in-Good.is in
+    opening-refused _ _ _ _ t.valid t.good _ _ _ _
+    (subst (receiver.Opened receiver_layout 10 a.size a.k c.no_flows-flows.result a.mem.now c.open.new.mem) c.in-Refused.is c.open.ensures)
 
 pub returns-in-Done : goal.returns-in-Done
 returns-in-Done c =
-    opening_done _ _ _ _ (valid p) (good p) _ _ _ _ (opened (goal.at.returns-in-Done c).After-open _ c.enum_told-1.given.1) _
-    (c.write_block.ensures ∙ ap (λ b. splice 0 (block_bytes 4 b) c.«open».new.0) (is p))
+    let a = c.args in
+    let t = theirs a.size a.k a.total a.number _ c.in-Good.block c.block_of.ensures c.in-Good.is in
+    opening_done _ _ _ _ t.valid t.good _ _ _ _
+    (subst (receiver.Opened receiver_layout 10 a.size a.k c.no_flows-flows.result a.mem.now c.open.new.mem) c.in-Done.is c.open.ensures) _
+    (c.write_block.ensures ∙ ap (λ (b : Block). splice 0 (block_bytes 4 b) c.open.new.mem) t.is)

@@ -1,5 +1,5 @@
 -- `blocks::write_block` meets its contract: the setting, and the numbers one after the other.
-use Rattle.words.specs.Words.{arith, rules, ◌∙◌, ap}
+use Rattle.words.specs.Words.{arith, ◌∙◌, ap}
 use Rattle.memory.specs.Part.{splice}
 use Rattle.wire.specs.Stored.{setting_bytes}
 use Rattle.blocks.proofs.Values.{setting_valid}

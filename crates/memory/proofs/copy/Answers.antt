@@ -1,6 +1,6 @@
 -- `memory::copy` meets its contract. The loop: the first i elements are those of the result.
-use Rattle.words.specs.Words.{arith, rules, refl, ◌-◌}
-use Rattle.memory.proofs.Loop.{Turned, turned_more, turned_all}
+use Rattle.words.specs.Words.{arith, refl}
+use Rattle.memory.proofs.Loop.{turned_more, turned_all}
 use Rattle.memory.proofs.copy.Goals as goal
 
 pub loop-i-preserved : goal.loop-i-preserved

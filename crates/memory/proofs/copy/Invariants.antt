@@ -1,6 +1,6 @@
 -- `memory::copy` meets its contract. The loop: the first i elements are those of the result.
-use Rattle.words.specs.Words.{arith, rules, refl, ◌-◌}
-use Rattle.memory.proofs.Loop.{Turned, turned_more, turned_all}
+use Rattle.words.specs.Words.{◌-◌}
+use Rattle.memory.proofs.Loop.{Turned}
 use Rattle.memory.proofs.copy.Given as goal
 
 abbrev pub invariant-loop-i : goal.invariant-loop-i

@@ -1,5 +1,5 @@
 -- `memory::copy_part` meets its contract.
-use Rattle.words.specs.Words.{arith, rules}
+use Rattle.words.specs.Words.{arith}
 use Rattle.memory.proofs.Parts.{put, cut}
 use Rattle.memory.proofs.copy_part.Goals as goal
 

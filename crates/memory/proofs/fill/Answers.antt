@@ -1,7 +1,7 @@
 -- `memory::fill` meets its contract. The loop: the first i elements are those of the result.
-use Rattle.words.specs.Words.{arith, length, rules, sym, ◌-◌, replicate, length-replicate}
+use Rattle.words.specs.Words.{arith, length, sym, length-replicate}
 use lib.ListN.{get_or-replicate}
-use Rattle.memory.proofs.Loop.{Turned, turned_more, turned_all}
+use Rattle.memory.proofs.Loop.{turned_more, turned_all}
 use Rattle.memory.proofs.fill.Goals as goal
 
 pub loop-i-preserved : goal.loop-i-preserved

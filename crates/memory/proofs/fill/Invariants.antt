@@ -1,7 +1,6 @@
 -- `memory::fill` meets its contract. The loop: the first i elements are those of the result.
-use Rattle.words.specs.Words.{arith, length, rules, sym, ◌-◌, replicate, length-replicate}
-use lib.ListN.{get_or-replicate}
-use Rattle.memory.proofs.Loop.{Turned, turned_more, turned_all}
+use Rattle.words.specs.Words.{length, ◌-◌, replicate}
+use Rattle.memory.proofs.Loop.{Turned}
 use Rattle.memory.proofs.fill.Given as goal
 
 abbrev pub invariant-loop-i : goal.invariant-loop-i

@@ -1,5 +1,5 @@
 -- `memory::load_u16` meets its contract.
-use Rattle.words.specs.Words.{arith, ◌+◌, rules, ap}
+use Rattle.words.specs.Words.{arith, ◌+◌, ap}
 use Rattle.memory.specs.Number.{number}
 use Rattle.memory.proofs.Parts.{part-two}
 use Rattle.memory.proofs.load_u16.Goals as goal
@@ -14,10 +14,3 @@ pub returns : goal.returns
 returns c =
     let a = c.args in
     omega (arith, ap number (part-two a.at a.mem.now (omega arith)))
-
--- LEFT -- no such goal now: overflow-cast-result
--- LEFT cast-result : tie.Need-overflow-cast-result
--- LEFT cast-result c = omega (arith, c.shared-slice-known.given c.before.args.at)
--- LEFT -- no such goal now: overflow-cast-result-2
--- LEFT cast-result-2 : tie.Need-overflow-cast-result-2
--- LEFT cast-result-2 c = omega (arith, c.shared-slice-known2.given (c.before.before.args.at + 1))

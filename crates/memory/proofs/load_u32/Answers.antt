@@ -1,5 +1,5 @@
 -- `memory::load_u32` meets its contract.
-use Rattle.words.specs.Words.{arith, rules}
+use Rattle.words.specs.Words.{arith}
 use Rattle.memory.proofs.Number.{number-part}
 use Rattle.memory.proofs.load_u32.Goals as goal
 

@@ -1,5 +1,5 @@
 -- `memory::part` meets its contract.
-use Rattle.words.specs.Words.{rules, refl}
+use Rattle.words.specs.Words.{refl}
 use native.Mathlib.Nat.{add_comm}
 use Rattle.memory.proofs.Parts.{cut}
 use Rattle.memory.proofs.part.Goals as goal

@@ -1,9 +1,6 @@
--- `refusals::read_bytes` is safe and ends.
-use Rattle.words.specs.Words.{◌≡◌, arith, ◌≤◌, length, rules, ◌-◌}
+-- `refusals::read_bytes` meets its contract.
+use Rattle.words.specs.Words.{◌≡◌, ◌≤◌, length}
 use Rattle.refusals.proofs.read_bytes.Given as goal
 
 abbrev pub invariant-loop-i : goal.invariant-loop-i
 invariant-loop-i l = (l.i-end ≡ length l.line) × (l.n ≤ 32)
-
-abbrev pub decreases-loop-i : goal.decreases-loop-i
-decreases-loop-i l = l.i-end - l.i

@@ -1,7 +1,6 @@
 -- `survey::longest_at` meets its contract. The loop's invariant: `longest` is the longest row of the keys below `key`.
-use Rattle.words.specs.Words.{◌≡◌, arith, ◌≤◌, rules, ◌-◌}
+use Rattle.words.specs.Words.{◌≡◌, ◌≤◌, ◌-◌}
 use Rattle.survey.specs.Survey.{longest_at}
-use Rattle.survey.proofs.Laws.{largest-none, largest-more}
 use Rattle.survey.proofs.longest_at.Given as goal
 
 abbrev pub invariant-loop-key : goal.invariant-loop-key

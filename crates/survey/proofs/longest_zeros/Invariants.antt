@@ -1,7 +1,6 @@
 -- `survey::longest_zeros` meets its contract. The loop's invariant: `longest` is the longest row at the density thresholds below dt.
-use Rattle.words.specs.Words.{◌≡◌, arith, ◌≤◌, rules, ◌-◌}
+use Rattle.words.specs.Words.{◌≡◌, ◌≤◌, ◌-◌}
 use Rattle.survey.specs.Survey.{longest_within}
-use Rattle.survey.proofs.Laws.{largest-none, largest-more}
 use Rattle.survey.proofs.longest_zeros.Given as goal
 
 abbrev pub invariant-loop-dt : goal.invariant-loop-dt

@@ -1,6 +1,5 @@
 -- `table::or_all` meets its contract. The loop: x is zero just where every byte before i is.
-use Rattle.words.specs.Words.{◌≡◌, arith, ◌≤◌, rules, ◌-◌, ◌↔◌}
-use Rattle.table.specs.RowSteps.{ZeroFrom}
+use Rattle.words.specs.Words.{arith, rules}
 use Rattle.table.proofs.Marking.{or-none, or-more, or_done}
 use Rattle.table.proofs.or_all.Goals as goal
 

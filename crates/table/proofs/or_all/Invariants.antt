@@ -1,7 +1,6 @@
 -- `table::or_all` meets its contract. The loop: x is zero just where every byte before i is.
-use Rattle.words.specs.Words.{◌≡◌, arith, ◌≤◌, rules, ◌-◌, ◌↔◌}
+use Rattle.words.specs.Words.{◌≡◌, ◌≤◌, ◌-◌, ◌↔◌}
 use Rattle.table.specs.RowSteps.{ZeroFrom}
-use Rattle.table.proofs.Marking.{or-none, or-more, or_done}
 use Rattle.table.proofs.or_all.Given as goal
 
 abbrev pub invariant-loop-i : goal.invariant-loop-i

@@ -1,5 +1,5 @@
 -- `table::row_after` meets its contract.
-use Rattle.words.specs.Words.{arith, rules, ◌∙◌, sym, mod-eq_of_lt}
+use Rattle.words.specs.Words.{arith, ◌∙◌, sym, mod-eq_of_lt}
 use native.Mathlib.Nat.{mod-eq-sub-mod}
 use Rattle.table.proofs.row_after.Goals as goal
 

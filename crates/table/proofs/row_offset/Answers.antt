@@ -1,5 +1,5 @@
 -- `table::row_offset` meets its contract.
-use Rattle.words.specs.Words.{◌≡◌, arith, ℕ, ◌≤◌, ◌+◌, rules, ap, ◌*◌}
+use Rattle.words.specs.Words.{◌≡◌, arith, ℕ, ◌≤◌, ◌+◌, ap, ◌*◌}
 use Rattle.memory.proofs.Parts.{row_fits}
 use Rattle.table.specs.declared.Shape.{Shape}
 use Rattle.table.specs.Window.{stride, row_offset}
@@ -33,5 +33,4 @@ returns c = record {
   end = omega (arith, product (goal.at.returns c).After-stride, row_fits ((s (goal.at.returns c).After-stride).width + 1) (stride (s (goal.at.returns c).After-stride).width (s (goal.at.returns c).After-stride).size) (r (goal.at.returns c).After-stride) (omega arith));
   wide = flags_fit _ _;
   small = omega (arith, product (goal.at.returns c).After-stride, bound (goal.at.returns c).After-stride);
-
 }

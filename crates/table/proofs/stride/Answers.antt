@@ -1,5 +1,5 @@
 -- `table::stride` meets its contract.
-use Rattle.words.specs.Words.{arith, rules}
+use Rattle.words.specs.Words.{arith}
 use Rattle.table.specs.Window.{stride}
 use Rattle.table.proofs.stride.Goals as goal
 

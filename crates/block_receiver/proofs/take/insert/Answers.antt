@@ -1,27 +1,18 @@
 -- `block_receiver::take::insert` meets its contract.
-use Rattle.words.specs.Words.{arith, rules}
-use Rattle.block_receiver.proofs.Taking.{admitted_as, works_as, committed_as, inserted_kept, inserted_implied, inserted_contradicts}
+use Rattle.block_receiver.proofs.Taking.{admitted_as, committed_as, inserted_kept, inserted_implied, inserted_contradicts}
 use Rattle.block_receiver.proofs.take.insert.Goals as goal
-
-pub admit-verdict-requires : goal.admit-verdict-requires
-admit-verdict-requires c = let (f, w, o) = ⟪c.before.before.before.before.requires⟫ in (f, w, omega (arith, o, f.some_width), f.some_width, omega arith)
-
-pub commit-requires : goal.commit-requires
-commit-requires c =
-    let (f, w, o) = ⟪c.before.before.before.before.before.before.before.before.before.before.before.requires⟫ in
-    (f, omega (arith, o, f.some_width), works_as c.enum_told.given.1 c.admit.ensures.works)
 
 pub returns-in-Kept : goal.returns-in-Kept
 returns-in-Kept c =
-    let (f, w, o) = ⟪c.before.before.before.before.before.before.before.before.before.before.before.before.before.before.requires⟫ in
-    inserted_kept _ _ _ _ _ w _ _ (admitted_as o c.enum_told.given.1 c.admit.ensures) (committed_as o c.commit.ensures)
+    let (f, w, o) = c.requires in
+    inserted_kept _ _ _ _ _ w _ _ (admitted_as o c.in-Kept.is c.admit-verdict.ensures) (committed_as o c.commit.ensures)
 
 pub returns-in-Implied : goal.returns-in-Implied
 returns-in-Implied c =
-    let (f, w, o) = ⟪c.before.before.before.before.before.before.before.before.before.requires⟫ in
-    inserted_implied _ _ _ _ _ w (admitted_as o c.enum_told-in-Implied-1.given.1 c.admit-verdict.ensures)
+    let (f, w, o) = c.requires in
+    inserted_implied _ _ _ _ _ w (admitted_as o c.in-Implied.is c.admit-verdict.ensures)
 
 pub returns-in-Contradiction : goal.returns-in-Contradiction
 returns-in-Contradiction c =
-    let (f, w, o) = ⟪c.before.before.before.before.before.before.before.before.before.requires⟫ in
-    inserted_contradicts _ _ _ _ _ w (admitted_as o c.enum_told-in-Contradiction-1.given.1 c.admit-verdict.ensures)
+    let (f, w, o) = c.requires in
+    inserted_contradicts _ _ _ _ _ w (admitted_as o c.in-Contradiction.is c.admit-verdict.ensures)

@@ -1,5 +1,5 @@
 -- `sender::front::write_counts` meets its contract.
-use Rattle.words.specs.Words.{arith, rules}
+use Rattle.words.specs.Words.{arith}
 use Rattle.sender.proofs.Heads.{counts_chain}
 use Rattle.sender.proofs.front.write_counts.Goals as goal
 

@@ -1,5 +1,5 @@
 -- `sender::repair::first_slot` meets its contract.
-use Rattle.words.specs.Words.{arith, rules, ◌∙◌, sym, mod-eq_of_lt}
+use Rattle.words.specs.Words.{arith, ◌∙◌, sym, mod-eq_of_lt}
 use native.Mathlib.Nat.{mod-eq-sub-mod}
 use Rattle.sender.proofs.repair.first_slot.Goals as goal
 

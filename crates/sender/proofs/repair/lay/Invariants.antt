@@ -1,6 +1,6 @@
 -- `sender::repair::lay` meets its contract.
-use Rattle.words.specs.Words.{◌≡◌, arith, ◌≤◌, length, rules, refl, ◌-◌, length-set}
-use Rattle.sender.proofs.Laying.{Laying, laying_none, laying_more, laying_done}
+use Rattle.words.specs.Words.{◌≡◌, ◌≤◌, length, ◌-◌}
+use Rattle.sender.proofs.Laying.{Laying}
 use Rattle.sender.proofs.repair.lay.Given as goal
 
 abbrev pub invariant-loop-i : goal.invariant-loop-i

@@ -1,31 +1,23 @@
 -- `sender::repair::repair_symbols` meets its contract.
-use Rattle.words.specs.Words.{◌≡◌, arith, ℕ, ◌≤◌, ◌+◌, List, length, refl, ◌∙◌, sym, ap, ◌-◌, [], ◌*◌, get_or}
+use Rattle.words.specs.Words.{◌≡◌, arith, ℕ, ◌≤◌, ◌+◌, List, length, refl, ◌∙◌, sym, ap, [], ◌*◌, get_or}
 use Rattle.memory.specs.Part.{splice}
 use Rattle.memory.proofs.Parts.{cut, put, length_part, length-splice, row_fits}
-use Rattle.sender.specs.declared.Header.{Header}
 use Rattle.sender.specs.Inner.{window_in, symbols_from}
-use Rattle.sender.proofs.Combining.{Carried, carried_none, carried_more, carried_all, length_symbols, get_or-symbols}
+use Rattle.sender.proofs.Combining.{carried_none, carried_more, carried_all, length_symbols, get_or-symbols}
 use Rattle.rows.proofs.Combinations.{length-combination}
 use Rattle.sender.proofs.repair.repair_symbols.Goals as goal
 use Rattle.sender.proofs.repair.repair_symbols.Goals.{In-loop-i}
 
--- the start, and the header of the call
-abbrev start : In-loop-i → In-loop-i
-start p = p⟪Start⟫
-
-abbrev header : In-loop-i → Header
-header p = (start p).args.header
-
 -- symbol i lies in the output, and its coefficients in the lists
-inside : (p : In-loop-i) → 8 + p.loop-i.i * (header p).setting.size + (header p).setting.size ≤ length p.loop-i.out
+inside : (p : In-loop-i) → 8 + p.loop-i.i * p.args.header.setting.size + p.args.header.setting.size ≤ length p.loop-i.out
 inside p =
-    let s = start p in
-    omega (arith, row_fits s.args.count (header p).setting.size p.loop-i.i p.loop-i-test.true, s.pre.1.symbols, p.loop-i.invariant.1)
+    let a = p.args in
+    omega (arith, row_fits a.count a.header.setting.size p.loop-i.i p.loop-i-test.true, p.requires.1.symbols, p.loop-i.invariant.1)
 
-within : (p : In-loop-i) → p.loop-i.i * (header p).held + (header p).held ≤ length (start p).args.lists.now
+within : (p : In-loop-i) → p.loop-i.i * p.args.header.held + p.args.header.held ≤ length p.args.lists.now
 within p =
-    let s = start p in
-    omega (arith, row_fits s.args.count (header p).held p.loop-i.i p.loop-i-test.true, s.pre.1.lists)
+    let a = p.args in
+    omega (arith, row_fits a.count a.header.held p.loop-i.i p.loop-i-test.true, p.requires.1.lists)
 
 pub loop-i-init : goal.loop-i-init
 loop-i-init c = (omega arith, refl, carried_none _ _ _)
@@ -53,24 +45,26 @@ slice_bounds-repair_symbol-end-in-loop-i c = omega (arith, within (goal.at.slice
 
 pub repair_symbol-requires : goal.repair_symbol-requires
 repair_symbol-requires c =
+    let p = (goal.at.repair_symbol-requires c).In-loop-i in
     let a = c.args in
     let l = c.loop-i in
     let size = a.header.setting.size in
     let held = a.header.held in (
       c.requires.0,
-      rw (cut (8 + l.i * size) size l.out) (length_part (8 + l.i * size) size l.out (inside (goal.at.repair_symbol-requires c).In-loop-i)),
-      rw (cut (l.i * held) held a.lists.now) (length_part (l.i * held) held a.lists.now (within (goal.at.repair_symbol-requires c).In-loop-i)),
+      rw (cut (8 + l.i * size) size l.out) (length_part (8 + l.i * size) size l.out (inside p)),
+      rw (cut (l.i * held) held a.lists.now) (length_part (l.i * held) held a.lists.now (within p)),
     )
 
 pub loop-i-preserved : goal.loop-i-preserved
 loop-i-preserved c =
+    let p = (goal.at.loop-i-preserved c).In-loop-i in
     let a = c.args in
     let l = c.loop-i in
     let h = a.header in
     let size = h.setting.size in
     let r = c.repair_symbol in
     let xs = symbols_from h a.mem.now a.count a.lists.now in
-    let k = p.loop-i-test.true in
+    let k = c.loop-i-test.true in
     let g = get_or-symbols h a.mem.now a.count a.lists.now l.i k in
     let x : r.new.out ≡ get_or xs l.i [] = rw (cut (l.i * h.held) h.held a.lists.now) at r.ensures ∙ sym g in
     let e = put (8 + l.i * size) size r.new.out l.out (inside p) r.auto.out ∙ ap (λ (y : List ℕ). splice (8 + l.i * size) y l.out) x in

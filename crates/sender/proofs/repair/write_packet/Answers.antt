@@ -1,10 +1,10 @@
 -- `sender::repair::write_packet` meets its contract.
-use Rattle.words.specs.Words.{arith, ◌≤◌, rules, ◌∙◌, ◌*◌, mul-le-mul}
+use Rattle.words.specs.Words.{arith, ◌≤◌, ◌*◌, mul-le-mul}
 use Rattle.coefficients.proofs.Fills.{lists_were_done, lists_were_refused}
 use Rattle.sender.proofs.Heads.{Opened, opened}
 use Rattle.sender.proofs.Combining.{packed_refused, packed_done}
 use Rattle.sender.proofs.repair.write_packet.Goals as goal
-use Rattle.sender.proofs.repair.write_packet.Goals.{In-Done-2, Start}
+use Rattle.sender.proofs.repair.write_packet.Goals.{Start}
 
 -- what the header says of the memory
 says : (p : Start) → Opened p.args.mem.now p.args.header
@@ -28,53 +28,46 @@ area p =
 
 pub fill_lists-requires : goal.fill_lists-requires
 fill_lists-requires c =
-    let o = says (goal.at.fill_lists-requires c).Start in
-    (omega (arith, fits (goal.at.fill_lists-requires c).Start, c.room_for_lists-lists.ensures), omega arith, omega arith)
+    let s = (goal.at.fill_lists-requires c).Start in
+    let o = says s in
+    (omega (arith, fits s, c.room_for_lists-lists.ensures), omega arith, omega arith)
 
 pub returns-in_default : goal.returns-in_default
 returns-in_default c =
     let a = c.args in
     packed_refused a.header a.key.0 a.dt a.count a.mem.now a.out.now _
     c.written_key-written.ensures
-    (lists_were_refused c.fill_lists.ensures c.enum_told-1.given.1)
-
--- where the lists were drawn, and the start before that
-abbrev drawn : In-Done-2 → In-Done-2
-drawn p = p⟪After-fill_lists⟫
-
-abbrev start : In-Done-2 → In-Done-2
-start p = p⟪Start⟫
+    (lists_were_refused c.fill_lists.ensures c.in_default.is)
 
 pub overflow_cast-held : goal.overflow_cast-held
-overflow_cast-held c = let o = says (start (goal.at.overflow_cast-held c).In-Done-2) in omega arith
+overflow_cast-held c = let o = says (goal.at.overflow_cast-held c).Start in omega arith
 
 pub write_repair-requires : goal.write_repair-requires
-write_repair-requires c = let o = says (start (goal.at.write_repair-requires c).In-Done-2) in omega arith
+write_repair-requires c = let o = says (goal.at.write_repair-requires c).Start in omega arith
 
 pub repair_symbols-requires : goal.repair_symbols-requires
 repair_symbols-requires c =
-    let s = start (goal.at.repair_symbols-requires c).In-Done-2 in
-    let l = (drawn (goal.at.repair_symbols-requires c).In-Done-2).fill-lists.auto.0 in (
-      s.pre.0,
+    let s = (goal.at.repair_symbols-requires c).Start in (
+      c.requires.0,
       record {
         symbols = omega (arith, c.write_repair.auto.out);
-        lists = omega (arith, l, fits s, (drawn (goal.at.repair_symbols-requires c).In-Done-2).before.before.room-for-lists.ensures);
+        lists = omega (arith, c.fill_lists.auto.out, fits s, c.room_for_lists-lists.ensures);
       },
       omega arith,
     )
 
 pub overflow_mul-written_bytes : goal.overflow_mul-written_bytes
-overflow_mul-written_bytes c = omega (arith, area (start (goal.at.overflow_mul-written_bytes c).In-Done-2))
+overflow_mul-written_bytes c = omega (arith, area (goal.at.overflow_mul-written_bytes c).Start)
 
 pub overflow_add-written_bytes : goal.overflow_add-written_bytes
-overflow_add-written_bytes c = omega (arith, area (start (goal.at.overflow_add-written_bytes c).In-Done-2))
+overflow_add-written_bytes c = omega (arith, area (goal.at.overflow_add-written_bytes c).Start)
 
 pub returns : goal.returns
 returns c =
-    let a = (start (goal.at.returns c).In-Done-2).args in
-    let f = (drawn (goal.at.returns c).In-Done-2).fill-lists.ensures in
-    let done = lists_were_done f c.draws-1.given.1 in
+    let a = c.args in
+    let f = c.fill_lists.ensures in
+    let done = lists_were_done f c.in-Done.is in
     packed_done a.header a.key.0 a.dt a.count a.mem.now a.out.now _
-    (drawn (goal.at.returns c).In-Done-2).before.before.before.written-key.ensures done.0 _ _ _ _ _
-    c.minus.ensures (f.bytes _ c.draws-1.given.1) c.write_repair.ensures
+    c.written_key-written.ensures done.0 _ _ _ _ _
+    c.minus.ensures (f.bytes _ c.in-Done.is) c.write_repair.ensures
     c.repair_symbols.ensures _ done.1

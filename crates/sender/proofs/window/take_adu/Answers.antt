@@ -1,5 +1,5 @@
 -- `sender::window::take_adu` meets its contract.
-use Rattle.words.specs.Words.{arith, rules, ◌∙◌}
+use Rattle.words.specs.Words.{arith}
 use Rattle.sender.proofs.Heads.{header-room, Opened, opened}
 use Rattle.sender.proofs.Taking.{took}
 use Rattle.sender.proofs.window.take_adu.Goals as goal

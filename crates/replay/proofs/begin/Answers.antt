@@ -2,15 +2,11 @@
 use Rattle.words.specs.Words.{arith, refl}
 use Rattle.records.specs.Records.{total}
 use Rattle.answering.proofs.Keeping.{kept_none}
-use Rattle.replay.proofs.begin.Statement.{statement}
-use Rattle.replay.proofs.begin.Tie as tie
+use Rattle.replay.proofs.begin.Goals as goal
 
-returns : tie.Need-returns
+pub returns : goal.returns
 unfolding total
 returns c = λ line m. record {
   stands = (refl, record { lines = refl; accepts = refl; refuses = refl; knows = refl; few = omega arith; small = omega arith });
   kept = kept_none line;
 }
-
-pub begin-spec : {M : Type 1} → statement M
-begin-spec = tie.close (tie.spec returns)
