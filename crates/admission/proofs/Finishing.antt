@@ -2,7 +2,8 @@
 -- Laws:
 --   the new header: rebased, rebased_length, rebased_front, rebased_past, rebased_row, rebased_esi, rebased_window
 --   the state after the packet: finished
-use Rattle.words.specs.Words.{◌≡◌, arith, ℕ, ◌≤◌, length, ◌+◌, List, ◌<◌, refl, ◌∙◌, sym, ap, ◌-◌, some, ◌%◌, get_or, subst, drop, take, ◌^◌, get_or-take, get_or-drop}
+use Rattle.std.specs.Prelude.{◌≡◌, ◌≤◌, ◌+◌, ◌<◌, ◌-◌, ◌%◌, ◌^◌}
+use Rattle.words.specs.Words.{arith, ℕ, length, List, refl, ◌∙◌, sym, ap, some, get_or, subst, drop, take, get_or-take, get_or-drop}
 use Rattle.words.specs.Words.{mod-lt}
 use lib.Seq.{take-take}
 use Rattle.memory.specs.Part.{part, splice}

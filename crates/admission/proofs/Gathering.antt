@@ -4,8 +4,9 @@
 --   a stored symbol: stored-only, works_stored, stored_is
 --   one equation: equation_admitted, stored_admitted
 --   all equations: firsts_same, firsts-cons, contradiction_stays, gathers_none, gathers_on, gathers_stop, gathers_all
-use Rattle.words.specs.Words.{◌≡◌, arith, ℕ, ◌≤◌, length, ◌+◌, List, ◌<◌, refl, ◌∙◌, sym, ap, [], ◌∷◌, suc, zero, none, get_or, ◌++◌, subst, ap₂}
-use Rattle.words.specs.Words.{ℕ_discrete, ◌-◌, drop, drop-drop, length-drop, ext_get_or, get_or-drop}
+use Rattle.std.specs.Prelude.{◌≡◌, ◌≤◌, ◌+◌, ◌<◌, ◌∷◌, ◌++◌, ◌-◌}
+use Rattle.words.specs.Words.{arith, ℕ, length, List, refl, ◌∙◌, sym, ap, [], suc, zero, none, get_or, subst, ap₂}
+use Rattle.words.specs.Words.{ℕ_discrete, drop, drop-drop, length-drop, ext_get_or, get_or-drop}
 use Rattle.memory.specs.Part.{splice}
 use Rattle.memory.proofs.Parts.{get_or-part, get_or-within, row_fits}
 use Rattle.decoder.specs.Bytes.{Coded}

@@ -1,6 +1,7 @@
 -- A packet is accepted: what is heard after it, and that the bytes which say so are no part of the state or of its marks.
 -- Laws: hear_asks, accepted
-use Rattle.words.specs.Words.{◌≡◌, arith, ℕ, ◌≤◌, length, ◌+◌, List, ◌<◌, ◌∙◌, sym, ap, ◌-◌, ◌%◌, subst, mod-add-mod}
+use Rattle.std.specs.Prelude.{◌≡◌, ◌≤◌, ◌+◌, ◌<◌, ◌-◌, ◌%◌}
+use Rattle.words.specs.Words.{arith, ℕ, length, List, ◌∙◌, sym, ap, subst, mod-add-mod}
 use Rattle.wire.specs.declared.Setting.{Setting}
 use Rattle.memory.specs.Contained.{Contained}
 use Rattle.table.specs.Window.{row_offset, Fits}

@@ -1,5 +1,6 @@
 -- The header for a packet: with a base it is the receiver's own, and without one the packet's first ESI is the base.
-use Rattle.words.specs.Words.{◌≡◌, arith, ℕ, List, ◌<◌, sym, ap, some, ◌%◌, true, none, false, Bool, ◌^◌, cond, ap₂, mod-eq_of_lt, mod-lt}
+use Rattle.std.specs.Prelude.{◌≡◌, ◌<◌, ◌%◌, ◌^◌}
+use Rattle.words.specs.Words.{arith, ℕ, List, sym, ap, some, true, none, false, Bool, cond, ap₂, mod-eq_of_lt, mod-lt}
 use Rattle.wire.specs.declared.Setting.{Setting}
 use Rattle.wire.specs.Settings.{Valid}
 use Rattle.decoder.proofs.Bytes.{laws}

@@ -1,5 +1,6 @@
 -- Where a packet lies by the header is where it lies by every base that the header is of.
-use Rattle.words.specs.Words.{◌≡◌, arith, ℕ, ◌≤◌, ◌+◌, ◌<◌, refl, ◌∙◌, sym, ap, ◌%◌, true, false, Bool, subst, ◌^◌, le-leb, leb-true, lt-leb, leb, cond, ◌≢◌}
+use Rattle.std.specs.Prelude.{◌≡◌, ◌≤◌, ◌+◌, ◌<◌, ◌%◌, ◌^◌, ◌≢◌}
+use Rattle.words.specs.Words.{arith, ℕ, refl, ◌∙◌, sym, ap, true, false, Bool, subst, le-leb, leb-true, lt-leb, leb, cond}
 use Rattle.wire.specs.declared.Refusal.{Refusal}
 use Rattle.wire.specs.declared.Refusal.TheVariants.{Behind, Ahead}
 use Rattle.wire.specs.Numbers.{distance_of, number_of}

@@ -4,8 +4,9 @@
 --   only marks changed: starts_contained, starts_holds
 --   marks not changed: same_marks
 --   a packet's rows have joined: update_asks, count_asks, count_again, followed
-use Rattle.words.specs.Words.{◌≡◌, arith, ℕ, ◌≤◌, length, ◌+◌, List, ◌<◌, refl, ◌∙◌, sym, ap, ◌-◌, some, ◌%◌, none, get_or, false, Bool, subst, Option, ltb}
-use Rattle.words.specs.Words.{ext_get_or, ap₂, dec_lt, mod-add-mod, mod-lt, ◌≢◌}
+use Rattle.std.specs.Prelude.{◌≡◌, ◌≤◌, ◌+◌, ◌<◌, ◌-◌, ◌%◌, ◌≢◌}
+use Rattle.words.specs.Words.{arith, ℕ, length, List, refl, ◌∙◌, sym, ap, some, none, get_or, false, Bool, subst, Option, ltb}
+use Rattle.words.specs.Words.{ext_get_or, ap₂, dec_lt, mod-add-mod, mod-lt}
 use Rattle.memory.specs.Part.{part}
 use Rattle.memory.proofs.Parts.{length_part, get_or-part}
 use Rattle.wire.specs.declared.Setting.{Setting}

@@ -2,7 +2,8 @@
 -- Laws:
 --   a check fails: failed_unopened, failed, failed_short, failed_stopped, failed_out
 --   all pass: reading_at, passed
-use Rattle.words.specs.Words.{◌≡◌, arith, ℕ, ◌≤◌, ◌+◌, List, ◌<◌, refl, ◌∙◌, sym, ap, some, ◌%◌, none, subst, ◌^◌, lt-leb, ◌≢◌, none-ne-some}
+use Rattle.std.specs.Prelude.{◌≡◌, ◌≤◌, ◌+◌, ◌<◌, ◌%◌, ◌^◌, ◌≢◌}
+use Rattle.words.specs.Words.{arith, ℕ, List, refl, ◌∙◌, sym, ap, some, none, subst, lt-leb, none-ne-some}
 use Rattle.wire.specs.declared.Setting.{Setting}
 use Rattle.wire.specs.declared.Refusal.{Refusal}
 use Rattle.wire.specs.Numbers.{number_of}

@@ -2,7 +2,8 @@
 -- Laws:
 --   its fields: sized
 --   the reading: repair_form_lem, repair_range, repair_out, repair_draws, repair_passed
-use Rattle.words.specs.Words.{◌≡◌, arith, ℕ, ◌≤◌, length, ◌+◌, List, refl, ◌∙◌, sym, ap, some, ◌%◌, true, ◌*◌, false, ◌++◌, Bool, drop, ◌^◌, eqb-true, le-leb}
+use Rattle.std.specs.Prelude.{◌≡◌, ◌≤◌, ◌+◌, ◌%◌, ◌*◌, ◌++◌, ◌^◌}
+use Rattle.words.specs.Words.{arith, ℕ, length, List, refl, ◌∙◌, sym, ap, some, true, false, Bool, drop, eqb-true, le-leb}
 use Rattle.words.specs.Words.{leb, mul-le-mul}
 use Rattle.wire.specs.declared.Refusal.{Refusal}
 use Rattle.wire.specs.declared.RepairFields.{RepairFields}

@@ -1,5 +1,6 @@
 -- A repair packet's equations: a row with its coefficients and its symbol spells the model's equation, and all are the model's packet.
-use Rattle.words.specs.Words.{◌≡◌, arith, ℕ, length, ◌+◌, List, refl, ◌∙◌, sym, ap, ◌-◌, [], ◌∷◌, ◌*◌, get_or, drop, ap₂}
+use Rattle.std.specs.Prelude.{◌≡◌, ◌+◌, ◌-◌, ◌∷◌, ◌*◌}
+use Rattle.words.specs.Words.{arith, ℕ, length, List, refl, ◌∙◌, sym, ap, [], get_or, drop, ap₂}
 use Rattle.memory.specs.Part.{part, splice}
 use Rattle.memory.proofs.Parts.{part-drop}
 use Rattle.wire.specs.Packets.{chunks}

@@ -2,7 +2,8 @@
 -- Laws:
 --   its fields: Fields, source-fields, source-none
 --   the reading: source_form_lem, source-stray, source-long, source_many, source_out, source_passed
-use Rattle.words.specs.Words.{◌≡◌, arith, ℕ, ◌≤◌, length, ◌+◌, List, ◌<◌, refl, ◌∙◌, sym, ap, ◌-◌, some, suc, zero, true, ◌*◌, false, Bool, subst, le-leb}
+use Rattle.std.specs.Prelude.{◌≡◌, ◌≤◌, ◌+◌, ◌<◌, ◌-◌, ◌*◌}
+use Rattle.words.specs.Words.{arith, ℕ, length, List, refl, ◌∙◌, sym, ap, some, suc, zero, true, false, Bool, subst, le-leb}
 use Rattle.words.specs.Words.{leb-true, lt-leb, leb, length-take-le, cond, zero-mul}
 use Rattle.wire.specs.declared.Refusal.{Refusal}
 use Rattle.wire.specs.declared.SourceFields.{SourceFields}

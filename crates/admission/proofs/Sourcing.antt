@@ -1,5 +1,6 @@
 -- A source packet's equations: a row with the coefficient one at the symbol's position spells the model's equation, and all are the model's packet.
-use Rattle.words.specs.Words.{◌≡◌, arith, ℕ, length, ◌+◌, List, ◌<◌, refl, ◌∙◌, sym, ap, ◌-◌, [], ◌%◌, ◌∷◌, suc, zero, get_or, map, ap₂, mod-add-mod}
+use Rattle.std.specs.Prelude.{◌≡◌, ◌+◌, ◌<◌, ◌-◌, ◌%◌, ◌∷◌}
+use Rattle.words.specs.Words.{arith, ℕ, length, List, refl, ◌∙◌, sym, ap, [], suc, zero, get_or, map, ap₂, mod-add-mod}
 use Rattle.memory.specs.Part.{splice}
 use Rattle.wire.specs.Packets.{symbol_count, symbol_at, source_symbols}
 use Rattle.decoder.specs.Bytes.{Coded}

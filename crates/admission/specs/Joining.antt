@@ -1,6 +1,7 @@
 -- Contracts of inner functions: a reader need not believe these.
 -- The header that a packet is worked on with, and the memory that has it.
-use Rattle.words.specs.Words.{◌≡◌, ℕ, ◌≤◌, length, List, ◌<◌, some, ◌%◌, true, ◌^◌, cond}
+use Rattle.std.specs.Prelude.{◌≡◌, ◌≤◌, ◌<◌, ◌%◌, ◌^◌}
+use Rattle.words.specs.Words.{ℕ, length, List, some, true, cond}
 use Rattle.wire.specs.Settings.{Valid}
 use Rattle.wire.specs.Stored.{setting_in}
 use Rattle.history.specs.History.{memory_size}

@@ -1,6 +1,7 @@
 -- Contracts of inner functions: a reader need not believe these.
 -- What reading a packet finds, before its equations are gathered.
-use Rattle.words.specs.Words.{◌≡◌, ℕ, ◌≤◌, length, ◌+◌, List, ◌<◌, some, ◌%◌, none, ◌*◌, drop, ◌^◌, ◌≢◌}
+use Rattle.std.specs.Prelude.{◌≡◌, ◌≤◌, ◌+◌, ◌<◌, ◌%◌, ◌*◌, ◌^◌, ◌≢◌}
+use Rattle.words.specs.Words.{ℕ, length, List, some, none, drop}
 use Rattle.wire.specs.declared.Setting.{Setting}
 use Rattle.wire.specs.declared.Refusal.{Refusal}
 use Rattle.wire.specs.Numbers.{number_of}

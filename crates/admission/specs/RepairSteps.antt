@@ -1,6 +1,7 @@
 -- Contracts of inner functions: a reader need not believe these.
 -- A repair packet's equations.
-use Rattle.words.specs.Words.{ℕ, ◌+◌, List, ◌*◌, get_or}
+use Rattle.std.specs.Prelude.{◌+◌, ◌*◌}
+use Rattle.words.specs.Words.{ℕ, List, get_or}
 use Rattle.memory.specs.Part.{part}
 use Rattle.decoder.specs.Bytes.{byte, Coded}
 use Rattle.decoder.specs.Model.{Row}

@@ -1,6 +1,7 @@
 -- Contracts of inner functions: a reader need not believe these.
 -- The steps of a packet call: the packet's place, its equations in working memory, and the state after it.
-use Rattle.words.specs.Words.{◌≡◌, ℕ, ◌≤◌, length, ◌+◌, List, ◌<◌, ◌-◌, [], some, ◌%◌, ◌∷◌, suc, zero, none, ◌*◌, get_or, ◌++◌, leb, cond}
+use Rattle.std.specs.Prelude.{◌≡◌, ◌≤◌, ◌+◌, ◌<◌, ◌-◌, ◌%◌, ◌∷◌, ◌*◌, ◌++◌}
+use Rattle.words.specs.Words.{ℕ, length, List, [], some, suc, zero, none, get_or, leb, cond}
 use Rattle.wire.specs.declared.Setting.{Setting}
 use Rattle.wire.specs.declared.Refusal.TheVariants.{Behind, Ahead}
 use Rattle.decoder.specs.Bytes.{Coded}

@@ -1,5 +1,6 @@
 // The steps that both packet calls share: where the packet lies, what one more equation makes of it, and the state after it.
-ghost use Rattle.words.specs.Words.{◌≡◌, ◌≤◌, length, ◌<◌};
+ghost use Rattle.std.specs.Prelude.{◌≡◌, ◌≤◌, ◌<◌};
+ghost use Rattle.words.specs.Words.{length};
 ghost use Rattle.wire.specs.Settings.{Valid};
 ghost use Rattle.table.specs.Window.{Fits};
 ghost use Rattle.table.specs.Packet.{Works};

@@ -1,5 +1,6 @@
 // A repair packet: its checks, and its equations, one for each repair symbol, which says that it is its combination of the positions' symbols.
-ghost use Rattle.words.specs.Words.{◌≡◌, ◌≤◌, length, ◌+◌, ◌<◌, ◌*◌};
+ghost use Rattle.std.specs.Prelude.{◌≡◌, ◌≤◌, ◌+◌, ◌<◌, ◌*◌};
+ghost use Rattle.words.specs.Words.{length};
 ghost use Rattle.table.specs.Window.{Fits};
 ghost use Rattle.table.specs.Packet.{Works};
 ghost use Rattle.admission.specs.Steps.{Admits, Gathers};

@@ -1,5 +1,6 @@
 // A source packet: its checks, and its equations, one for each symbol of its ADU, which says that the position holds it.
-ghost use Rattle.words.specs.Words.{◌≡◌, ◌≤◌, length, ◌+◌, ◌<◌};
+ghost use Rattle.std.specs.Prelude.{◌≡◌, ◌≤◌, ◌+◌, ◌<◌};
+ghost use Rattle.words.specs.Words.{length};
 ghost use Rattle.memory.specs.Part.{splice};
 ghost use Rattle.wire.specs.Packets.{symbol_count, symbol_at};
 ghost use Rattle.table.specs.Window.{row_offset, Fits};

@@ -1,5 +1,6 @@
 -- A packet line's answer, and a first line's opening.
-use Rattle.words.specs.Words.{◌≡◌, arith, ℕ, ◌≤◌, List, length, ◌<◌, refl, ◌∙◌, sym, ap, some, none, subst, Option, none-ne-some, lt-leb}
+use Rattle.std.specs.Prelude.{◌≡◌, ◌≤◌, ◌<◌}
+use Rattle.words.specs.Words.{arith, ℕ, List, length, refl, ◌∙◌, sym, ap, some, none, subst, Option, none-ne-some, lt-leb}
 use Rattle.memory.specs.Part.{part}
 use Rattle.wire.specs.declared.Setting.{Setting}
 use Rattle.receiver.specs.declared.PacketAnswer.{PacketAnswer}

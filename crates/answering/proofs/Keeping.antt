@@ -1,5 +1,6 @@
 -- The bytes that are kept of a line that has not ended.
-use Rattle.words.specs.Words.{◌≡◌, arith, ℕ, ◌≤◌, ◌+◌, List, length, ◌<◌, refl, [], ◌++◌, length-append}
+use Rattle.std.specs.Prelude.{◌≡◌, ◌≤◌, ◌+◌, ◌<◌, ◌++◌}
+use Rattle.words.specs.Words.{arith, ℕ, List, length, refl, [], length-append}
 use Rattle.memory.specs.Part.{part, splice}
 use Rattle.memory.proofs.Parts.{whole}
 use Rattle.printing.proofs.Laws.{put_splice}

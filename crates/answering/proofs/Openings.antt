@@ -1,6 +1,7 @@
 -- A first line's opening.
-use Rattle.words.specs.Words.{◌≡◌, arith, ℕ, ◌≤◌, List, length, ◌<◌, refl, ◌∙◌, sym, ap, some, true, none, false, Bool, subst, Option, cond, ltb, leb, le-leb}
-use Rattle.words.specs.Words.{◌&&◌, lt-leb, ltb-true, ltb-false}
+use Rattle.std.specs.Prelude.{◌≡◌, ◌≤◌, ◌<◌, ◌&&◌}
+use Rattle.words.specs.Words.{arith, ℕ, List, length, refl, ◌∙◌, sym, ap, some, true, none, false, Bool, subst, Option, cond, ltb, leb, le-leb}
+use Rattle.words.specs.Words.{lt-leb, ltb-true, ltb-false}
 use Rattle.wire.specs.declared.Setting.{Setting}
 use Rattle.wire.specs.declared.Checked.{Checked}
 use Rattle.wire.specs.declared.Checked.TheVariants.{Good, Bad}

@@ -1,5 +1,6 @@
 -- Contracts of inner functions.
-use Rattle.words.specs.Words.{◌≡◌, ℕ, ◌≤◌, List, some, true, none, false, ◌++◌, Bool, Option}
+use Rattle.std.specs.Prelude.{◌≡◌, ◌≤◌, ◌++◌}
+use Rattle.words.specs.Words.{ℕ, List, some, true, none, false, Bool, Option}
 use Rattle.wire.specs.declared.Setting.{Setting}
 use Rattle.wire.specs.Flows.{all_flows}
 use Rattle.history.specs.Model.{State, opened}

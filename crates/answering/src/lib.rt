@@ -1,7 +1,8 @@
 // What a line of a capture makes of the receiver: the bytes kept of it, the opening that a first line names, the answer to a packet line.
 #![tactic(auto)]
 
-ghost use Rattle.words.specs.Words.{◌≡◌, ◌≤◌, length};
+ghost use Rattle.std.specs.Prelude.{◌≡◌, ◌≤◌};
+ghost use Rattle.words.specs.Words.{length};
 ghost use Rattle.wire.specs.Answers.{said};
 ghost use Rattle.receiver.specs.Promises.{answer_of};
 ghost use Rattle.records.specs.Replay.{record_of};

@@ -2,7 +2,8 @@
 // operation whose lengths do not fit does nothing.
 #![tactic(auto)]
 
-ghost use Rattle.words.specs.Words.{◌≡◌, length, ◌<◌};
+ghost use Rattle.std.specs.Prelude.{◌≡◌, ◌<◌};
+ghost use Rattle.words.specs.Words.{length};
 ghost use Rattle.rows.specs.Rows.{add_scaled};
 ghost use Rattle.table.specs.Window.{Fits};
 

@@ -2,7 +2,8 @@
 // C10 begins after a packet at ESI 0 (document 02, No. 2). All flows are announced (No. 7).
 #![tactic(auto)]
 
-ghost use Rattle.words.specs.Words.{◌≡◌, length};
+ghost use Rattle.std.specs.Prelude.{◌≡◌};
+ghost use Rattle.words.specs.Words.{length};
 
 mod receiving;
 

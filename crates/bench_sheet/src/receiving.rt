@@ -1,5 +1,6 @@
 // The receiver's cases: what each packet call answers, and then what the symbol call shows. E is 4 and F is 1 throughout.
-ghost use Rattle.words.specs.Words.{◌≡◌, length};
+ghost use Rattle.std.specs.Prelude.{◌≡◌};
+ghost use Rattle.words.specs.Words.{length};
 
 use report::{print, repair, show, source};
 use std::io;

@@ -1,7 +1,8 @@
 -- The symbol with an ESI, of the source symbols that stand in a memory; and the packets.
 -- One symbol: rows-combination, symbol_made, symbol_length, symbols_are, symbol_is. Lent memory: lent.
 -- Packets: source-length, repair-length, source-written, repair-written. The call that makes repair: made.
-use Rattle.words.specs.Words.{◌≡◌, arith, ℕ, ◌≤◌, ◌+◌, List, length, ◌<◌, refl, ◌∙◌, sym, ap, ap₂, ◌-◌, [], ◌*◌, get_or, drop, take, replicate, ext_get_or}
+use Rattle.std.specs.Prelude.{◌≡◌, ◌≤◌, ◌+◌, ◌<◌, ◌-◌, ◌*◌}
+use Rattle.words.specs.Words.{arith, ℕ, List, length, refl, ◌∙◌, sym, ap, ap₂, [], get_or, drop, take, replicate, ext_get_or}
 use Rattle.words.specs.Words.{length-append, some, true, leb, leb-true}
 use Rattle.memory.specs.Part.{part, splice}
 use Rattle.memory.proofs.Parts.{part-drop, cut, length_part, whole}

@@ -1,7 +1,8 @@
 -- From the case that a call came to, to what it promises.
 -- Any call: kept, promise_unopened, promise_refused, promise_done. What each call comes to: opening_bad, opening_short, opening_done;
 -- adding_short, adding_full, adding-long, adding_done; repairing_short, repairing_low, repairing_high, repairing_early, repairing_done.
-use Rattle.words.specs.Words.{◌≡◌, arith, ℕ, ◌≤◌, ◌+◌, List, length, ◌<◌, refl, ◌∙◌, sym, ap, [], some, true, none, false, subst, leb, le-leb, lt-leb}
+use Rattle.std.specs.Prelude.{◌≡◌, ◌≤◌, ◌+◌, ◌<◌}
+use Rattle.words.specs.Words.{arith, ℕ, List, length, refl, ◌∙◌, sym, ap, [], some, true, none, false, subst, leb, le-leb, lt-leb}
 use Rattle.words.specs.Words.{some-injective, none-ne-some, lt-ltb, le-ltb}
 use Rattle.memory.specs.Part.{splice}
 use Rattle.memory.specs.Contained.{Contained}

@@ -1,6 +1,7 @@
 -- Opening, and taking an ADU: the memory afterwards holds the encoder that took it.
 -- Sizes: symbols-room, symbol_room. Opening: opens. Taking: took (record Took), added.
-use Rattle.words.specs.Words.{◌≡◌, arith, ℕ, ◌≤◌, ◌+◌, List, length, ◌<◌, refl, ◌∙◌, sym, ap, [], some, ◌∷◌, ◌*◌, get_or, ◌++◌, take}
+use Rattle.std.specs.Prelude.{◌≡◌, ◌≤◌, ◌+◌, ◌<◌, ◌∷◌, ◌*◌, ◌++◌}
+use Rattle.words.specs.Words.{arith, ℕ, List, length, refl, ◌∙◌, sym, ap, [], some, get_or, take}
 use Rattle.words.specs.Words.{length-append, not-suc-le-zero, mul-le-mul, dec_lt, get_or-append, true, leb, leb-true}
 use lib.Seq.{get_or_at}
 use Rattle.memory.specs.Part.{part, splice}

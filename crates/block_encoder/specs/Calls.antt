@@ -1,6 +1,7 @@
 -- What each call of an encoder comes to (document 02, No. 9): the refusals in their order, else the packet that is written and the encoder after it. Refusal 3
 -- comes before all of these.
-use Rattle.words.specs.Words.{ℕ, ◌+◌, List, length, [], Bool, cond, leb, ltb, ◌&&◌}
+use Rattle.std.specs.Prelude.{◌+◌, ◌&&◌}
+use Rattle.words.specs.Words.{ℕ, List, length, [], Bool, cond, leb, ltb}
 use Rattle.wire.specs.Numbers.{number_of}
 use Rattle.history.specs.History.{memory_size}
 use Rattle.blocks.specs.declared.Named.{Named}

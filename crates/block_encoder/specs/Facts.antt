@@ -1,7 +1,8 @@
 -- Computed from the definitions of the calls, of a block of E 4, k 2 and total 4 with the number 0x010203: refusals in their order, and at their limits;
 -- the source packets of the ADU 0x41 of flow 1 and the ADU 0x42 of flow 2, and the repair packets of these. A computation of the two repair packets by
 -- Vandermonde's matrices, as RFC 5510 has it, gives the same.
-use Rattle.words.specs.Words.{◌≡◌, ℕ, List, refl, [], ◌∷◌}
+use Rattle.std.specs.Prelude.{◌≡◌, ◌∷◌}
+use Rattle.words.specs.Words.{ℕ, List, refl, []}
 use Rattle.field.specs.Gf256.{product}
 use Rattle.field.specs.Powers.{power, inverse, inverse_below}
 use Rattle.rows.specs.Combination.{combination}

@@ -1,6 +1,7 @@
 -- What the public calls of an encoder promise: of the answer, of every byte of output and memory, and of the encoder that the memory holds afterwards.
 -- m, out and r are memory, output and answer; m' and out' memory and output afterwards.
-use Rattle.words.specs.Words.{◌≡◌, ℕ, ◌≤◌, List, length, [], some, none}
+use Rattle.std.specs.Prelude.{◌≡◌, ◌≤◌}
+use Rattle.words.specs.Words.{ℕ, List, length, [], some, none}
 use Rattle.memory.specs.Part.{splice}
 use Rattle.memory.specs.Contained.{Contained}
 use Rattle.wire.specs.Answers.{Said, value, refusal, said}

@@ -1,5 +1,6 @@
 -- What the encoder of a block is (document 02, No. 9), and how its memory holds it: a header, then the source symbols one after the other.
-use Rattle.words.specs.Words.{◌≡◌, ℕ, ◌≤◌, ◌+◌, List, length, ◌<◌, [], some, ◌*◌, get_or, ◌++◌}
+use Rattle.std.specs.Prelude.{◌≡◌, ◌≤◌, ◌+◌, ◌<◌, ◌*◌, ◌++◌}
+use Rattle.words.specs.Words.{ℕ, List, length, [], some, get_or}
 use Rattle.memory.specs.Part.{part}
 use Rattle.wire.specs.Packets.{source_symbols}
 use Rattle.rows.specs.Combination.{combination}

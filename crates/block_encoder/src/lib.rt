@@ -1,7 +1,8 @@
 // The encoder of a block (RFC 6865 with the code of RFC 5510; document 02, No. 9): opening, adding an ADU, making a repair packet.
 #![tactic(auto)]
 
-ghost use Rattle.words.specs.Words.{◌≡◌, ◌≤◌, length, ◌+◌, ◌*◌, ◌<◌, leb};
+ghost use Rattle.std.specs.Prelude.{◌≡◌, ◌≤◌, ◌+◌, ◌*◌, ◌<◌};
+ghost use Rattle.words.specs.Words.{length, leb};
 ghost use Rattle.memory.specs.Part.{splice};
 ghost use Rattle.wire.specs.Packets.{symbol_at};
 ghost use Rattle.blocks.specs.Block.{Valid};

@@ -1,5 +1,6 @@
 -- A payload identifier that was written is read.
-use Rattle.words.specs.Words.{◌≡◌, arith, ℕ, ◌≤◌, ◌+◌, List, length, ◌<◌, ◌∙◌, sym, ap, ◌%◌, ◌*◌, ◌++◌, ◌/◌, length-append, take-append_seam}
+use Rattle.std.specs.Prelude.{◌≡◌, ◌≤◌, ◌+◌, ◌<◌, ◌%◌, ◌*◌, ◌++◌, ◌/◌}
+use Rattle.words.specs.Words.{arith, ℕ, List, length, ◌∙◌, sym, ap, length-append, take-append_seam}
 use lib.Seq.{drop-append_seam}
 use Rattle.memory.specs.Part.{part, splice}
 use Rattle.memory.specs.Number.{number, bytes}

@@ -1,7 +1,8 @@
 -- The header of a block: what reading it finds, what refusal 3 stands for, and what writing it leaves.
 -- Answers told apart: block-is, block_none. Reading: Headed, headed, found, none-setting. Refusal 3: zeros-none, one_kind, short_none.
 -- Writing: block_written, none-taken, chain, block_kept.
-use Rattle.words.specs.Words.{◌≡◌, arith, ℕ, ◌≤◌, List, length, ◌<◌, refl, ◌∙◌, sym, ap, some, true, none, false, ◌++◌, Bool, subst, Option, take, leb}
+use Rattle.std.specs.Prelude.{◌≡◌, ◌≤◌, ◌<◌, ◌++◌}
+use Rattle.words.specs.Words.{arith, ℕ, List, length, refl, ◌∙◌, sym, ap, some, true, none, false, Bool, subst, Option, take, leb}
 use Rattle.words.specs.Words.{le-leb, lt-leb, leb-true, some-injective, none-ne-some, length-take, zero-add}
 use lib.Seq.{take-take}
 use Rattle.memory.specs.Part.{part, splice}

@@ -1,6 +1,7 @@
 -- An ADU of at most E - 3 bytes is one symbol.
 -- Laws: one_symbol, only_symbol, symbol_sized.
-use Rattle.words.specs.Words.{◌≡◌, arith, ℕ, ◌≤◌, ◌+◌, List, length, ◌<◌, ◌∙◌, sym, ap, [], ◌∷◌, zero-mul}
+use Rattle.std.specs.Prelude.{◌≡◌, ◌≤◌, ◌+◌, ◌<◌, ◌∷◌}
+use Rattle.words.specs.Words.{arith, ℕ, List, length, ◌∙◌, sym, ap, [], zero-mul}
 use native.Mathlib.Nat.{div-eq_of_lt-le}
 use Rattle.memory.specs.Part.{part}
 use Rattle.wire.specs.Packets.{symbol_count, adui, chunks, source_symbols, symbol_at}

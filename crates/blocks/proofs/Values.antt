@@ -1,6 +1,7 @@
 -- Which numbers name a block, and which refusal others meet.
 -- A test and what it says: values_true, values_false, values_told. What numbers name: named_good, bad_size, bad_values, good_names.
-use Rattle.words.specs.Words.{◌≡◌, arith, ℕ, ◌≤◌, refl, sym, ap, true, false, Bool, subst, cond, leb, le-leb, lt-ltb, leb-true, ltb-true}
+use Rattle.std.specs.Prelude.{◌≡◌, ◌≤◌}
+use Rattle.words.specs.Words.{arith, ℕ, refl, sym, ap, true, false, Bool, subst, cond, leb, le-leb, lt-ltb, leb-true, ltb-true}
 use Rattle.wire.specs.declared.Refusal.TheVariants as refusals
 use Rattle.wire.specs.Numbers.{within}
 use Rattle.wire.specs.Settings as settings

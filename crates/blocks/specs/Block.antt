@@ -1,5 +1,6 @@
 -- What the two ends of a block are opened with (document 02, No. 9), and what refusals 1 and 18 say of it.
-use Rattle.words.specs.Words.{ℕ, ◌≤◌, ◌<◌, Bool, cond, leb, ltb, ◌&&◌}
+use Rattle.std.specs.Prelude.{◌≤◌, ◌<◌, ◌&&◌}
+use Rattle.words.specs.Words.{ℕ, Bool, cond, leb, ltb}
 use Rattle.wire.specs.declared.Setting.{Setting}
 use Rattle.wire.specs.declared.Scheme.TheVariants.{Gf256}
 use Rattle.wire.specs.declared.Refusal.TheVariants as refusals

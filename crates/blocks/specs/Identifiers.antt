@@ -1,6 +1,7 @@
 -- The packets of a block (RFC 6865, section 5.1, for m = 8). Each has a payload identifier of six bytes: the block number in 24 bits, the ESI in 8, the number of
 -- source symbols in 16. It stands after the ADU of a source packet, and before the symbol of a repair packet.
-use Rattle.words.specs.Words.{ℕ, ◌+◌, List, ◌%◌, ◌*◌, ◌++◌, ◌/◌}
+use Rattle.std.specs.Prelude.{◌+◌, ◌%◌, ◌*◌, ◌++◌, ◌/◌}
+use Rattle.words.specs.Words.{ℕ, List}
 use Rattle.memory.specs.Part.{part}
 use Rattle.memory.specs.Number.{number, bytes}
 use Rattle.blocks.specs.declared.Block.{Block}

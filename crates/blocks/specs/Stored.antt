@@ -1,6 +1,7 @@
 -- The header at the front of a memory that was opened for a block: kind (3 encodes it, 4 recovers it), scheme, E and k as a receiver's setting stands there,
 -- then the total, the number of ADUs taken and the block number. Refusal 3 is found by these definitions.
-use Rattle.words.specs.Words.{ℕ, List, length, some, none, ◌++◌, Option, cond, leb}
+use Rattle.std.specs.Prelude.{◌++◌}
+use Rattle.words.specs.Words.{ℕ, List, length, some, none, Option, cond, leb}
 use Rattle.memory.specs.Part.{part}
 use Rattle.memory.specs.Number.{number, bytes}
 use Rattle.wire.specs.declared.Setting.{Setting}

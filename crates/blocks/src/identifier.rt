@@ -1,6 +1,7 @@
 // The payload identifier of RFC 6865 for m = 8, six bytes: the block number in 24 bits, the ESI in 8, the number of source symbols in 16. It stands after
 // the ADU of a source packet, and before the symbol of a repair packet.
-ghost use Rattle.words.specs.Words.{◌≡◌, ◌≤◌, length, ◌+◌, ◌<◌};
+ghost use Rattle.std.specs.Prelude.{◌≡◌, ◌≤◌, ◌+◌, ◌<◌};
+ghost use Rattle.words.specs.Words.{length};
 ghost use Rattle.memory.specs.Part.{splice};
 ghost use Rattle.blocks.specs.Identifiers.{identifier_at, identifier_bytes};
 

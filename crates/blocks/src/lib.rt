@@ -2,7 +2,8 @@
 // memory keeps them, and the identifiers of its packets.
 #![tactic(auto)]
 
-ghost use Rattle.words.specs.Words.{◌≡◌, ◌≤◌, length, ◌<◌};
+ghost use Rattle.std.specs.Prelude.{◌≡◌, ◌≤◌, ◌<◌};
+ghost use Rattle.words.specs.Words.{length};
 ghost use Rattle.memory.specs.Part.{splice};
 ghost use Rattle.blocks.specs.Block.{has_values, block_of, setting_for, Valid};
 ghost use Rattle.blocks.specs.Stored.{block_in, found_of, block_bytes};

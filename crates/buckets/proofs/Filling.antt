@@ -1,5 +1,6 @@
 -- Laws of rows in buckets.
-use Rattle.words.specs.Words.{◌≡◌, refl, ◌∙◌, sym, ap, ap₂, arith, List, get_or-append, ◌%◌, ◌*◌, ◌+◌, ◌/◌, ◌<◌, ◌≤◌, add-one, bit_xor, ext_get_or}
+use Rattle.std.specs.Prelude.{◌≡◌, ◌%◌, ◌*◌, ◌+◌, ◌/◌, ◌<◌, ◌≤◌}
+use Rattle.words.specs.Words.{refl, ◌∙◌, sym, ap, ap₂, arith, List, get_or-append, add-one, bit_xor, ext_get_or}
 use Rattle.words.specs.Words.{get_or, length, mod-lt, replicate, suc, xor_comm, zero, zero-add, ℕ, ⊎_elim}
 use native.Mathlib.Nat.{eq-or-lt_of_le, div-add-mod'}
 use lib.Bits.{xor_shifted}

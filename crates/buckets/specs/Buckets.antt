@@ -1,5 +1,6 @@
 -- Contracts of inner functions: a reader need not believe these. Rows in buckets by the halves of their coefficients.
-use Rattle.words.specs.Words.{◌≡◌, List, ◌*◌, ◌++◌, ◌+◌, ◌<◌, get_or, ℕ}
+use Rattle.std.specs.Prelude.{◌≡◌, ◌*◌, ◌++◌, ◌+◌, ◌<◌}
+use Rattle.words.specs.Words.{List, get_or, ℕ}
 use Rattle.rows.specs.Combination.{dot, coefficient, tabulate}
 
 -- what the buckets count: those of the low halves, then those of the high halves

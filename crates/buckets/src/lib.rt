@@ -3,7 +3,8 @@
 // times its weight: v, and 16 * v.
 #![tactic(auto)]
 
-ghost use Rattle.words.specs.Words.{◌≡◌, ℕ, ◌+◌, ◌*◌, ◌≤◌, ◌<◌, length, replicate};
+ghost use Rattle.std.specs.Prelude.{◌≡◌, ◌+◌, ◌*◌, ◌≤◌, ◌<◌};
+ghost use Rattle.words.specs.Words.{ℕ, length, replicate};
 ghost use Rattle.memory.specs.Part.{part, splice};
 ghost use Rattle.rows.specs.Rows.{add_scaled};
 ghost use Rattle.buckets.specs.Buckets.{Filled};

@@ -3,7 +3,7 @@
 // that announce flows answer nothing. What a function promises is the promise of the call that it wraps, of the answer that its number codes.
 #![tactic(auto)]
 
-ghost use Rattle.words.specs.Words.{◌≡◌};
+ghost use Rattle.std.specs.Prelude.{◌≡◌};
 ghost use Rattle.latency.specs.Promises.{WindowAnswered};
 ghost use Rattle.interleave.specs.Promises.{Interleaves, Deinterleaves};
 ghost use Rattle.flows.specs.Promises.{Announces, AnnouncesAll};

@@ -1,5 +1,6 @@
 -- Calls of `feed` one after the other: one call more.
-use Rattle.words.specs.Words.{◌≡◌, arith, ℕ, ◌≤◌, ◌+◌, List, length, ◌<◌, refl, ◌∙◌, sym, ap, ◌-◌, [], ◌∷◌, true, false, ◌++◌, Bool, subst, drop, take, inr}
+use Rattle.std.specs.Prelude.{◌≡◌, ◌≤◌, ◌+◌, ◌<◌, ◌-◌, ◌∷◌, ◌++◌}
+use Rattle.words.specs.Words.{arith, ℕ, List, length, refl, ◌∙◌, sym, ap, [], true, false, Bool, subst, drop, take, inr}
 use Rattle.words.specs.Words.{inl, append_assoc, length-drop, append-nil, not, take-append-drop, drop-drop, drop-length}
 use Rattle.records.specs.declared.Progress.{Progress}
 use Rattle.records.specs.declared.Pass.{Pass}

@@ -1,6 +1,7 @@
 -- What the program's function that is given a piece of the input does with it: it hands it to the library in order, and all of it as long as more is wanted,
 -- unless it says that it failed. Whether it may say so no contract can tell, since none speaks of what was written; nor does any say what was read.
-use Rattle.words.specs.Words.{◌≡◌, ℕ, List, [], true, false, ◌++◌, ◌⊎◌, not}
+use Rattle.std.specs.Prelude.{◌≡◌, ◌++◌, ◌⊎◌}
+use Rattle.words.specs.Words.{ℕ, List, [], true, false, not}
 use Rattle.records.specs.declared.Progress.{Progress}
 use Rattle.records.specs.Promises.{is_over}
 use Rattle.records.specs.Pieces.{Piece, taken, InTurn, reached, line_left, memory_left}

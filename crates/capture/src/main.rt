@@ -2,7 +2,8 @@
 // library `replay`.
 #![tactic(auto)]
 
-ghost use Rattle.words.specs.Words.{◌≡◌, length};
+ghost use Rattle.std.specs.Prelude.{◌≡◌};
+ghost use Rattle.words.specs.Words.{length};
 ghost use Rattle.capture.specs.Going.{Went};
 
 use libc::{STDERR_FILENO, STDIN_FILENO, STDOUT_FILENO};

@@ -1,5 +1,6 @@
 -- The packets of a history are those that a call of the list brought, was accepted with, and was read as.
-use Rattle.words.specs.Words.{◌≡◌, ℕ, List, refl, sym, ap, [], ◌∷◌, ◌++◌, subst, ◌↔◌, ◌⊎◌, inl, inr, ⊎_elim}
+use Rattle.std.specs.Prelude.{◌≡◌, ◌∷◌, ◌++◌, ◌↔◌, ◌⊎◌}
+use Rattle.words.specs.Words.{ℕ, List, refl, sym, ap, [], subst, inl, inr, ⊎_elim}
 use mathlib.Core.List.Memᴰ
 use mathlib.Core.List.{Memᴰ}
 use Rattle.wire.specs.declared.Setting.{Setting}

@@ -1,5 +1,6 @@
 -- The symbols of an ADU give its flow and the ADU; its first symbol gives its length.
-use Rattle.words.specs.Words.{◌≡◌, arith, ℕ, ◌≤◌, List, length, ◌∙◌, sym, ap, [], get_or}
+use Rattle.std.specs.Prelude.{◌≡◌, ◌≤◌}
+use Rattle.words.specs.Words.{arith, ℕ, List, length, ◌∙◌, sym, ap, [], get_or}
 use Rattle.memory.specs.Part.{part}
 use Rattle.memory.proofs.Number.{number-bytes}
 use Rattle.wire.specs.Packets.{joined, symbol_count, adui, source_symbols}

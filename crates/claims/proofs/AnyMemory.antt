@@ -1,6 +1,7 @@
 -- What the promises say of any memory: the header that it has, or its want, decides.
 use denote.Ref.{Bor}
-use Rattle.words.specs.Words.{◌≡◌, arith, ℕ, ◌≤◌, ◌+◌, List, length, refl, ◌∙◌, sym, ap, [], some, none, subst, Option, ◌⊎◌, inl, inr}
+use Rattle.std.specs.Prelude.{◌≡◌, ◌≤◌, ◌+◌, ◌⊎◌}
+use Rattle.words.specs.Words.{arith, ℕ, List, length, refl, ◌∙◌, sym, ap, [], some, none, subst, Option, inl, inr}
 use Rattle.words.specs.Words.{length-take, length-drop}
 use Rattle.memory.specs.Part.{part, LiesAt}
 use Rattle.wire.specs.declared.Setting.{Setting}

@@ -1,5 +1,6 @@
 -- A filling that carries a list of symbols holds every stretch of them; and there is one.
-use Rattle.words.specs.Words.{◌≡◌, arith, ℕ, ◌≤◌, ◌+◌, List, length, ◌<◌, ◌∙◌, sym, ap, [], ◌∷◌, suc, zero, get_or, ◌++◌, drop, take, length-append, length-drop}
+use Rattle.std.specs.Prelude.{◌≡◌, ◌≤◌, ◌+◌, ◌<◌, ◌∷◌, ◌++◌}
+use Rattle.words.specs.Words.{arith, ℕ, List, length, ◌∙◌, sym, ap, [], suc, zero, get_or, drop, take, length-append, length-drop}
 use Rattle.words.specs.Words.{length-take, get_or-drop, get_or-append, ext_get_or, take-append_seam, get_or-take}
 use lib.Seq.{drop_at, get_or-append_seam}
 use Rattle.history.specs.Symbol.{bytes_of, symbol_of}

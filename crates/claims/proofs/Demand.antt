@@ -13,8 +13,9 @@
 --   had_setting: an opening that answers 0 had a setting
 --   demand_3
 use denote.Ref.{Bor}
-use Rattle.words.specs.Words.{◌≡◌, arith, ℕ, ◌≤◌, ◌+◌, List, length, ◌<◌, refl, ◌∙◌, sym, ap, [], some, ◌%◌, ◌∷◌, none, ◌++◌, subst, Option, ◌^◌, ◌↔◌}
-use Rattle.words.specs.Words.{some-injective, none-ne-some, dec_lt, ◌⊎◌, inr, inl}
+use Rattle.std.specs.Prelude.{◌≡◌, ◌≤◌, ◌+◌, ◌<◌, ◌%◌, ◌∷◌, ◌++◌, ◌^◌, ◌↔◌, ◌⊎◌}
+use Rattle.words.specs.Words.{arith, ℕ, List, length, refl, ◌∙◌, sym, ap, [], some, none, subst, Option}
+use Rattle.words.specs.Words.{some-injective, none-ne-some, dec_lt, inr, inl}
 use mathlib.Core.Logic.Iff
 use Rattle.wire.specs.declared.Setting.{Setting}
 use Rattle.wire.specs.Settings.{setting_of, Valid}

@@ -1,5 +1,6 @@
 -- The ADU call hands out what the history says, after every list of calls that the promises allow.
-use Rattle.words.specs.Words.{◌≡◌, arith, ℕ, ◌≤◌, ◌+◌, List, length, ◌<◌, ◌∙◌, sym, ap, [], some, ◌%◌, ◌∷◌, none, true, ◌++◌, subst, drop, ◌^◌, take, ap₂, ◌↔◌}
+use Rattle.std.specs.Prelude.{◌≡◌, ◌≤◌, ◌+◌, ◌<◌, ◌%◌, ◌∷◌, ◌++◌, ◌^◌, ◌↔◌}
+use Rattle.words.specs.Words.{arith, ℕ, List, length, ◌∙◌, sym, ap, [], some, none, true, subst, drop, take, ap₂}
 use Rattle.words.specs.Words.{some-injective, none-ne-some, take-append_seam}
 use mathlib.Core.Logic.Iff
 use Rattle.wire.specs.declared.Setting.{Setting}

@@ -1,5 +1,6 @@
 -- Positions become starts: after an ADU that is held at one, and where a source packet was accepted.
-use Rattle.words.specs.Words.{◌≡◌, arith, ℕ, ◌≤◌, ◌+◌, List, length, ◌<◌, refl, ◌∙◌, sym, ap, ◌-◌, [], some, ◌∷◌, true, get_or, ◌++◌, subst, Option, drop, leb}
+use Rattle.std.specs.Prelude.{◌≡◌, ◌≤◌, ◌+◌, ◌<◌, ◌-◌, ◌∷◌, ◌++◌}
+use Rattle.words.specs.Words.{arith, ℕ, List, length, refl, ◌∙◌, sym, ap, [], some, true, get_or, subst, Option, drop, leb}
 use Rattle.words.specs.Words.{some-injective, inr, inl, append_assoc, leb-true}
 use Rattle.wire.specs.declared.Setting.{Setting}
 use Rattle.wire.specs.Settings.{Valid}

@@ -1,5 +1,6 @@
 -- Joining a stream: 8 and 9 can't stop the first packet, its first ESI is the base, and no repair packet marks a start.
-use Rattle.words.specs.Words.{◌≡◌, arith, ℕ, ◌≤◌, List, length, refl, ◌∙◌, sym, ap, [], some, ◌∷◌, none, ◌++◌, subst, ◌⊎◌, inr, inl}
+use Rattle.std.specs.Prelude.{◌≡◌, ◌≤◌, ◌∷◌, ◌++◌, ◌⊎◌}
+use Rattle.words.specs.Words.{arith, ℕ, List, length, refl, ◌∙◌, sym, ap, [], some, none, subst, inr, inl}
 use Rattle.wire.specs.declared.Setting.{Setting}
 use Rattle.wire.specs.Settings.{Valid}
 use Rattle.wire.proofs.Settings.{setting-names}

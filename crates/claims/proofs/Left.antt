@@ -1,5 +1,6 @@
 -- Memory that an end has opened and only its calls have changed since has its header, with the setting of the opening.
-use Rattle.words.specs.Words.{◌≡◌, ℕ, List, length, ◌∙◌, sym, ap, some, subst, ap₂}
+use Rattle.std.specs.Prelude.{◌≡◌}
+use Rattle.words.specs.Words.{ℕ, List, length, ◌∙◌, sym, ap, some, subst, ap₂}
 use Rattle.memory.specs.Contained.{Contained}
 use Rattle.wire.specs.declared.Setting.{Setting}
 use Rattle.wire.specs.Settings.{setting_of}

@@ -1,5 +1,6 @@
 -- Two receivers that meet demand 3 answer the same calls alike.
-use Rattle.words.specs.Words.{◌≡◌, ℕ, List, refl, ap, [], ◌∷◌, ◌++◌, subst, ap₂, map}
+use Rattle.std.specs.Prelude.{◌≡◌, ◌∷◌, ◌++◌}
+use Rattle.words.specs.Words.{ℕ, List, refl, ap, [], subst, ap₂, map}
 use Rattle.wire.specs.declared.Setting.{Setting}
 use Rattle.wire.specs.Answers.{said}
 use Rattle.history.specs.History.{Log, fresh, read_after, logged, Judged}

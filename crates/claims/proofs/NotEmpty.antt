@@ -1,6 +1,7 @@
 -- Every list of packet calls has a run: each call has an answer, and a memory to leave, that its promise allows.
-use Rattle.words.specs.Words.{◌≡◌, arith, ℕ, ◌≤◌, List, length, ◌<◌, refl, ◌∙◌, sym, ap, [], some, ◌%◌, ◌∷◌, none, subst, drop, ◌≢◌, some-injective}
-use Rattle.words.specs.Words.{◌+◌, get_or, false, ◌&&◌, ltb, lt-ltb, le-ltb, dec_lt, mod-add-mod, none-ne-some, map, length-drop}
+use Rattle.std.specs.Prelude.{◌≡◌, ◌≤◌, ◌<◌, ◌%◌, ◌∷◌, ◌≢◌, ◌+◌, ◌&&◌}
+use Rattle.words.specs.Words.{arith, ℕ, List, length, refl, ◌∙◌, sym, ap, [], some, none, subst, drop, some-injective}
+use Rattle.words.specs.Words.{get_or, false, ltb, lt-ltb, le-ltb, dec_lt, mod-add-mod, none-ne-some, map, length-drop}
 use Rattle.wire.specs.declared.Setting.{Setting}
 use Rattle.wire.specs.Settings.{setting_of, Valid}
 use Rattle.wire.proofs.Settings.{setting-names}

@@ -1,5 +1,6 @@
 -- Every opening of a receiver answers as its values and the memory ask.
-use Rattle.words.specs.Words.{◌≡◌, arith, ℕ, ◌≤◌, length, ◌<◌, ◌∙◌, ap, lt-ltb, le-ltb}
+use Rattle.std.specs.Prelude.{◌≡◌, ◌≤◌, ◌<◌}
+use Rattle.words.specs.Words.{arith, ℕ, length, ◌∙◌, ap, lt-ltb, le-ltb}
 use Rattle.wire.specs.declared.Setting.{Setting}
 use Rattle.wire.specs.Settings.{scheme_of}
 use Rattle.wire.specs.Answers.{refusal, said}

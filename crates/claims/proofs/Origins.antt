@@ -1,6 +1,7 @@
 -- Heard or solved: beside its 0 the symbol call says what the history says, after every list of calls that the promises allow.
-use Rattle.words.specs.Words.{◌≡◌, arith, ℕ, ◌≤◌, ◌+◌, List, length, ◌<◌, refl, ◌∙◌, sym, ap, ◌-◌, [], some, ◌∷◌, none, true, get_or, false, ◌++◌, subst, Bool}
-use Rattle.words.specs.Words.{Option, ap₂, ◌≢◌, ◌↔◌, inl, inr, ⊎_elim, some-injective, none-ne-some}
+use Rattle.std.specs.Prelude.{◌≡◌, ◌≤◌, ◌+◌, ◌<◌, ◌-◌, ◌∷◌, ◌++◌, ◌≢◌, ◌↔◌}
+use Rattle.words.specs.Words.{arith, ℕ, List, length, refl, ◌∙◌, sym, ap, [], some, none, true, get_or, false, subst, Bool}
+use Rattle.words.specs.Words.{Option, ap₂, inl, inr, ⊎_elim, some-injective, none-ne-some}
 use mathlib.Core.List.Memᴰ
 use mathlib.Core.List.{Memᴰ}
 use mathlib.Core.Bool.{false≢true}

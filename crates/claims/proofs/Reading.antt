@@ -1,5 +1,6 @@
 -- Every packet that RFC 8681 can write within our sizes, its flow announced, is read at its place.
-use Rattle.words.specs.Words.{◌≡◌, arith, ℕ, ◌≤◌, ◌+◌, List, length, ◌<◌, refl, ◌∙◌, ◌%◌, true, ◌^◌, mod-lt, le-leb, lit<}
+use Rattle.std.specs.Prelude.{◌≡◌, ◌≤◌, ◌+◌, ◌<◌, ◌%◌, ◌^◌}
+use Rattle.words.specs.Words.{arith, ℕ, List, length, refl, ◌∙◌, true, mod-lt, le-leb, lit<}
 use Rattle.wire.specs.declared.Setting.{Setting}
 use Rattle.wire.specs.Packets.{Sized, symbol_count, source_symbols, source_packet, repair_packet}
 use Rattle.wire.specs.Flows.{announced}

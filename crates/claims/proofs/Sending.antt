@@ -4,7 +4,8 @@
 --   sender_sends: every packet of a list of calls
 --   Taken, begun, begun-symbols: an ADU that was taken, and its symbols among the sender's
 --   sent_wrote: a packet of the sender's is of its symbols
-use Rattle.words.specs.Words.{◌≡◌, arith, ℕ, ◌≤◌, ◌+◌, List, length, ◌<◌, refl, ◌∙◌, sym, ap, [], ◌%◌, ◌∷◌, true, ◌*◌, false, ◌++◌, Bool, drop, ◌^◌, take, map}
+use Rattle.std.specs.Prelude.{◌≡◌, ◌≤◌, ◌+◌, ◌<◌, ◌%◌, ◌∷◌, ◌*◌, ◌++◌, ◌^◌}
+use Rattle.words.specs.Words.{arith, ℕ, List, length, refl, ◌∙◌, sym, ap, [], true, false, Bool, drop, take, map}
 use Rattle.words.specs.Words.{ap₂, append_assoc, length-drop, length-take, take-append-drop, take_at}
 use lib.Seq.{append_snoc}
 use Rattle.memory.specs.Number.{Bytes}

@@ -8,7 +8,8 @@
 --   from_zero, written_satisfied, arrived_satisfied, written_filled, joined_from
 --   none_accepted: without a base there is no packet
 --   sender_fills, peer_size, peer_symbols, sent_accepted, sent_behind, sent-shown
-use Rattle.words.specs.Words.{◌≡◌, arith, ℕ, ◌≤◌, ◌+◌, List, length, ◌<◌, refl, ◌∙◌, sym, ap, ◌-◌, [], some, ◌%◌, ◌∷◌, none, ◌++◌, subst, Option, ◌^◌, mod-lt}
+use Rattle.std.specs.Prelude.{◌≡◌, ◌≤◌, ◌+◌, ◌<◌, ◌-◌, ◌%◌, ◌∷◌, ◌++◌, ◌^◌}
+use Rattle.words.specs.Words.{arith, ℕ, List, length, refl, ◌∙◌, sym, ap, [], some, none, subst, Option, mod-lt}
 use Rattle.words.specs.Words.{none-ne-some, map, lit<}
 use lib.ListN.{length-map}
 use Rattle.wire.specs.declared.Scheme.{Scheme}

@@ -3,8 +3,9 @@
 --   junk_gives
 --   first_here: where a filling holds an ADU from a position on, its first symbol stands there, and says its length
 --   length_here, start_gives, sent-written, sent-starts, sent-handed
-use Rattle.words.specs.Words.{◌≡◌, arith, ℕ, ◌≤◌, ◌+◌, List, length, ◌<◌, refl, ◌∙◌, sym, ap, [], ◌%◌, ◌∷◌, get_or, ◌++◌, subst, ◌^◌, mod-lt, none-ne-some}
-use Rattle.words.specs.Words.{add-zero, length-append, ◌⊎◌, inr, inl, lit<, append-nil}
+use Rattle.std.specs.Prelude.{◌≡◌, ◌≤◌, ◌+◌, ◌<◌, ◌%◌, ◌∷◌, ◌++◌, ◌^◌, ◌⊎◌}
+use Rattle.words.specs.Words.{arith, ℕ, List, length, refl, ◌∙◌, sym, ap, [], get_or, subst, mod-lt, none-ne-some}
+use Rattle.words.specs.Words.{add-zero, length-append, inr, inl, lit<, append-nil}
 use lib.Seq.{append_snoc}
 use Rattle.wire.specs.declared.Setting.{Setting}
 use Rattle.wire.specs.Numbers.{distance_of}

@@ -1,6 +1,7 @@
 -- Flows that are not announced leave no trace: their packets are refused and change nothing, and none of their ADUs is handed out.
-use Rattle.words.specs.Words.{◌≡◌, arith, ℕ, ◌+◌, List, length, ◌<◌, refl, ◌∙◌, sym, ap, [], some, ◌%◌, ◌∷◌, none, true, false, Bool, subst, Option, ◌^◌, cond}
-use Rattle.words.specs.Words.{ltb, not, dec_lt, ◌⊎◌, inl, inr}
+use Rattle.std.specs.Prelude.{◌≡◌, ◌+◌, ◌<◌, ◌%◌, ◌∷◌, ◌^◌, ◌⊎◌}
+use Rattle.words.specs.Words.{arith, ℕ, List, length, refl, ◌∙◌, sym, ap, [], some, none, true, false, Bool, subst, Option, cond}
+use Rattle.words.specs.Words.{ltb, not, dec_lt, inl, inr}
 use mathlib.Core.Bool.{false≢true}
 use Rattle.wire.specs.declared.Setting.{Setting}
 use Rattle.wire.specs.Numbers.{distance_of}

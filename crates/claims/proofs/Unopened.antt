@@ -1,5 +1,6 @@
 -- What refusal 3 names: memory has no header of an end exactly where that end's calls say 3.
-use Rattle.words.specs.Words.{◌≡◌, arith, ℕ, List, length, refl, ◌∙◌, sym, some, none, subst, Option, take, none-ne-some, length-take, ◌≢◌, ◌≤◌}
+use Rattle.std.specs.Prelude.{◌≡◌, ◌≢◌, ◌≤◌}
+use Rattle.words.specs.Words.{arith, ℕ, List, length, refl, ◌∙◌, sym, some, none, subst, Option, take, none-ne-some, length-take}
 use lib.Seq.{take-take}
 use Rattle.wire.specs.declared.Setting.{Setting}
 use Rattle.wire.specs.Stored.{setting_in}

@@ -2,7 +2,8 @@
 -- memory that an end has opened, that calls keep to their sizes; and what refusal 3 names. By the promises alone: m, out and v are memory, output and working
 -- memory, m', out' and v' these afterwards; a is the answer. The calls that show change no memory.
 use Rattle.std.specs.Borrow.{Bor}
-use Rattle.words.specs.Words.{◌≡◌, ℕ, ◌≤◌, ◌+◌, List, length, ◌<◌, [], take, ◌≢◌, ◌⊎◌}
+use Rattle.std.specs.Prelude.{◌≡◌, ◌≤◌, ◌+◌, ◌<◌, ◌≢◌, ◌⊎◌}
+use Rattle.words.specs.Words.{ℕ, List, length, [], take}
 use Rattle.memory.specs.Part.{LiesAt}
 use Rattle.memory.specs.Contained.{Contained}
 use Rattle.wire.specs.declared.Setting.{Setting}

@@ -1,5 +1,6 @@
 -- A filling that carries a sender's symbols.
-use Rattle.words.specs.Words.{◌≡◌, ℕ, ◌≤◌, ◌+◌, List, length, ◌<◌, [], get_or}
+use Rattle.std.specs.Prelude.{◌≡◌, ◌≤◌, ◌+◌, ◌<◌}
+use Rattle.words.specs.Words.{ℕ, List, length, [], get_or}
 use Rattle.history.specs.Symbol.{bytes_of}
 use Rattle.history.specs.History.{Filling}
 

@@ -1,5 +1,6 @@
 -- What each packet call of every list answers, and where it leaves the base: from the packets' bytes in plain arithmetic.
-use Rattle.words.specs.Words.{◌≡◌, ℕ, List, length, [], some, ◌∷◌, ◌++◌, ◌⊎◌}
+use Rattle.std.specs.Prelude.{◌≡◌, ◌∷◌, ◌++◌, ◌⊎◌}
+use Rattle.words.specs.Words.{ℕ, List, length, [], some}
 use Rattle.wire.specs.declared.Setting.{Setting}
 use Rattle.wire.specs.declared.Answer.{Answer}
 use Rattle.wire.specs.Settings.{setting_of}

@@ -1,6 +1,7 @@
 -- Demand 3: what is claimed of every list of packet calls from a fresh receiver.
 use Rattle.std.specs.Borrow.{Bor}
-use Rattle.words.specs.Words.{◌≡◌, ℕ, ◌≤◌, ◌+◌, List, length, ◌<◌, [], some, ◌%◌, ◌∷◌, none, get_or, ◌++◌, ◌^◌, ◌↔◌, ◌⊎◌}
+use Rattle.std.specs.Prelude.{◌≡◌, ◌≤◌, ◌+◌, ◌<◌, ◌%◌, ◌∷◌, ◌++◌, ◌^◌, ◌↔◌, ◌⊎◌}
+use Rattle.words.specs.Words.{ℕ, List, length, [], some, none, get_or}
 use Rattle.wire.specs.declared.Setting.{Setting}
 use Rattle.wire.specs.Settings.{setting_of}
 use Rattle.wire.specs.declared.Answer.{Answer}

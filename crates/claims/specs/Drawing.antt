@@ -1,5 +1,6 @@
 -- The draws that the calls give beside their counts: at both ends, from an opening on.
-use Rattle.words.specs.Words.{◌≡◌, ℕ, List, some, take}
+use Rattle.std.specs.Prelude.{◌≡◌}
+use Rattle.words.specs.Words.{ℕ, List, some, take}
 use Rattle.wire.specs.declared.Setting.{Setting}
 use Rattle.wire.specs.Settings.{setting_of}
 use Rattle.sender.specs.declared.RepairAnswer.TheVariants.{Made}

@@ -1,5 +1,6 @@
 -- Handing out an ADU: what is claimed of the ADU call after every list of packet calls from a fresh receiver.
-use Rattle.words.specs.Words.{◌≡◌, ℕ, ◌≤◌, ◌+◌, List, length, ◌<◌, some, true, none, ◌++◌, Bool, drop, ◌^◌, ◌↔◌}
+use Rattle.std.specs.Prelude.{◌≡◌, ◌≤◌, ◌+◌, ◌<◌, ◌++◌, ◌^◌, ◌↔◌}
+use Rattle.words.specs.Words.{ℕ, List, length, some, true, none, Bool, drop}
 use Rattle.wire.specs.declared.Setting.{Setting}
 use Rattle.wire.specs.Settings.{setting_of}
 use Rattle.wire.specs.Packets.{longest_adu, symbol_count, source_symbols}

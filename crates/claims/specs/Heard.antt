@@ -1,5 +1,6 @@
 -- Positions become starts: after an ADU that is held at one, and where a source packet was accepted.
-use Rattle.words.specs.Words.{◌≡◌, ℕ, ◌≤◌, ◌+◌, List, length, some, ◌∷◌, ◌++◌, drop}
+use Rattle.std.specs.Prelude.{◌≡◌, ◌≤◌, ◌+◌, ◌∷◌, ◌++◌}
+use Rattle.words.specs.Words.{ℕ, List, length, some, drop}
 use Rattle.wire.specs.declared.Setting.{Setting}
 use Rattle.wire.specs.Settings.{Valid}
 use Rattle.wire.specs.Packets.{symbol_count, source_adu}

@@ -1,5 +1,6 @@
 -- Joining a stream (document 02, No. 2): what is claimed of packet calls before any base, and of the starts after them.
-use Rattle.words.specs.Words.{◌≡◌, ℕ, List, [], some, ◌∷◌, none, ◌++◌, ◌≢◌}
+use Rattle.std.specs.Prelude.{◌≡◌, ◌∷◌, ◌++◌, ◌≢◌}
+use Rattle.words.specs.Words.{ℕ, List, [], some, none}
 use Rattle.wire.specs.declared.Setting.{Setting}
 use Rattle.wire.specs.Settings.{setting_of}
 use Rattle.wire.specs.declared.Answer.{Answer}

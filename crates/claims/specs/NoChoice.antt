@@ -1,5 +1,6 @@
 -- Demand 3 leaves a receiver no choice.
-use Rattle.words.specs.Words.{◌≡◌, ℕ, List, length, [], ◌∷◌, map}
+use Rattle.std.specs.Prelude.{◌≡◌, ◌∷◌}
+use Rattle.words.specs.Words.{ℕ, List, length, [], map}
 use Rattle.wire.specs.declared.Setting.{Setting}
 use Rattle.wire.specs.Answers.{said}
 use Rattle.claims.specs.Run.{Step}

@@ -1,5 +1,6 @@
 -- The claims are not empty: from every opened memory, every list of packet calls has a run.
-use Rattle.words.specs.Words.{◌≡◌, ℕ, List, [], ◌∷◌, map}
+use Rattle.std.specs.Prelude.{◌≡◌, ◌∷◌}
+use Rattle.words.specs.Words.{ℕ, List, [], map}
 use Rattle.wire.specs.declared.Answer.{Answer}
 use Rattle.wire.specs.Answers.{value, said}
 use Rattle.history.specs.History.{Call, OfBytes}

@@ -1,5 +1,6 @@
 -- Heard or solved (document 02, No. 6): what is claimed of the symbol call after every list of packet calls from a fresh receiver.
-use Rattle.words.specs.Words.{◌≡◌, ℕ, ◌≤◌, ◌+◌, List, length, ◌<◌, some, ◌∷◌, true, false, ◌++◌, ◌↔◌}
+use Rattle.std.specs.Prelude.{◌≡◌, ◌≤◌, ◌+◌, ◌<◌, ◌∷◌, ◌++◌, ◌↔◌}
+use Rattle.words.specs.Words.{ℕ, List, length, some, true, false}
 use Rattle.wire.specs.declared.Setting.{Setting}
 use Rattle.wire.specs.Settings.{setting_of}
 use Rattle.wire.specs.declared.Answer.{Answer}

@@ -1,6 +1,7 @@
 -- The place of a symbol: what is claimed of the call for it after every list of packet calls from a fresh receiver.
 use Rattle.std.specs.Borrow.{Bor}
-use Rattle.words.specs.Words.{◌≡◌, ℕ, ◌≤◌, ◌+◌, List, ◌<◌, some, none, ◌^◌}
+use Rattle.std.specs.Prelude.{◌≡◌, ◌≤◌, ◌+◌, ◌<◌, ◌^◌}
+use Rattle.words.specs.Words.{ℕ, List, some, none}
 use Rattle.memory.specs.Part.{part, LiesAt}
 use Rattle.wire.specs.declared.Setting.{Setting}
 use Rattle.wire.specs.Settings.{setting_of}

@@ -1,6 +1,7 @@
 -- What is claimed of reading: every packet that RFC 8681 can write within our sizes, its flow announced, is read at its place, by how far
 -- its ESI lies from the base alone.
-use Rattle.words.specs.Words.{◌≡◌, ℕ, ◌≤◌, ◌+◌, List, length, ◌<◌, ◌%◌, true, ◌^◌}
+use Rattle.std.specs.Prelude.{◌≡◌, ◌≤◌, ◌+◌, ◌<◌, ◌%◌, ◌^◌}
+use Rattle.words.specs.Words.{ℕ, List, length, true}
 use Rattle.wire.specs.declared.Setting.{Setting}
 use Rattle.wire.specs.Settings.{Valid}
 use Rattle.wire.specs.Packets.{Sized, longest_adu, symbol_count, source_symbols, source_packet, repair_packet}

@@ -1,5 +1,6 @@
 -- A list of packet calls from a fresh receiver, each as its promise allows (without the draws: `answer_of`), and the history that the list makes.
-use Rattle.words.specs.Words.{ℕ, List, length, [], ◌∷◌}
+use Rattle.std.specs.Prelude.{◌∷◌}
+use Rattle.words.specs.Words.{ℕ, List, length, []}
 use Rattle.wire.specs.declared.Setting.{Setting}
 use Rattle.wire.specs.declared.Answer.{Answer}
 use Rattle.history.specs.History.{Call, OfBytes, Reading, Log, fresh, read_after, logged}

@@ -1,6 +1,7 @@
 -- The sender's filling, and what becomes of a sender's packets at the receiver.
 use Rattle.std.specs.Borrow.{Bor}
-use Rattle.words.specs.Words.{◌≡◌, ℕ, ◌≤◌, ◌+◌, List, length, ◌<◌, [], some, ◌∷◌, true, none, get_or, Option}
+use Rattle.std.specs.Prelude.{◌≡◌, ◌≤◌, ◌+◌, ◌<◌, ◌∷◌}
+use Rattle.words.specs.Words.{ℕ, List, length, [], some, true, none, get_or, Option}
 use Rattle.wire.specs.declared.Setting.{Setting}
 use Rattle.wire.specs.Settings.{Valid}
 use Rattle.wire.specs.Packets.{symbol_count, source_adu, protected_count}

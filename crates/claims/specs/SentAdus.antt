@@ -1,5 +1,6 @@
 -- A sender's ADUs at the receiver: what is handed out at the start of one, and that packets of the sender's alone mark no other position.
-use Rattle.words.specs.Words.{◌≡◌, ℕ, ◌≤◌, ◌+◌, List, length, [], ◌%◌, ◌∷◌, ◌++◌, drop, ◌^◌, take}
+use Rattle.std.specs.Prelude.{◌≡◌, ◌≤◌, ◌+◌, ◌%◌, ◌∷◌, ◌++◌, ◌^◌}
+use Rattle.words.specs.Words.{ℕ, List, length, [], drop, take}
 use Rattle.wire.specs.declared.Scheme.{Scheme}
 use Rattle.wire.specs.declared.Setting.{Setting}
 use Rattle.wire.specs.Packets.{symbol_count, source_symbols, source_packet}

@@ -1,5 +1,6 @@
 -- Flows that are not announced (document 02, No. 7): what is claimed of their packets and ADUs in every list of packet calls from a fresh receiver.
-use Rattle.words.specs.Words.{◌≡◌, ℕ, List, [], some, ◌∷◌, true, false, ◌++◌, Bool, cond, not, ◌⊎◌}
+use Rattle.std.specs.Prelude.{◌≡◌, ◌∷◌, ◌++◌, ◌⊎◌}
+use Rattle.words.specs.Words.{ℕ, List, [], some, true, false, Bool, cond, not}
 use Rattle.wire.specs.declared.Setting.{Setting}
 use Rattle.wire.specs.declared.Answer.{Answer}
 use Rattle.wire.specs.Settings.{setting_of}

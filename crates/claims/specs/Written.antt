@@ -1,5 +1,6 @@
 -- The packets that a sender's calls wrote, and those that a sender can write: of some symbols.
-use Rattle.words.specs.Words.{◌≡◌, ℕ, ◌≤◌, List, length, ◌<◌, [], ◌%◌, ◌∷◌, true, ◌++◌, ◌^◌, take, map}
+use Rattle.std.specs.Prelude.{◌≡◌, ◌≤◌, ◌<◌, ◌%◌, ◌∷◌, ◌++◌, ◌^◌}
+use Rattle.words.specs.Words.{ℕ, List, length, [], true, take, map}
 use Rattle.memory.specs.Number.{Bytes}
 use Rattle.wire.specs.declared.Scheme.{Scheme}
 use Rattle.wire.specs.Packets.{longest_adu, source_symbols, source_packet, repair_packet}

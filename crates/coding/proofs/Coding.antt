@@ -1,6 +1,7 @@
 -- Laws of the coding: of a value, of a refusal, and of an answer whose case is known.
-use Rattle.words.specs.Words.{◌≡◌, arith, ℕ, ◌≤◌, ◌+◌, ◌<◌, refl, ◌∙◌, sym, ap, suc, zero, ◌*◌, subst, ◌≢◌, ◌^◌, ap₂, lit<, min}
-use Rattle.words.specs.Words.{◌/◌, ◌%◌, Bool, true, false, cond}
+use Rattle.std.specs.Prelude.{◌≡◌, ◌≤◌, ◌+◌, ◌<◌, ◌*◌, ◌≢◌, ◌^◌, ◌/◌, ◌%◌}
+use Rattle.words.specs.Words.{arith, ℕ, refl, ◌∙◌, sym, ap, suc, zero, subst, ap₂, lit<, min}
+use Rattle.words.specs.Words.{Bool, true, false, cond}
 use lib.IntN.{ℤ, pos, negsuc, neg_ℤ, nat_abs, ◌-ℤ◌, +ℤ_idl}
 use mir.Syntax.{w64}
 use lib.Signed.{mag}

@@ -1,6 +1,6 @@
 -- How the exported functions code what a call says as one signed number: a value is itself, 0 or more, and a refusal is minus its number.
-use Rattle.words.specs.Words.{◌≡◌, ℕ, ◌≤◌, ◌+◌, ◌<◌, ◌%◌, ◌*◌, Bool, ◌≢◌, cond, ◌/◌, min}
-use Rattle.std.specs.Prelude.{ℤ, pos, neg_ℤ}
+use Rattle.std.specs.Prelude.{◌≡◌, ◌≤◌, ◌+◌, ◌<◌, ◌%◌, ◌*◌, ◌≢◌, ◌/◌, ℤ, pos, neg_ℤ}
+use Rattle.words.specs.Words.{ℕ, Bool, cond, min}
 use Rattle.wire.specs.Numbers.{number_of}
 use Rattle.wire.specs.Packets.{longest_adu}
 use Rattle.latency.specs.declared.WindowAnswer.{WindowAnswer}

@@ -1,7 +1,7 @@
 // How what a call answers is coded as one signed number.
 #![tactic(auto)]
 
-ghost use Rattle.words.specs.Words.{◌≡◌, ◌+◌, ◌*◌};
+ghost use Rattle.std.specs.Prelude.{◌≡◌, ◌+◌, ◌*◌};
 ghost use Rattle.wire.specs.Numbers.{number_of};
 ghost use Rattle.wire.specs.Answers.{value, refusal, said};
 ghost use Rattle.receiver.specs.Promises.{handed_said};

@@ -12,7 +12,8 @@
 --   lists_done, lists_were_done, lists_were_refused
 --   list_at: list i, where the lists stand
 --   lists_cut: the lists, cut out of the bytes where they stand one after the other
-use Rattle.words.specs.Words.{◌≡◌, arith, ℕ, ◌≤◌, ◌+◌, List, length, ◌<◌, refl, ◌∙◌, sym, ap, ◌-◌, [], ◌∷◌, suc, true, zero, ◌*◌, get_or, false, ◌++◌, Bool, drop}
+use Rattle.std.specs.Prelude.{◌≡◌, ◌≤◌, ◌+◌, ◌<◌, ◌-◌, ◌∷◌, ◌*◌, ◌++◌}
+use Rattle.words.specs.Words.{arith, ℕ, List, length, refl, ◌∙◌, sym, ap, [], suc, true, zero, get_or, false, Bool, drop}
 use Rattle.words.specs.Words.{take, cond, add-zero, add-one, length-append, not-suc-le-zero, zero-add, le_of_suc-le-suc, zero-mul, append_assoc, set, replicate}
 use Rattle.words.specs.Words.{append-nil, length-take, suc-mul, take_all, length-replicate, take-append-drop, drop-drop, take_at}
 use native.Mathlib.Nat.{le_of_eq}

@@ -13,7 +13,8 @@
 --   coefficient_draws_most: one coefficient takes at most 17
 --   list_draws_most, packet_draws_most
 --   written_draws: a packet takes the draws of the lists that its symbols were made with
-use Rattle.words.specs.Words.{◌≡◌, arith, ℕ, ◌≤◌, ◌+◌, List, length, ◌<◌, refl, ◌∙◌, ap, [], ◌%◌, ◌∷◌, suc, true, zero, ◌*◌, get_or, false, ◌++◌, Bool, ◌^◌, cond}
+use Rattle.std.specs.Prelude.{◌≡◌, ◌≤◌, ◌+◌, ◌<◌, ◌%◌, ◌∷◌, ◌*◌, ◌++◌, ◌^◌}
+use Rattle.words.specs.Words.{arith, ℕ, List, length, refl, ◌∙◌, ap, [], suc, true, zero, get_or, false, Bool, cond}
 use Rattle.words.specs.Words.{leb, eqb, add-one, length-append, not-suc-le-zero, le_of_suc-le-suc, lit<, replicate}
 use native.Mathlib.Decide.{le_ind}
 use lib.ListN.{replicate-append-replicate}

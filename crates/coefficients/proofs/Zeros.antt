@@ -1,5 +1,6 @@
 -- The draws that look for a nonzero byte: the first one that is found is taken, and refusal 10 comes after sixteen zeros and at no other time.
-use Rattle.words.specs.Words.{◌≡◌, arith, ℕ, ◌≤◌, ◌+◌, List, ◌<◌, refl, ◌∙◌, sym, [], ◌∷◌, suc, true, zero, false, ◌++◌, Bool, cond, leb, eqb, le-leb, add-zero}
+use Rattle.std.specs.Prelude.{◌≡◌, ◌≤◌, ◌+◌, ◌<◌, ◌∷◌, ◌++◌}
+use Rattle.words.specs.Words.{arith, ℕ, List, refl, ◌∙◌, sym, [], suc, true, zero, false, Bool, cond, leb, eqb, le-leb, add-zero}
 use Rattle.words.specs.Words.{map, ne_eqb, eq-eqb, true≢false, replicate, eqb-true, eqb-false}
 use Rattle.tinymt.specs.Generator.{draw_of, low4, low8}
 use Rattle.tinymt.specs.Computing.{first_draws}

@@ -1,5 +1,6 @@
 -- What the calls of this crate promise. Refusal 10 is the answer `Refused`; what the output then holds is free, but for what is said here.
-use Rattle.words.specs.Words.{◌≡◌, ℕ, List, length, true, ◌*◌, false, ◌++◌, Bool, drop}
+use Rattle.std.specs.Prelude.{◌≡◌, ◌*◌, ◌++◌}
+use Rattle.words.specs.Words.{ℕ, List, length, true, false, Bool, drop}
 use Rattle.wire.specs.declared.Scheme.{Scheme}
 use Rattle.wire.specs.Packets.{joined}
 use Rattle.coefficients.specs.declared.Filled.{Filled}

@@ -1,5 +1,6 @@
 -- Bytes are a field, and symbols of at least one byte a space over it.
-use Rattle.words.specs.Words.{◌≡◌, arith, ℕ, ◌<◌, ◌∙◌, sym, ap, suc, zero, ◌≢◌, ap₂, bit_xor, mod-eq_of_lt, xor_zero_r, xor_lt, xor_comm}
+use Rattle.std.specs.Prelude.{◌≡◌, ◌<◌, ◌≢◌}
+use Rattle.words.specs.Words.{arith, ℕ, ◌∙◌, sym, ap, suc, zero, ap₂, bit_xor, mod-eq_of_lt, xor_zero_r, xor_lt, xor_comm}
 use native.Mathlib.Nat.{suc-ne-zero}
 use lib.Bits.{xor_self}
 use Rattle.field.specs.Gf256.{product}

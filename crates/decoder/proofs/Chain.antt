@@ -9,7 +9,8 @@
 --   chain_reduce: to reduce by the system
 --   eliminate_same: only the first `k` rows count
 --   place_rows_same, chain_same, packet_implied, packet_contradicts, packet_places
-use Rattle.words.specs.Words.{◌≡◌, arith, ℕ, List, ◌<◌, refl, ◌∙◌, sym, ap, [], some, ◌∷◌, suc, zero, none, ◌++◌, subst, Option, ◌≢◌, ap₂, dec_lt}
+use Rattle.std.specs.Prelude.{◌≡◌, ◌<◌, ◌∷◌, ◌++◌, ◌≢◌}
+use Rattle.words.specs.Words.{arith, ℕ, List, refl, ◌∙◌, sym, ap, [], some, suc, zero, none, subst, Option, ap₂, dec_lt}
 use Rattle.decoder.specs.Field.{Ops, Laws}
 use Rattle.decoder.specs.Model.{Row, State, Reduced, Rref, eval, axpy, scale, lead, at, symbol, reduce, place, settle_by, settle, insert}
 use Rattle.decoder.specs.Receiver.{and_then, insert_all}

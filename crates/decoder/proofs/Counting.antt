@@ -1,5 +1,6 @@
 -- How many positions have become known: the difference of two counts.
-use Rattle.words.specs.Words.{◌≡◌, arith, ℕ, ◌+◌, List, refl, ◌∙◌, sym, ap, ◌-◌, some, suc, zero, none, subst, Option, ap₂, add_assoc}
+use Rattle.std.specs.Prelude.{◌≡◌, ◌+◌, ◌-◌}
+use Rattle.words.specs.Words.{arith, ℕ, List, refl, ◌∙◌, sym, ap, some, suc, zero, none, subst, Option, ap₂, add_assoc}
 use mathlib.Core.Option.{some-ne-none}
 use Rattle.decoder.specs.Field.{Ops, Laws}
 use Rattle.decoder.specs.Model.{tail, Filling, Row, State, Sat, Rref, known}

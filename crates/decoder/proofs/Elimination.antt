@@ -9,7 +9,8 @@
 --   solution_sat
 --   known_sound: what is shown is what every filling has there
 --   known_complete: what is not shown differs between two fillings
-use Rattle.words.specs.Words.{◌≡◌, ℕ, refl, ◌∙◌, sym, ap, some, suc, zero, none, subst, Option, ◌≢◌, ap₂, ◌↔◌, some-injective, none-ne-some}
+use Rattle.std.specs.Prelude.{◌≡◌, ◌≢◌, ◌↔◌}
+use Rattle.words.specs.Words.{ℕ, refl, ◌∙◌, sym, ap, some, suc, zero, none, subst, Option, ap₂, some-injective, none-ne-some}
 use mathlib.Core.Logic.Iff
 use mathlib.Core.Option.{some-ne-none}
 use Rattle.decoder.specs.Field.{Ops, Laws}

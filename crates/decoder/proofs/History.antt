@@ -8,7 +8,8 @@
 --   satisfies_members: all packets of a list, each by itself
 --   same_known: two receivers with one base whose accepted packets have the same fillings
 --   known_advance_by, demand_3
-use Rattle.words.specs.Words.{◌≡◌, arith, ℕ, ◌≤◌, ◌+◌, List, refl, ◌∙◌, sym, ap, ◌-◌, [], some, ◌∷◌, suc, zero, none, subst, Option, ◌≢◌, ◌↔◌, map, zero-add}
+use Rattle.std.specs.Prelude.{◌≡◌, ◌≤◌, ◌+◌, ◌-◌, ◌∷◌, ◌≢◌, ◌↔◌}
+use Rattle.words.specs.Words.{arith, ℕ, List, refl, ◌∙◌, sym, ap, [], some, suc, zero, none, subst, Option, map, zero-add}
 use Rattle.words.specs.Words.{⊎_elim, suc-add}
 use mathlib.Core.Logic.Iff
 use mathlib.Core.List.Memᴰ

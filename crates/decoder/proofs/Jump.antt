@@ -1,5 +1,6 @@
 -- A packet's equations one after the other, and the base position by position.
-use Rattle.words.specs.Words.{◌≡◌, arith, ℕ, ◌≤◌, List, refl, ap, [], some, ◌∷◌, suc, zero, none, ◌++◌, Option}
+use Rattle.std.specs.Prelude.{◌≡◌, ◌≤◌, ◌∷◌, ◌++◌}
+use Rattle.words.specs.Words.{arith, ℕ, List, refl, ap, [], some, suc, zero, none, Option}
 use Rattle.decoder.specs.Field.{Ops}
 use Rattle.decoder.specs.Model.{Row, insert, State, end, free, pivot, extend, advance}
 use Rattle.decoder.specs.Receiver.{advance_by, empty, insert_all, and_then}

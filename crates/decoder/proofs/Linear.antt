@@ -1,5 +1,6 @@
 -- The linear algebra of the affine form: row operations, and what they do to its value.
-use Rattle.words.specs.Words.{◌≡◌, ℕ, refl, ◌∙◌, sym, ap, some, suc, zero, none, ◌≢◌, ◌↔◌}
+use Rattle.std.specs.Prelude.{◌≡◌, ◌≢◌, ◌↔◌}
+use Rattle.words.specs.Words.{ℕ, refl, ◌∙◌, sym, ap, some, suc, zero, none}
 use mathlib.Core.Logic.{if_pos, if_neg}
 use Rattle.decoder.specs.Field.{Ops, Laws}
 use Rattle.decoder.specs.Model.{tail, only_if, Filling, Row, eval, axpy, scale, lead, at, symbol, push}

@@ -1,5 +1,6 @@
 -- The promises of the decoder, for any field and at the field of bytes.
-use Rattle.words.specs.Words.{◌≡◌, arith, ℕ, List, ◌<◌, refl, ◌∙◌, sym, ap, some, none, subst, Option, ◌≢◌, ◌↔◌, xor_lt}
+use Rattle.std.specs.Prelude.{◌≡◌, ◌<◌, ◌≢◌, ◌↔◌}
+use Rattle.words.specs.Words.{arith, ℕ, List, refl, ◌∙◌, sym, ap, some, none, subst, Option, xor_lt}
 use mathlib.Core.Option.{some-ne-none}
 use lib.Bits.{and_lt}
 use Rattle.field.proofs.Binary.{product_binary}

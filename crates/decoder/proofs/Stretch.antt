@@ -1,5 +1,6 @@
 -- Loops over a row's bytes, as operations on the line that they hold.
-use Rattle.words.specs.Words.{◌≡◌, arith, ℕ, ◌≤◌, ◌+◌, List, length, ◌<◌, refl, ◌∙◌, sym, ap, ◌%◌, ◌∷◌, suc, zero, ◌*◌, get_or, drop, ◌≢◌, take, ap₂, mod-lt, ◌/◌}
+use Rattle.std.specs.Prelude.{◌≡◌, ◌≤◌, ◌+◌, ◌<◌, ◌%◌, ◌∷◌, ◌*◌, ◌≢◌, ◌/◌}
+use Rattle.words.specs.Words.{arith, ℕ, List, length, refl, ◌∙◌, sym, ap, suc, zero, get_or, drop, take, ap₂, mod-lt}
 use Rattle.words.specs.Words.{ℕ_discrete, dec_lt, bit_xor, mod-eq_of_lt, drop-cons, mul-le-mul_right}
 use native.Mathlib.Nat.{div-add-mod'}
 use Rattle.field.specs.Gf256.{product}

@@ -1,5 +1,6 @@
 -- Symbols of `E` bytes obey the laws that single bytes obey.
-use Rattle.words.specs.Words.{◌≡◌, ℕ, refl, ap, suc, zero, ap₂}
+use Rattle.std.specs.Prelude.{◌≡◌}
+use Rattle.words.specs.Words.{ℕ, refl, ap, suc, zero, ap₂}
 use Rattle.decoder.specs.Field.{Ops, Laws}
 use Rattle.decoder.specs.Symbols.{nulls, adds, times, symbols}
 use Rattle.decoder.specs.Tuples.{Tuple}

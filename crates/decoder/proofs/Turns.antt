@@ -1,6 +1,7 @@
 -- A step for each of several positions, one after the other. Where steps commute and go by the remainder of the position,
 -- a turn around the window may begin anywhere: at the oldest position, or at row 0.
-use Rattle.words.specs.Words.{◌≡◌, arith, ℕ, ◌≤◌, ◌+◌, ◌<◌, refl, ◌∙◌, sym, ap, ◌%◌, suc, zero, add-zero, mod-eq_of_lt, add-mod_right}
+use Rattle.std.specs.Prelude.{◌≡◌, ◌≤◌, ◌+◌, ◌<◌, ◌%◌}
+use Rattle.words.specs.Words.{arith, ℕ, refl, ◌∙◌, sym, ap, suc, zero, add-zero, mod-eq_of_lt, add-mod_right}
 
 module _ {A : Type 0} where
   -- The steps of the `n` positions from `q` on.

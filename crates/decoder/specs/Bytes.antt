@@ -1,6 +1,7 @@
 -- The field of bytes, GF(2^8), and symbols of `E` bytes over it.
 -- Scheme 10 has all coefficients of it. Scheme 9 has the coefficients 0 and 1, whose sums and products are those of GF(2).
-use Rattle.words.specs.Words.{◌≡◌, ℕ, refl, ap, ◌%◌, suc, zero, mod-lt, bit_xor, lit<}
+use Rattle.std.specs.Prelude.{◌≡◌, ◌%◌}
+use Rattle.words.specs.Words.{ℕ, refl, ap, suc, zero, mod-lt, bit_xor, lit<}
 use mathlib.Core.HLevel.{Σ_prop_path}
 use Rattle.std.proofs.Math.Bridge.{le_prop}
 use Rattle.std.proofs.Common.{suc-ne-zero}

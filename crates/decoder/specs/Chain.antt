@@ -1,6 +1,7 @@
 -- Contracts of inner functions: a reader need not believe these.
 -- Rows that join a system one after the other, in order of arrival, and what an equation becomes when they are eliminated from it in that order.
-use Rattle.words.specs.Words.{◌≡◌, ℕ, ◌<◌, suc, zero}
+use Rattle.std.specs.Prelude.{◌≡◌, ◌<◌}
+use Rattle.words.specs.Words.{ℕ, suc, zero}
 use Rattle.decoder.specs.Field.{Ops}
 use Rattle.decoder.specs.Model.{Row, State, Reduced, axpy, lead, at, place}
 

@@ -1,5 +1,5 @@
 -- A field of characteristic two, and a space over it whose elements are symbols: operations, and the laws that the decoder rests on.
-use Rattle.words.specs.Words.{◌≡◌, ◌≢◌}
+use Rattle.std.specs.Prelude.{◌≡◌, ◌≢◌}
 
 -- The operations alone, on which the decoder's definitions run: `K` the coefficients, `Sym` the symbols, with sum `⊕` and multiple `•`.
 pub record Ops : Type 1 where

@@ -1,6 +1,7 @@
 -- The receiver's system of equations, in reduced row echelon form with the oldest position first:
 -- a window of positions, each free or the pivot of a row over the positions after it.
-use Rattle.words.specs.Words.{◌≡◌, ℕ, some, suc, zero, none, Option}
+use Rattle.std.specs.Prelude.{◌≡◌}
+use Rattle.words.specs.Words.{ℕ, some, suc, zero, none, Option}
 use Rattle.std.proofs.Math.Logic.{ite}
 use Rattle.decoder.specs.Field.{Ops}
 

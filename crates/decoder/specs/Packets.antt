@@ -1,6 +1,7 @@
 -- Source and repair packets as equations: a source packet has a row for each symbol, which says that its position holds it,
 -- a repair packet a row for each repair symbol, which says that it is the combination with its coefficients.
-use Rattle.words.specs.Words.{◌≡◌, ℕ, List, [], ◌∷◌, suc, zero, map}
+use Rattle.std.specs.Prelude.{◌≡◌, ◌∷◌}
+use Rattle.words.specs.Words.{ℕ, List, [], suc, zero, map}
 use Rattle.decoder.specs.Field.{Ops}
 use Rattle.decoder.specs.Model.{tail, Filling, Row}
 use Rattle.decoder.specs.Receiver.{Packet}

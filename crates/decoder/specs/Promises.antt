@@ -1,6 +1,7 @@
 -- What is proved of the decoder (proofs/Promises): a system of equations says, at any time, exactly what the accepted packets say of the
 -- positions that are left, though the rows of those that have departed are gone.
-use Rattle.words.specs.Words.{◌≡◌, ℕ, ◌≤◌, ◌+◌, List, ◌<◌, some, none, Option, ◌≢◌, ◌↔◌, bit_xor}
+use Rattle.std.specs.Prelude.{◌≡◌, ◌≤◌, ◌+◌, ◌<◌, ◌≢◌, ◌↔◌}
+use Rattle.words.specs.Words.{ℕ, List, some, none, Option, bit_xor}
 use Rattle.std.specs.Int.Bits.{bit_and}
 use Rattle.decoder.specs.Field.{Ops}
 use Rattle.decoder.specs.Model.{Filling, Row, eval, State, Sat, Rref, insert, known}

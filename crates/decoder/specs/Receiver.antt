@@ -1,5 +1,6 @@
 -- The receiver: packets of equations over positions, all accepted or none, and the window that moves on to fit them.
-use Rattle.words.specs.Words.{◌≡◌, ℕ, ◌≤◌, ◌+◌, List, ◌-◌, [], some, ◌∷◌, suc, zero, none, Option, map}
+use Rattle.std.specs.Prelude.{◌≡◌, ◌≤◌, ◌+◌, ◌-◌, ◌∷◌}
+use Rattle.words.specs.Words.{ℕ, List, [], some, suc, zero, none, Option, map}
 use Rattle.decoder.specs.Field.{Ops}
 use Rattle.decoder.specs.Model.{tail, Filling, Row, eval, symbol, State, end, free, insert, known, advance}
 

@@ -1,5 +1,6 @@
 -- A row's bytes in memory, `w` coefficients by the remainder of their position and then `E` bytes of symbol, as a line of the table.
-use Rattle.words.specs.Words.{ℕ, List, ◌<◌, ◌%◌, suc, zero, get_or}
+use Rattle.std.specs.Prelude.{◌<◌, ◌%◌}
+use Rattle.words.specs.Words.{ℕ, List, suc, zero, get_or}
 use Rattle.decoder.specs.Tuples.{Tuple, Byte}
 use Rattle.decoder.specs.Bytes.{byte, Coded}
 use Rattle.decoder.specs.Table.{Line}

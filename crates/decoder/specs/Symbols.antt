@@ -1,5 +1,6 @@
 -- Symbols of `E` bytes, byte by byte, over a space of single bytes.
-use Rattle.words.specs.Words.{◌≡◌, ℕ, refl, ap, suc, zero, ap₂}
+use Rattle.std.specs.Prelude.{◌≡◌}
+use Rattle.words.specs.Words.{ℕ, refl, ap, suc, zero, ap₂}
 use Rattle.decoder.specs.Field.{Ops}
 use Rattle.decoder.specs.Tuples.{Tuple}
 

@@ -1,5 +1,6 @@
 -- Bytes, and symbols of `n` bytes.
-use Rattle.words.specs.Words.{ℕ, ◌<◌, suc, zero, List, [], ◌∷◌}
+use Rattle.std.specs.Prelude.{◌<◌, ◌∷◌}
+use Rattle.words.specs.Words.{ℕ, suc, zero, List, []}
 
 -- A number below 256.
 abbrev pub Byte : Type 0

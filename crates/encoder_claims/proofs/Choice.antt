@@ -1,5 +1,6 @@
 -- Two encoders of a block whose calls are judged so answer and write alike.
-use Rattle.words.specs.Words.{◌≡◌, arith, ℕ, ◌≤◌, ◌+◌, List, length, ◌<◌, refl, ◌∙◌, sym, ap, [], ◌∷◌, ◌++◌, subst, map, ap₂, append_assoc, append-nil}
+use Rattle.std.specs.Prelude.{◌≡◌, ◌≤◌, ◌+◌, ◌<◌, ◌∷◌, ◌++◌}
+use Rattle.words.specs.Words.{arith, ℕ, List, length, refl, ◌∙◌, sym, ap, [], subst, map, ap₂, append_assoc, append-nil}
 use Rattle.words.specs.Words.{ext_get_or}
 use Rattle.wire.specs.declared.Answer.{Answer}
 use Rattle.wire.specs.declared.Answer.TheVariants.{Done, Refused}

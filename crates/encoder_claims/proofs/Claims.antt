@@ -1,5 +1,6 @@
 -- All claims of the encoder hold.
-use Rattle.words.specs.Words.{◌≡◌, arith, ℕ, ◌+◌, List, length, ◌-◌, ◌∙◌, ap, [], ◌∷◌, none, ◌*◌, ◌++◌, take, take_all, one-mul, length-append, length-replicate}
+use Rattle.std.specs.Prelude.{◌≡◌, ◌+◌, ◌-◌, ◌∷◌, ◌*◌, ◌++◌}
+use Rattle.words.specs.Words.{arith, ℕ, List, length, ◌∙◌, ap, [], none, take, take_all, one-mul, length-append, length-replicate}
 use Rattle.memory.specs.Number.{bytes}
 use Rattle.wire.specs.Packets.{zeros, chunks, adui, source_symbols}
 use Rattle.wire.specs.Answers.{said}

@@ -4,7 +4,8 @@
 --   is_symbol: the combination is the value of the polynomial
 --   adds_judged, repairs_judged, encoder_judged
 --   opening_judged
-use Rattle.words.specs.Words.{◌≡◌, arith, ℕ, ◌≤◌, ◌+◌, List, length, ◌<◌, refl, ◌∙◌, ap, [], ◌∷◌, get_or, ◌++◌, subst, true, leb, le-leb, lt-leb}
+use Rattle.std.specs.Prelude.{◌≡◌, ◌≤◌, ◌+◌, ◌<◌, ◌∷◌, ◌++◌}
+use Rattle.words.specs.Words.{arith, ℕ, List, length, refl, ◌∙◌, ap, [], get_or, subst, true, leb, le-leb, lt-leb}
 use Rattle.memory.specs.Part.{splice}
 use Rattle.wire.specs.declared.Refusal.TheVariants as refusals
 use Rattle.wire.specs.declared.Answer.{Answer}

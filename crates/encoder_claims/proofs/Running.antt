@@ -4,7 +4,8 @@
 --   symbols-append, ran: the list
 --   opened_holds, run_holds, run_valid, run_held: from the opening on
 --   wholes_at, calls-whole: the symbols
-use Rattle.words.specs.Words.{◌≡◌, arith, ℕ, ◌≤◌, ◌+◌, List, length, ◌<◌, refl, ◌∙◌, sym, ap, [], ◌∷◌, suc, true, zero, get_or, false, ◌++◌, Bool, subst, leb, ltb}
+use Rattle.std.specs.Prelude.{◌≡◌, ◌≤◌, ◌+◌, ◌<◌, ◌∷◌, ◌++◌}
+use Rattle.words.specs.Words.{arith, ℕ, List, length, refl, ◌∙◌, sym, ap, [], suc, true, zero, get_or, false, Bool, subst, leb, ltb}
 use Rattle.words.specs.Words.{append_assoc, append-nil, dec_lt, lit<}
 use Rattle.memory.specs.Number.{Bytes}
 use Rattle.wire.specs.Packets.{source_symbols}

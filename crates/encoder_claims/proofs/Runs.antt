@@ -2,7 +2,8 @@
 -- Index
 --   add, make: one call
 --   runs, runs_exist: all calls
-use Rattle.words.specs.Words.{◌≡◌, arith, ℕ, ◌≤◌, ◌+◌, List, length, ◌<◌, refl, ap, [], some, ◌∷◌, map, le-leb, lt-leb}
+use Rattle.std.specs.Prelude.{◌≡◌, ◌≤◌, ◌+◌, ◌<◌, ◌∷◌}
+use Rattle.words.specs.Words.{arith, ℕ, List, length, refl, ap, [], some, map, le-leb, lt-leb}
 use Rattle.memory.specs.Part.{splice}
 use Rattle.wire.specs.declared.Refusal.{Refusal}
 use Rattle.wire.specs.declared.Refusal.TheVariants as refusals

@@ -2,7 +2,8 @@
 -- (document 02, No. 9; RFC 6865, section 5.1, and RFC 5510). m, out and a are memory, output and answer; m' and out' memory and output afterwards; `taken` are
 -- the source symbols of the ADUs that the encoder took before the call, in order. Each record has the refusals in the order of their tests; 3 has no place here,
 -- since the calls follow an opening.
-use Rattle.words.specs.Words.{◌≡◌, ℕ, ◌≤◌, ◌+◌, List, length, ◌<◌, [], ◌∷◌, ◌*◌, get_or, ◌++◌, drop, ◌^◌}
+use Rattle.std.specs.Prelude.{◌≡◌, ◌≤◌, ◌+◌, ◌<◌, ◌∷◌, ◌*◌, ◌++◌, ◌^◌}
+use Rattle.words.specs.Words.{ℕ, List, length, [], get_or, drop}
 use Rattle.memory.specs.Number.{bytes}
 use Rattle.memory.specs.Contained.{Contained}
 use Rattle.field.specs.Powers.{power}

@@ -1,5 +1,6 @@
 -- A list of calls of one encoder, each as it promises, from an opening that answered 0; and the source symbols of the ADUs that it took.
-use Rattle.words.specs.Words.{◌≡◌, ℕ, List, ◌<◌, [], ◌∷◌, ◌++◌}
+use Rattle.std.specs.Prelude.{◌≡◌, ◌<◌, ◌∷◌, ◌++◌}
+use Rattle.words.specs.Words.{ℕ, List, []}
 use Rattle.memory.specs.Number.{Bytes}
 use Rattle.wire.specs.Packets.{source_symbols}
 use Rattle.wire.specs.declared.Answer.{Answer}

@@ -1,6 +1,7 @@
 -- The coefficients of scheme 9, which are 0 and 1: GF(2) is the part {0, 1} of GF(2^8), so one arithmetic serves both schemes. That 0 times a
 -- byte is 0 and 1 times a byte is the byte is `product-zero` and `product-one` of `Laws`.
-use Rattle.words.specs.Words.{◌≡◌, arith, ℕ, ◌<◌, refl, ◌∙◌, sym, ◌*◌, zero-mul, one-mul}
+use Rattle.std.specs.Prelude.{◌≡◌, ◌<◌, ◌*◌}
+use Rattle.words.specs.Words.{arith, ℕ, refl, ◌∙◌, sym, zero-mul, one-mul}
 use lib.Bits.{bit_and}
 use Rattle.field.specs.Gf256.{product}
 use Rattle.field.proofs.Xor.{binary}

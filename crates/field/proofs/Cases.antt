@@ -1,5 +1,6 @@
 -- The bench sheet's cases C1 to C3, computed from the definitions.
-use Rattle.words.specs.Words.{◌≡◌, refl, [], ◌∷◌}
+use Rattle.std.specs.Prelude.{◌≡◌, ◌∷◌}
+use Rattle.words.specs.Words.{refl, []}
 use Rattle.field.specs.Gf256.{product}
 use Rattle.field.specs.Powers.{inverse, inverse_below}
 

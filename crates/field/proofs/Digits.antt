@@ -1,5 +1,6 @@
 -- Horner's rule, one digit at a time.
-use Rattle.words.specs.Words.{◌≡◌, ℕ, ◌≤◌, refl, ◌∙◌, sym, ap, ◌%◌, suc, zero, ◌/◌, not-suc-le-zero}
+use Rattle.std.specs.Prelude.{◌≡◌, ◌≤◌, ◌%◌, ◌/◌}
+use Rattle.words.specs.Words.{ℕ, refl, ◌∙◌, sym, ap, suc, zero, not-suc-le-zero}
 use native.Mathlib.Nat.{le_refl}
 use native.Mathlib.Decide.{le_ind}
 use lib.Arith.{half_le}

@@ -4,8 +4,9 @@
 --   the tables: doublings_at, logarithms_at
 --   inverses: inverse_unique, inverse-lt, inverse-is, inverse-power, product-inverse
 --   the operations by logarithms: product_by_logarithms, inverse_by_logarithm, inverse-zero
-use Rattle.words.specs.Words.{◌≡◌, arith, ℕ, ◌≤◌, ◌+◌, List, length, ◌<◌, refl, ◌∙◌, sym, ap, ◌-◌, ◌%◌, suc, true, zero, ◌*◌, get_or, false, Bool, ap₂, ltb, eqb}
-use Rattle.words.specs.Words.{◌/◌, add-zero, bit_xor, not-suc-le-zero, zero-add, le_of_suc-le-suc, zero-mul, eqb-true, add-suc, eqb-false, suc-add}
+use Rattle.std.specs.Prelude.{◌≡◌, ◌≤◌, ◌+◌, ◌<◌, ◌-◌, ◌%◌, ◌*◌, ◌/◌}
+use Rattle.words.specs.Words.{arith, ℕ, List, length, refl, ◌∙◌, sym, ap, suc, true, zero, get_or, false, Bool, ap₂, ltb, eqb}
+use Rattle.words.specs.Words.{add-zero, bit_xor, not-suc-le-zero, zero-add, le_of_suc-le-suc, zero-mul, eqb-true, add-suc, eqb-false, suc-add}
 use native.Mathlib.Nat.{div-add-mod'}
 use lib.Arith.{lt_of_le-ne}
 use lib.Dec.{T, eqb→eq, ltb→lt}

@@ -1,5 +1,6 @@
 -- A product in GF(2^8) is the sum of the multiples of one factor that the binary digits of the other choose.
-use Rattle.words.specs.Words.{◌≡◌, arith, ℕ, ◌≤◌, ◌+◌, List, ◌<◌, refl, ◌∙◌, sym, ap, ◌-◌, [], ◌%◌, ◌∷◌, suc, zero, ◌*◌, ◌^◌, ap₂, ◌/◌, bit_xor, zero-mul}
+use Rattle.std.specs.Prelude.{◌≡◌, ◌≤◌, ◌+◌, ◌<◌, ◌-◌, ◌%◌, ◌∷◌, ◌*◌, ◌^◌, ◌/◌}
+use Rattle.words.specs.Words.{arith, ℕ, List, refl, ◌∙◌, sym, ap, [], suc, zero, ap₂, bit_xor, zero-mul}
 use Rattle.words.specs.Words.{xor_zero_r, one-mul, xor_comm, dec_lt}
 use native.Mathlib.Nat.{pow-suc}
 use lib.Bits.{xor_shifted}

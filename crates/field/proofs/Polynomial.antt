@@ -2,7 +2,8 @@
 -- The laws by group:
 --   the product: times-xor_left, times-xor_right, times-one, times_comm, times_assoc
 --   the remainder: remainder-xor, remainder-lt, remainder_id, remainder-times
-use Rattle.words.specs.Words.{◌≡◌, arith, ℕ, ◌<◌, refl, ◌∙◌, sym, ap, ◌%◌, ◌*◌, ◌^◌, ap₂, ◌/◌, bit_xor, zero-mul, xor_lt, one-mul}
+use Rattle.std.specs.Prelude.{◌≡◌, ◌<◌, ◌%◌, ◌*◌, ◌^◌, ◌/◌}
+use Rattle.words.specs.Words.{arith, ℕ, refl, ◌∙◌, sym, ap, ap₂, bit_xor, zero-mul, xor_lt, one-mul}
 use native.Mathlib.Nat.{zero-lt-suc, mul-one, mul_assoc, mul-mod_left, mul-div_cancel}
 use lib.Arith.{bin_ind}
 use lib.Bits.{xor_shr, xor_mod, xor_self}

@@ -1,5 +1,6 @@
 -- A rule of a table, proved at all of its entries by one test that antt computes, one entry after the other.
-use Rattle.words.specs.Words.{ℕ, ◌+◌, List, length, ◌<◌, ◌∙◌, sym, [], ◌∷◌, suc, true, zero, get_or, false, Bool, subst, add-zero, not-suc-le-zero, zero-add}
+use Rattle.std.specs.Prelude.{◌+◌, ◌<◌, ◌∷◌}
+use Rattle.words.specs.Words.{ℕ, List, length, ◌∙◌, sym, [], suc, true, zero, get_or, false, Bool, subst, add-zero, not-suc-le-zero, zero-add}
 use Rattle.words.specs.Words.{le_of_suc-le-suc, add-suc, suc-add}
 use lib.Dec.{T}
 

@@ -1,5 +1,6 @@
 -- Laws of `bit_xor` that `lib.Bits` lacks, and induction on binary digits.
-use Rattle.words.specs.Words.{◌≡◌, ℕ, ◌+◌, ◌<◌, refl, ◌∙◌, sym, ap, ◌%◌, suc, zero, ◌*◌, ap₂, mod-lt, ◌/◌, add-zero, bit_xor, not-suc-le-zero, le_of_suc-le-suc}
+use Rattle.std.specs.Prelude.{◌≡◌, ◌+◌, ◌<◌, ◌%◌, ◌*◌, ◌/◌}
+use Rattle.words.specs.Words.{ℕ, refl, ◌∙◌, sym, ap, suc, zero, ap₂, mod-lt, add-zero, bit_xor, not-suc-le-zero, le_of_suc-le-suc}
 use Rattle.words.specs.Words.{zero-mul, xor_zero_r, one-mul, xor_comm}
 use native.Mathlib.Nat.{div-add-mod', zero-lt-suc}
 use lib.Arith.{bin_ind}

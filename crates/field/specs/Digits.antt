@@ -1,5 +1,6 @@
 -- Horner's rule over the binary digits of a number.
-use Rattle.words.specs.Words.{ℕ, ◌%◌, suc, zero, ◌/◌}
+use Rattle.std.specs.Prelude.{◌%◌, ◌/◌}
+use Rattle.words.specs.Words.{ℕ, suc, zero}
 
 -- `f d r` takes a digit d and what the digits above it gave, r. At most n digits are taken.
 abbrev pub fold_upto : (ℕ → ℕ → ℕ) → ℕ → ℕ → ℕ

@@ -1,6 +1,7 @@
 -- GF(2^8), as RFC 8681 has it: polynomials over GF(2) modulo x^8 + x^4 + x^3 + x^2 + 1.
 -- A polynomial is the number whose binary digits are its coefficients, so the sum of two is `bit_xor` and `p * 2` is x times p.
-use Rattle.words.specs.Words.{ℕ, ◌%◌, ◌*◌, ◌^◌, ◌/◌, bit_xor}
+use Rattle.std.specs.Prelude.{◌%◌, ◌*◌, ◌^◌, ◌/◌}
+use Rattle.words.specs.Words.{ℕ, bit_xor}
 use Rattle.field.specs.Digits.{fold_digits}
 
 -- x^8 + x^4 + x^3 + x^2 + 1

@@ -1,5 +1,6 @@
 -- Logarithms to the base 2 in GF(2^8).
-use Rattle.words.specs.Words.{◌≡◌, ℕ, ◌<◌}
+use Rattle.std.specs.Prelude.{◌≡◌, ◌<◌}
+use Rattle.words.specs.Words.{ℕ}
 use Rattle.field.specs.Powers.{power}
 
 -- e is the logarithm of a

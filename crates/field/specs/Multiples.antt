@@ -1,6 +1,7 @@
 -- The multiples of an element by 1, 2, 4, .. 128, from which a product by it is summed. The element itself is the first of them, and the others
 -- are its doublings, as in the table of powers.
-use Rattle.words.specs.Words.{◌≡◌, ℕ, List, [], ◌∷◌}
+use Rattle.std.specs.Prelude.{◌≡◌, ◌∷◌}
+use Rattle.words.specs.Words.{ℕ, List, []}
 use Rattle.field.specs.Tables.{doublings}
 use Rattle.field.specs.declared.Multiples.{Multiples}
 

@@ -1,5 +1,6 @@
 -- The two tables of GF(2^8), as their rules give them.
-use Rattle.words.specs.Words.{ℕ, List, [], ◌∷◌, suc, true, zero, false, eqb}
+use Rattle.std.specs.Prelude.{◌∷◌}
+use Rattle.words.specs.Words.{ℕ, List, [], suc, true, zero, false, eqb}
 use Rattle.field.specs.Gf256.{product}
 
 -- The n powers from x on: each entry doubles the one before.

@@ -4,9 +4,9 @@
 --   all_announced: the bytes that are all 255
 --   or_bit, mask_bit, bit_set: a bit of an or, and of a byte with one bit set
 --   same_byte, one_more: the flow's bit was set
-use Rattle.words.specs.Words.{◌≡◌, arith, ℕ, List, length, ◌<◌, refl, ◌∙◌, sym, ap, ◌%◌, suc, true, zero, ◌*◌, get_or, false, Bool, cond, ◌^◌, ◌/◌, max, set, eqb}
-use Rattle.words.specs.Words.{◌&&◌}
-use Rattle.words.specs.Words.{◌||◌, not-suc-le-zero, ℕ_discrete, eqb-true, eq-eqb, ne_eqb}
+use Rattle.std.specs.Prelude.{◌≡◌, ◌<◌, ◌%◌, ◌*◌, ◌^◌, ◌/◌, ◌&&◌, ◌||◌}
+use Rattle.words.specs.Words.{arith, ℕ, List, length, refl, ◌∙◌, sym, ap, suc, true, zero, get_or, false, Bool, cond, max, set, eqb}
+use Rattle.words.specs.Words.{not-suc-le-zero, ℕ_discrete, eqb-true, eq-eqb, ne_eqb}
 use lib.Bits.{bit_or, or_step, or_shr}
 use lib.Seq.{get_or-set_same, get_or-set_other}
 use Rattle.wire.specs.Flows.{announced, all_flows}

@@ -1,6 +1,7 @@
 -- Computed from the definitions, for all 256 flows: the bytes that announcing 0, 7, 8 and 255 leaves, one after the other, from bytes that are all zero;
 -- and that announcing one of them again leaves.
-use Rattle.words.specs.Words.{◌≡◌, ℕ, List, refl, [], ◌∷◌, Bool, eqb, map, ◌||◌}
+use Rattle.std.specs.Prelude.{◌≡◌, ◌∷◌, ◌||◌}
+use Rattle.words.specs.Words.{ℕ, List, refl, [], Bool, eqb, map}
 use Rattle.wire.specs.Flows.{announced}
 use Rattle.wire.specs.Facts.{under, announcing, announced_in}
 

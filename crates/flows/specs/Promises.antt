@@ -1,5 +1,6 @@
 -- What the calls promise of the flows that 32 bytes announce: flows before a call, flows' after it.
-use Rattle.words.specs.Words.{◌≡◌, ℕ, List, ◌<◌, true, eqb, ◌||◌}
+use Rattle.std.specs.Prelude.{◌≡◌, ◌<◌, ◌||◌}
+use Rattle.words.specs.Words.{ℕ, List, true, eqb}
 use Rattle.wire.specs.Flows.{announced, all_flows}
 
 -- one flow more is announced, and every other is or is not as before

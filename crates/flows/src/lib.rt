@@ -1,7 +1,8 @@
 // Flows that an end announces when it is opened (document 02, No. 7), in 32 bytes: one flow more, and all.
 #![tactic(auto)]
 
-ghost use Rattle.words.specs.Words.{◌≡◌, length};
+ghost use Rattle.std.specs.Prelude.{◌≡◌};
+ghost use Rattle.words.specs.Words.{length};
 ghost use Rattle.flows.specs.Promises.{Announces, AnnouncesAll};
 
 // Sets the flow's bit.

@@ -2,7 +2,8 @@
 -- A row divided by its coefficient in a column: divided_one, normalised.
 -- What becomes of a reduced equation: settled_kept, settled_implied, settled_contradiction.
 -- The packet's rows: gathered_same, gathered_only, gathered_none. The whole call: admitted, admitted_zero.
-use Rattle.words.specs.Words.{◌≡◌, arith, ℕ, ◌≤◌, ◌+◌, List, length, ◌<◌, refl, ◌∙◌, sym, ap, ◌-◌, [], some, ◌%◌, ◌∷◌, get_or, ◌++◌, subst, ◌≢◌, mod-lt}
+use Rattle.std.specs.Prelude.{◌≡◌, ◌≤◌, ◌+◌, ◌<◌, ◌-◌, ◌%◌, ◌∷◌, ◌++◌, ◌≢◌}
+use Rattle.words.specs.Words.{arith, ℕ, List, length, refl, ◌∙◌, sym, ap, [], some, get_or, subst, mod-lt}
 use Rattle.words.specs.Words.{ℕ_discrete, dec_lt, add-one, mod-add-mod, set, add-mod_right, lit<}
 use Rattle.field.specs.Gf256.{product}
 use Rattle.field.specs.Powers.{inverse}

@@ -1,5 +1,6 @@
 -- The multipliers of the state's rows, collected by column.
-use Rattle.words.specs.Words.{◌≡◌, arith, ℕ, ◌≤◌, ◌+◌, List, length, ◌<◌, refl, ◌∙◌, sym, ap, ◌-◌, [], ◌%◌, ◌∷◌, suc, true, zero, get_or, false, Bool, ◌≢◌}
+use Rattle.std.specs.Prelude.{◌≡◌, ◌≤◌, ◌+◌, ◌<◌, ◌-◌, ◌%◌, ◌∷◌, ◌≢◌}
+use Rattle.words.specs.Words.{arith, ℕ, List, length, refl, ◌∙◌, sym, ap, [], suc, true, zero, get_or, false, Bool}
 use Rattle.words.specs.Words.{mod-lt, ℕ_discrete, mod-add-mod, set, length-set}
 use lib.Seq.{get_or-set_same, get_or-set_other}
 use lib.Bits.{bit_or, or_add_and, and_le_l, and_le_r}

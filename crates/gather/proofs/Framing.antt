@@ -1,5 +1,6 @@
 -- Changes within a stretch of a memory, and the rows that they leave alone.
-use Rattle.words.specs.Words.{◌≡◌, arith, ℕ, ◌≤◌, ◌+◌, List, length, ◌<◌, refl, ◌∙◌, sym, ap, ◌-◌, get_or, subst, drop, ◌≢◌, take, dec_lt, zero-add, drop-drop}
+use Rattle.std.specs.Prelude.{◌≡◌, ◌≤◌, ◌+◌, ◌<◌, ◌-◌, ◌≢◌}
+use Rattle.words.specs.Words.{arith, ℕ, List, length, refl, ◌∙◌, sym, ap, get_or, subst, drop, take, dec_lt, zero-add, drop-drop}
 use Rattle.memory.specs.Part.{part, splice}
 use Rattle.memory.proofs.Parts.{length_part, length-splice, take-splice, past-splice, part-part, part-drop, row_fits}
 use Rattle.table.specs.Window.{stride, row_offset, row}

@@ -1,6 +1,7 @@
 -- An equation's coefficients laid in a row of working memory: they stand in their columns, around the end of the window.
 -- Columns: wrapped. Coefficients up to the end of the window, and around it: laid_short, laid_long. The symbol stays: laid_symbol.
-use Rattle.words.specs.Words.{◌≡◌, arith, ℕ, ◌≤◌, ◌+◌, List, length, ◌<◌, refl, ◌∙◌, sym, ap, ◌-◌, ◌%◌, get_or, subst, ◌≢◌, mod-lt, dec_lt, mod-eq_of_lt, zero-add}
+use Rattle.std.specs.Prelude.{◌≡◌, ◌≤◌, ◌+◌, ◌<◌, ◌-◌, ◌%◌, ◌≢◌}
+use Rattle.words.specs.Words.{arith, ℕ, List, length, refl, ◌∙◌, sym, ap, get_or, subst, mod-lt, dec_lt, mod-eq_of_lt, zero-add}
 use Rattle.words.specs.Words.{replicate, length-replicate}
 use native.Mathlib.Nat.{mod-eq-sub-mod}
 use lib.ListN.{get_or-replicate}

@@ -1,5 +1,6 @@
 -- How many rows a system has: each row that is placed is one more, and there are no more than positions.
-use Rattle.words.specs.Words.{◌≡◌, arith, ℕ, ◌≤◌, refl, ◌∙◌, sym, ap, suc, zero}
+use Rattle.std.specs.Prelude.{◌≡◌, ◌≤◌}
+use Rattle.words.specs.Words.{arith, ℕ, refl, ◌∙◌, sym, ap, suc, zero}
 use mathlib.Core.Logic.{ite, if_pos}
 use Rattle.decoder.specs.Field.{Ops, Laws}
 use Rattle.decoder.specs.Model.{Row, State, end, free, pivot, Reduced, lead, reduce, place, place_free}

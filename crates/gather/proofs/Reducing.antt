@@ -2,8 +2,9 @@
 -- A row that has been replaced: new_cell, new_line, part-row, bytes_add_scaled.
 -- By the packet's rows: flag-lt, rows_apart, eliminated, packet-none, packet-more.
 -- By the state's rows: zeros, length_lent, rows-added, state_none, state_some, state_empty, state_one, zero_if, state_only, no_coefficient, state_reduced.
-use Rattle.words.specs.Words.{◌≡◌, arith, ℕ, ◌≤◌, ◌+◌, List, length, ◌<◌, refl, ◌∙◌, sym, ap, ◌-◌, [], ◌%◌, ◌∷◌, suc, true, zero, get_or, false, ◌++◌, subst}
-use Rattle.words.specs.Words.{drop, ◌≢◌, take, ap₂, mod-lt, dec_lt, add-one, bit_xor, mod-add-mod, lit<, replicate, add-mod_right, xor_lt, length-take-le}
+use Rattle.std.specs.Prelude.{◌≡◌, ◌≤◌, ◌+◌, ◌<◌, ◌-◌, ◌%◌, ◌∷◌, ◌++◌, ◌≢◌}
+use Rattle.words.specs.Words.{arith, ℕ, List, length, refl, ◌∙◌, sym, ap, [], suc, true, zero, get_or, false, subst}
+use Rattle.words.specs.Words.{drop, take, ap₂, mod-lt, dec_lt, add-one, bit_xor, mod-add-mod, lit<, replicate, add-mod_right, xor_lt, length-take-le}
 use Rattle.words.specs.Words.{get_or-take, set, ℕ_discrete, length-replicate, add-zero, mod-eq_of_lt}
 use lib.Seq.{get_or-set_same, get_or-set_other}
 use lib.Bits.{bit_or}

@@ -1,5 +1,6 @@
 -- The search for a pivot, row by row and in a row from a column on.
-use Rattle.words.specs.Words.{◌≡◌, arith, ℕ, ◌≤◌, ◌+◌, List, ◌<◌, refl, ◌∙◌, sym, ap, ◌%◌, get_or, subst, ◌≢◌, mod-lt, ℕ_discrete}
+use Rattle.std.specs.Prelude.{◌≡◌, ◌≤◌, ◌+◌, ◌<◌, ◌%◌, ◌≢◌}
+use Rattle.words.specs.Words.{arith, ℕ, List, refl, ◌∙◌, sym, ap, get_or, subst, mod-lt, ℕ_discrete}
 use Rattle.memory.proofs.Parts.{get_or-part}
 use Rattle.table.specs.Window.{stride, row_offset, row}
 use Rattle.table.specs.RowSteps.{ZeroFrom}

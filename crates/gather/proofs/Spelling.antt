@@ -1,5 +1,6 @@
 -- The equation that a laid row spells is the model's: coefficients at the positions from the `d`th of the window on, and a symbol.
-use Rattle.words.specs.Words.{◌≡◌, arith, ℕ, ◌≤◌, ◌+◌, List, length, ◌<◌, refl, ◌∙◌, sym, ap, [], ◌%◌, ◌∷◌, suc, zero, get_or, ◌≢◌, ap₂, mod-lt, ℕ_discrete}
+use Rattle.std.specs.Prelude.{◌≡◌, ◌≤◌, ◌+◌, ◌<◌, ◌%◌, ◌∷◌, ◌≢◌}
+use Rattle.words.specs.Words.{arith, ℕ, List, length, refl, ◌∙◌, sym, ap, [], suc, zero, get_or, ap₂, mod-lt, ℕ_discrete}
 use Rattle.words.specs.Words.{mod-add-mod}
 use Rattle.decoder.specs.Bytes.{byte, byte_path, Coded}
 use Rattle.decoder.specs.Receiver.{embed}

@@ -1,6 +1,7 @@
 -- What `lay` and `admit` do to an equation of a packet: it is laid in a row of working memory, reduced there and kept, unless it is implied
 -- or contradicts.
-use Rattle.words.specs.Words.{◌≡◌, ℕ, ◌≤◌, ◌+◌, List, length, ◌<◌, ◌-◌, [], ◌%◌, ◌∷◌, none, get_or, ◌++◌, drop, ◌≢◌, take}
+use Rattle.std.specs.Prelude.{◌≡◌, ◌≤◌, ◌+◌, ◌<◌, ◌-◌, ◌%◌, ◌∷◌, ◌++◌, ◌≢◌}
+use Rattle.words.specs.Words.{ℕ, List, length, [], none, get_or, drop, take}
 use Rattle.decoder.specs.Bytes.{Coded}
 use Rattle.decoder.specs.Model.{Row, State, Rref}
 use Rattle.decoder.specs.Receiver.{advance_by, insert_all}

@@ -1,6 +1,7 @@
 -- Contracts of inner functions: a reader need not believe these.
 -- An equation is reduced by the state's rows and by the packet's, and its oldest coefficient is found and made one.
-use Rattle.words.specs.Words.{◌≡◌, ℕ, ◌≤◌, ◌+◌, List, length, ◌<◌, ◌%◌, true, get_or, false, Bool, ◌≢◌}
+use Rattle.std.specs.Prelude.{◌≡◌, ◌≤◌, ◌+◌, ◌<◌, ◌%◌, ◌≢◌}
+use Rattle.words.specs.Words.{ℕ, List, length, true, get_or, false, Bool}
 use Rattle.field.specs.Powers.{inverse}
 use Rattle.memory.specs.Part.{part, splice}
 use Rattle.memory.specs.Number.{Bytes}

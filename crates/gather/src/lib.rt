@@ -2,7 +2,8 @@
 // it, and kept as the packet's next row, unless it is implied by these or contradicts them. The state is only read.
 #![tactic(auto)]
 
-ghost use Rattle.words.specs.Words.{◌≡◌, ◌≤◌, ◌+◌, length, ◌<◌, ◌%◌, take};
+ghost use Rattle.std.specs.Prelude.{◌≡◌, ◌≤◌, ◌+◌, ◌<◌, ◌%◌};
+ghost use Rattle.words.specs.Words.{length, take};
 ghost use Rattle.table.specs.Window.{row, in_use, Fits};
 ghost use Rattle.table.specs.Packet.{Works};
 ghost use Rattle.gather.specs.Gather.{LaidIn, Admitted};

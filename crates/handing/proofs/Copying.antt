@@ -1,5 +1,6 @@
 -- The symbols of an ADUI: how many there are and where the last ends, its padding, and its bytes copied symbol by symbol.
-use Rattle.words.specs.Words.{◌≡◌, arith, ℕ, ◌≤◌, ◌+◌, List, length, ◌<◌, refl, ◌∙◌, sym, ap, ◌-◌, suc, ◌*◌, subst, drop, ap₂, eqb, ◌↔◌, dec_lt, add-one}
+use Rattle.std.specs.Prelude.{◌≡◌, ◌≤◌, ◌+◌, ◌<◌, ◌-◌, ◌*◌, ◌↔◌}
+use Rattle.words.specs.Words.{arith, ℕ, List, length, refl, ◌∙◌, sym, ap, suc, subst, drop, ap₂, eqb, dec_lt, add-one}
 use Rattle.words.specs.Words.{zero-add, zero-mul, suc-mul, min}
 use Rattle.memory.specs.Part.{part, splice}
 use Rattle.memory.proofs.Parts.{length_part, length-splice, part-add, splice_next, row_fits}

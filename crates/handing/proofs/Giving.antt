@@ -2,8 +2,9 @@
 -- What the window knows: known_is, known-none, known_more, known_all, known-not, known_beyond.
 -- What has been read: Read, Whole, whole_is, spans.
 -- The answers: no_start, first_unknown, too_many, another_unknown, not-padded, stray, no_room, hands_out.
-use Rattle.words.specs.Words.{◌≡◌, arith, ℕ, ◌≤◌, ◌+◌, List, length, ◌<◌, refl, ◌∙◌, sym, ap, ◌-◌, some, ◌%◌, true, none, get_or, false, Bool, subst, Option}
-use Rattle.words.specs.Words.{drop, ◌≢◌, ap₂, leb, mod-lt, le-leb, ℕ_discrete, lt-leb, not-suc-le-zero, mod-add-mod}
+use Rattle.std.specs.Prelude.{◌≡◌, ◌≤◌, ◌+◌, ◌<◌, ◌-◌, ◌%◌, ◌≢◌}
+use Rattle.words.specs.Words.{arith, ℕ, List, length, refl, ◌∙◌, sym, ap, some, true, none, get_or, false, Bool, subst, Option}
+use Rattle.words.specs.Words.{drop, ap₂, leb, mod-lt, le-leb, ℕ_discrete, lt-leb, not-suc-le-zero, mod-add-mod}
 use Rattle.memory.specs.Part.{part, splice}
 use Rattle.memory.specs.Number.{number, Bytes}
 use Rattle.memory.proofs.Parts.{length_part, length-splice, past-splice}

@@ -1,6 +1,7 @@
 -- The bytes of the symbols from a position on, one after the other: where they lie in the memory, and that they are what the window knows.
-use Rattle.words.specs.Words.{◌≡◌, arith, ℕ, ◌≤◌, ◌+◌, List, length, ◌<◌, refl, ◌∙◌, sym, ap, ◌-◌, [], some, ◌%◌, ◌∷◌, suc, true, zero, none, ◌*◌, get_or, false}
-use Rattle.words.specs.Words.{◌++◌, Bool, Option, drop, take, ap₂, eqb, mod-lt, ◌↔◌, ◌&&◌, ℕ_discrete, add-zero, length-append, ne_eqb, not-suc-le-zero, eq-eqb}
+use Rattle.std.specs.Prelude.{◌≡◌, ◌≤◌, ◌+◌, ◌<◌, ◌-◌, ◌%◌, ◌∷◌, ◌*◌, ◌++◌, ◌↔◌, ◌&&◌}
+use Rattle.words.specs.Words.{arith, ℕ, List, length, refl, ◌∙◌, sym, ap, [], some, suc, true, zero, none, get_or, false}
+use Rattle.words.specs.Words.{Bool, Option, drop, take, ap₂, eqb, mod-lt, ℕ_discrete, add-zero, length-append, ne_eqb, not-suc-le-zero, eq-eqb}
 use Rattle.words.specs.Words.{true≢false, le_of_suc-le-suc, zero-mul, length-drop, eqb-true, suc-mul, take_all, get_or-append}
 use lib.Seq.{drop-append-add}
 use Rattle.memory.specs.Part.{part}

@@ -1,6 +1,7 @@
 -- Contracts of inner functions: a reader need not believe these.
 -- The symbols of the window where they stand in the memory, and the ADUI that the symbols from a position on make up.
-use Rattle.words.specs.Words.{◌≡◌, ℕ, ◌≤◌, ◌+◌, List, [], some, ◌%◌, suc, true, zero, none, false, ◌++◌, Bool}
+use Rattle.std.specs.Prelude.{◌≡◌, ◌≤◌, ◌+◌, ◌%◌, ◌++◌}
+use Rattle.words.specs.Words.{ℕ, List, [], some, suc, true, zero, none, false, Bool}
 use Rattle.memory.specs.Part.{part}
 use Rattle.wire.specs.Packets.{symbol_count}
 use Rattle.decoder.specs.Bytes.{Coded}

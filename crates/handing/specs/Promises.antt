@@ -1,6 +1,7 @@
 -- The contract of an inner function: a reader need not believe it.
 -- It holds for every system S that the memory holds for a window from b on, where `base` is the row of b.
-use Rattle.words.specs.Words.{◌≡◌, ℕ, List, length, ◌%◌, ◌≢◌}
+use Rattle.std.specs.Prelude.{◌≡◌, ◌%◌, ◌≢◌}
+use Rattle.words.specs.Words.{ℕ, List, length}
 use Rattle.wire.specs.declared.Refusal.{Refusal}
 use Rattle.wire.specs.Numbers.{number_of}
 use Rattle.wire.specs.Flows.{flows_in}

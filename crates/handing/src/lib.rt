@@ -1,7 +1,8 @@
 // Handing out an ADU: its symbols are looked up in the window, its padding and its flow are checked, and its bytes are copied from where the symbols stand.
 #![tactic(auto)]
 
-ghost use Rattle.words.specs.Words.{◌≡◌, ◌≤◌, ◌+◌, length, ◌<◌, drop};
+ghost use Rattle.std.specs.Prelude.{◌≡◌, ◌≤◌, ◌+◌, ◌<◌};
+ghost use Rattle.words.specs.Words.{length, drop};
 ghost use Rattle.memory.specs.Part.{part, splice};
 ghost use Rattle.table.specs.Window.{Fits};
 ghost use Rattle.starts.specs.Adu.{all_zero};

@@ -9,7 +9,8 @@
 --   Passes: what passes the checks before 11, of a packet that finds the base b
 --   judged: the model answers a call as the history asks, and follows the history after it
 --   fresh_tracks: a fresh receiver follows the empty history
-use Rattle.words.specs.Words.{◌≡◌, arith, ℕ, ◌≤◌, ◌+◌, List, ◌<◌, refl, ◌∙◌, sym, ap, ◌-◌, [], some, ◌∷◌, none, subst, Option, ◌↔◌, some-injective}
+use Rattle.std.specs.Prelude.{◌≡◌, ◌≤◌, ◌+◌, ◌<◌, ◌-◌, ◌∷◌, ◌↔◌}
+use Rattle.words.specs.Words.{arith, ℕ, List, refl, ◌∙◌, sym, ap, [], some, none, subst, Option, some-injective}
 use Rattle.words.specs.Words.{none-ne-some, map, max}
 use mathlib.Core.Logic.Iff
 use Rattle.wire.specs.declared.Setting.{Setting}

@@ -1,5 +1,6 @@
 -- Readings and answers told apart.
-use Rattle.words.specs.Words.{◌≡◌, ℕ, ap}
+use Rattle.std.specs.Prelude.{◌≡◌}
+use Rattle.words.specs.Words.{ℕ, ap}
 use Rattle.wire.specs.Answers.{Said, value, refusal}
 use Rattle.history.specs.History.{Located, Reading, fails, located}
 

@@ -5,7 +5,8 @@
 --   in_order: the checks, one after the other
 --   lent, well_formed, of-announced, few, near: what is left to check once some have passed
 --   checked, reading_checked
-use Rattle.words.specs.Words.{◌≡◌, arith, ℕ, ◌≤◌, ◌+◌, List, length, ◌<◌, refl, ◌∙◌, ◌-◌, true, ◌*◌, false, Bool, ◌^◌, leb, le-leb, lt-ltb, le-ltb, ◌&&◌}
+use Rattle.std.specs.Prelude.{◌≡◌, ◌≤◌, ◌+◌, ◌<◌, ◌-◌, ◌*◌, ◌^◌, ◌&&◌}
+use Rattle.words.specs.Words.{arith, ℕ, List, length, refl, ◌∙◌, true, false, Bool, leb, le-leb, lt-ltb, le-ltb}
 use Rattle.words.specs.Words.{leb-true, eqb-true, eq-eqb, length-take, mul-le-mul_right, suc-mul, dec_lt}
 use native.Mathlib.Nat.{mul-div_cancel}
 use Rattle.wire.specs.declared.Setting.{Setting}

@@ -1,5 +1,6 @@
 -- Counting from the front, as the model does, and from the end, as the history says it; a count has one value, and so has an answer.
-use Rattle.words.specs.Words.{◌≡◌, arith, ℕ, ◌+◌, refl, ◌∙◌, sym, ap, some, suc, zero, none, subst, Option, ◌↔◌}
+use Rattle.std.specs.Prelude.{◌≡◌, ◌+◌, ◌↔◌}
+use Rattle.words.specs.Words.{arith, ℕ, refl, ◌∙◌, sym, ap, some, suc, zero, none, subst, Option}
 use Rattle.wire.specs.declared.Setting.{Setting}
 use Rattle.decoder.specs.Model.{tail}
 use Rattle.decoder.specs.Receiver.{Accepted, is_new, count_new}

@@ -1,5 +1,6 @@
 -- Every number that a packet call is refused with is that of a refusal, and not 3; a packet that is accepted leaves the window reduced.
-use Rattle.words.specs.Words.{◌≡◌, arith, ℕ, ◌+◌, List, ◌<◌, refl, some, true, none, false, Bool, Option, ◌≢◌, leb}
+use Rattle.std.specs.Prelude.{◌≡◌, ◌+◌, ◌<◌, ◌≢◌}
+use Rattle.words.specs.Words.{arith, ℕ, List, refl, some, true, none, false, Bool, Option, leb}
 use Rattle.wire.specs.declared.Setting.{Setting}
 use Rattle.wire.specs.declared.Refusal.{Refusal}
 use Rattle.wire.specs.declared.Refusal.TheVariants.{Short, Long, Form, Range, Behind, Ahead, Draws, Contradiction, Unannounced}

@@ -1,6 +1,7 @@
 -- What the model says is heard is what the history says was brought.
-use Rattle.words.specs.Words.{◌≡◌, arith, ℕ, ◌≤◌, ◌+◌, length, ◌<◌, refl, ◌∙◌, sym, ap, ◌-◌, [], some, ◌∷◌, true, none, false, Bool, subst, Option, leb, ltb, ◌&&◌}
-use Rattle.words.specs.Words.{◌↔◌, ◌⊎◌, inl, inr, max, leb-true, ltb-true, le-leb, lt-ltb, some-injective}
+use Rattle.std.specs.Prelude.{◌≡◌, ◌≤◌, ◌+◌, ◌<◌, ◌-◌, ◌∷◌, ◌&&◌, ◌↔◌, ◌⊎◌}
+use Rattle.words.specs.Words.{arith, ℕ, length, refl, ◌∙◌, sym, ap, [], some, true, none, false, Bool, subst, Option, leb, ltb}
+use Rattle.words.specs.Words.{inl, inr, max, leb-true, ltb-true, le-leb, lt-ltb, some-injective}
 use mathlib.Core.Bool.{false≢true}
 use Rattle.starts.proofs.Tests.{or_true, and-true}
 use Rattle.wire.specs.declared.Setting.{Setting}

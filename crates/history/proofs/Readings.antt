@@ -10,8 +10,9 @@
 --   joins_at: a packet that finds no base begins at its own first ESI
 --   joins_near: neither 8 nor 9 can stop it
 --   reading_passes: what a call's packet has passed after a history
-use Rattle.words.specs.Words.{◌≡◌, arith, ℕ, ◌≤◌, ◌+◌, List, length, ◌<◌, refl, ◌∙◌, sym, ap, ◌-◌, [], some, ◌%◌, ◌∷◌, suc, true, zero, none, ◌*◌, false, ◌++◌}
-use Rattle.words.specs.Words.{Bool, subst, Option, drop, ◌^◌, ltb, leb, mod-lt, ◌&&◌, length-drop, leb-true, lit<, eqb-true, ltb-true, length-take, suc-mul}
+use Rattle.std.specs.Prelude.{◌≡◌, ◌≤◌, ◌+◌, ◌<◌, ◌-◌, ◌%◌, ◌∷◌, ◌*◌, ◌++◌, ◌^◌, ◌&&◌}
+use Rattle.words.specs.Words.{arith, ℕ, List, length, refl, ◌∙◌, sym, ap, [], some, suc, true, zero, none, false}
+use Rattle.words.specs.Words.{Bool, subst, Option, drop, ltb, leb, mod-lt, length-drop, leb-true, lit<, eqb-true, ltb-true, length-take, suc-mul}
 use Rattle.words.specs.Words.{get_or-drop}
 use lib.ListN.{length-map}
 use Rattle.memory.specs.Part.{part}

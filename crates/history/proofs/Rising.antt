@@ -1,5 +1,6 @@
 -- The base after a packet call is where the packet's bytes say.
-use Rattle.words.specs.Words.{◌≡◌, arith, ℕ, List, ◌+◌, ◌-◌, max, refl, sym, ap, ◌∙◌, some, none, Option}
+use Rattle.std.specs.Prelude.{◌≡◌, ◌+◌, ◌-◌}
+use Rattle.words.specs.Words.{arith, ℕ, List, max, refl, sym, ap, ◌∙◌, some, none, Option}
 use Rattle.wire.specs.declared.Setting.{Setting}
 use Rattle.wire.specs.Settings.{Valid}
 use Rattle.wire.specs.Packets.{symbol_count, source_adu}

@@ -4,7 +4,8 @@
 --   Wholes, bytes_symbol, symbol_tail, symbol_bytes, bytes_sized, bytes_whole, length_at, get_d_at
 --   AllBytes: symbols have E bytes
 --   Formed, head, rest, holds, says
-use Rattle.words.specs.Words.{◌≡◌, arith, ℕ, ◌+◌, List, length, ◌<◌, refl, ◌∙◌, sym, ap, [], ◌∷◌, suc, zero, get_or, ap₂, ◌↔◌, add-zero, map, dec_lt, bit_xor}
+use Rattle.std.specs.Prelude.{◌≡◌, ◌+◌, ◌<◌, ◌∷◌, ◌↔◌}
+use Rattle.words.specs.Words.{arith, ℕ, List, length, refl, ◌∙◌, sym, ap, [], suc, zero, get_or, ap₂, add-zero, map, dec_lt, bit_xor}
 use Rattle.words.specs.Words.{mod-eq_of_lt, zero-add, lit<, add-suc, take_all, suc-add, xor_lt, xor_comm}
 use mathlib.Core.Logic.Iff
 use lib.ListN.{get_or-eq_default}

@@ -1,5 +1,6 @@
 -- Where the ESI of the position base + d lies.
-use Rattle.words.specs.Words.{◌≡◌, arith, ℕ, ◌≤◌, ◌+◌, List, ◌<◌, refl, sym, ap, some, ◌%◌, true, false, Bool, subst, ◌^◌, cond, ltb, le-leb, lt-leb, lt-ltb}
+use Rattle.std.specs.Prelude.{◌≡◌, ◌≤◌, ◌+◌, ◌<◌, ◌%◌, ◌^◌}
+use Rattle.words.specs.Words.{arith, ℕ, List, refl, sym, ap, some, true, false, Bool, subst, cond, ltb, le-leb, lt-leb, lt-ltb}
 use Rattle.words.specs.Words.{le-ltb}
 use Rattle.words.specs.Words.{ltb-true}
 use Rattle.wire.specs.declared.Setting.{Setting}

@@ -11,8 +11,9 @@
 --   fresh_marks
 --   tracks_sees: a window that says what the packets say sees what is known
 --   marking_tracks: the marks after a call, whose packet begins at e, follow the history after it
-use Rattle.words.specs.Words.{◌≡◌, arith, ℕ, ◌≤◌, ◌+◌, List, length, ◌<◌, refl, ◌∙◌, sym, ap, ◌-◌, [], some, ◌∷◌, suc, true, none, subst, Option, ◌↔◌}
-use Rattle.words.specs.Words.{some-injective, none-ne-some, dec_lt, ◌⊎◌, inr, true≢false, inl, add-suc, add_assoc}
+use Rattle.std.specs.Prelude.{◌≡◌, ◌≤◌, ◌+◌, ◌<◌, ◌-◌, ◌∷◌, ◌↔◌, ◌⊎◌}
+use Rattle.words.specs.Words.{arith, ℕ, List, length, refl, ◌∙◌, sym, ap, [], some, suc, true, none, subst, Option}
+use Rattle.words.specs.Words.{some-injective, none-ne-some, dec_lt, inr, true≢false, inl, add-suc, add_assoc}
 use Rattle.wire.specs.declared.Setting.{Setting}
 use Rattle.memory.specs.Number.{Bytes}
 use Rattle.memory.proofs.Parts.{cons-eq}

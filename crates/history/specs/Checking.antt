@@ -1,6 +1,7 @@
 -- The checks of a packet call that stand before 11, in their order (document 01, "Why a call says no", and document 02, No. 7: 2, 5, 16, 4 or 6, 8, 9, 10),
 -- from the packet's bytes, the flows, the working memory lent and the base, in plain arithmetic: each gives its number where it is the first that fails.
-use Rattle.words.specs.Words.{◌≡◌, ℕ, ◌≤◌, ◌+◌, List, length, ◌<◌, ◌-◌, ◌%◌, true, ◌*◌, take, ◌^◌, ◌/◌}
+use Rattle.std.specs.Prelude.{◌≡◌, ◌≤◌, ◌+◌, ◌<◌, ◌-◌, ◌%◌, ◌*◌, ◌^◌, ◌/◌}
+use Rattle.words.specs.Words.{ℕ, List, length, true, take}
 use Rattle.wire.specs.declared.Setting.{Setting}
 use Rattle.wire.specs.Settings.{Valid}
 use Rattle.wire.specs.Flows.{Announced}

@@ -1,6 +1,7 @@
 -- Computed from the definitions, from the packets' bytes on: the sizes; the order of the checks, and their limits; every DT, and keys over 65,535; and where
 -- calls bring the base, the count, the marks and the origins in cases that are easy to take otherwise.
-use Rattle.words.specs.Words.{◌≡◌, [], ℕ, ◌+◌, List, refl, some, ◌∷◌, suc, true, zero, none, ◌*◌, false, ◌++◌, Bool, Option, cond, map, ◌&&◌}
+use Rattle.std.specs.Prelude.{◌≡◌, ◌+◌, ◌∷◌, ◌*◌, ◌++◌, ◌&&◌}
+use Rattle.words.specs.Words.{[], ℕ, List, refl, some, suc, true, zero, none, false, Bool, Option, cond, map}
 use Rattle.history.specs.Computing.{computing}
 use Rattle.wire.specs.declared.Scheme.TheVariants.{Gf2, Gf256}
 use Rattle.wire.specs.declared.Setting.{Setting}

@@ -1,7 +1,8 @@
 -- The receiver as a plain history (document 01, "Receiver, as a plain history", and document 02, No. 2 and 7): what a packet says where it lies, which
 -- packets a list of calls has accepted, where that has brought the base, and what the next call has to answer. No memory and no elimination stands here.
-use Rattle.words.specs.Words.{◌≡◌, ℕ, ◌≤◌, ◌+◌, List, length, ◌<◌, ◌-◌, [], some, ◌%◌, ◌∷◌, suc, true, zero, none, false, Bool, Option, ◌^◌, cond, ltb}
-use Rattle.words.specs.Words.{leb, ◌↔◌, ◌&&◌, map, ◌⊎◌, max}
+use Rattle.std.specs.Prelude.{◌≡◌, ◌≤◌, ◌+◌, ◌<◌, ◌-◌, ◌%◌, ◌∷◌, ◌^◌, ◌↔◌, ◌&&◌, ◌⊎◌}
+use Rattle.words.specs.Words.{ℕ, List, length, [], some, suc, true, zero, none, false, Bool, Option, cond, ltb}
+use Rattle.words.specs.Words.{leb, map, max}
 use Rattle.memory.specs.Number.{Bytes}
 use Rattle.wire.specs.declared.Setting.{Setting}
 use Rattle.wire.specs.Numbers.{within, distance_of}

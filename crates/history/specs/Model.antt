@@ -1,6 +1,7 @@
 -- The receiver that computes: the window's equations in reduced row echelon form (crate `decoder`) in place of the whole history.
 -- The promises give answers and states by it. That these are the history's is proved (proofs/Answers): a reader of the claims need not believe it.
-use Rattle.words.specs.Words.{ℕ, ◌+◌, List, length, ◌-◌, [], some, ◌∷◌, none, get_or, false, Bool, Option, cond, ltb, leb, ◌&&◌, ◌||◌}
+use Rattle.std.specs.Prelude.{◌+◌, ◌-◌, ◌∷◌, ◌&&◌, ◌||◌}
+use Rattle.words.specs.Words.{ℕ, List, length, [], some, none, get_or, false, Bool, Option, cond, ltb, leb}
 use Rattle.wire.specs.declared.Setting.{Setting}
 use Rattle.decoder.specs.Bytes.{byte, Coded}
 use Rattle.decoder.specs.Model.{known}

@@ -1,5 +1,6 @@
 -- Which positions the accepted packets have brought, from these packets alone (document 02, No. 6).
-use Rattle.words.specs.Words.{ℕ, ◌≤◌, ◌+◌, length, ◌<◌, [], ◌∷◌, ◌⊎◌}
+use Rattle.std.specs.Prelude.{◌≤◌, ◌+◌, ◌<◌, ◌∷◌, ◌⊎◌}
+use Rattle.words.specs.Words.{ℕ, length, []}
 use Rattle.history.specs.History.{Located, source, repair, Log}
 
 -- A source packet brings the positions of its symbols; a repair packet brings none.

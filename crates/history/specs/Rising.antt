@@ -1,6 +1,7 @@
 -- Where the base is after a packet call, from the packet's bytes alone (document 01, "Receiver, as a plain history"; document 02, No. 2): the first packet
 -- accepted sets it to its own first ESI; after that it rises, by the least needed, until an accepted packet's last position fits, whatever the packet says.
-use Rattle.words.specs.Words.{◌≡◌, ℕ, List, ◌≤◌, ◌+◌, ◌-◌, some, none, Option, max}
+use Rattle.std.specs.Prelude.{◌≡◌, ◌≤◌, ◌+◌, ◌-◌}
+use Rattle.words.specs.Words.{ℕ, List, some, none, Option, max}
 use Rattle.wire.specs.declared.Setting.{Setting}
 use Rattle.wire.specs.Settings.{Valid}
 use Rattle.wire.specs.Answers.{Said, refusal}

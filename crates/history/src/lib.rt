@@ -1,3 +1,2 @@
 // The receiver as a plain history, the model that computes it, and that they agree; no code.
 #![tactic(auto)]
-

@@ -1,8 +1,9 @@
 -- A memory that holds a given state: rows spelled byte by byte.
 -- Laws:
 --   a memory for every state: Built, built; the rest lays its rows and header
-use Rattle.words.specs.Words.{◌≡◌, arith, ℕ, ◌≤◌, ◌+◌, List, length, ◌<◌, refl, ◌∙◌, sym, ap, ◌-◌, [], some, ◌%◌, ◌∷◌, suc, true, zero, ◌*◌, get_or, false, ◌++◌, Bool}
-use Rattle.words.specs.Words.{subst, drop, ◌≢◌, ◌^◌, ap₂, ltb, mod-lt, ◌↔◌, ℕ_discrete, add-zero, length-append, mod-eq_of_lt, mod-add-mod, zero-add}
+use Rattle.std.specs.Prelude.{◌≡◌, ◌≤◌, ◌+◌, ◌<◌, ◌-◌, ◌%◌, ◌∷◌, ◌*◌, ◌++◌, ◌≢◌, ◌^◌, ◌↔◌}
+use Rattle.words.specs.Words.{arith, ℕ, List, length, refl, ◌∙◌, sym, ap, [], some, suc, true, zero, get_or, false, Bool}
+use Rattle.words.specs.Words.{subst, drop, ap₂, ltb, mod-lt, ℕ_discrete, add-zero, length-append, mod-eq_of_lt, mod-add-mod, zero-add}
 use Rattle.words.specs.Words.{true≢false, append_assoc, lit<, add-suc, get_or-append, suc-add, drop-drop, take_at, get_or-drop, cond}
 use native.Mathlib.Nat.{mod-eq-sub-mod}
 use lib.Seq.{drop_at, get_or-append-add}

@@ -5,8 +5,9 @@
 --   calls: Alike, answering_alike
 --   marks: marking_alike
 --   origins: AgreeFrom, base_after, origins_alike
-use Rattle.words.specs.Words.{◌≡◌, arith, ℕ, ◌≤◌, ◌+◌, List, length, ◌<◌, refl, ◌∙◌, sym, ap, ◌-◌, some, ◌%◌, suc, true, zero, none, get_or, false, Bool, subst}
-use Rattle.words.specs.Words.{Option, ◌^◌, ap₂, leb, some-injective, map, mod-add-mod, true≢false, ltb, le-leb, lt-leb, lt-ltb, le-ltb, dec_lt, ◌&&◌, ◌||◌}
+use Rattle.std.specs.Prelude.{◌≡◌, ◌≤◌, ◌+◌, ◌<◌, ◌-◌, ◌%◌, ◌^◌, ◌&&◌, ◌||◌}
+use Rattle.words.specs.Words.{arith, ℕ, List, length, refl, ◌∙◌, sym, ap, some, suc, true, zero, none, get_or, false, Bool, subst}
+use Rattle.words.specs.Words.{Option, ap₂, leb, some-injective, map, mod-add-mod, true≢false, ltb, le-leb, lt-leb, lt-ltb, le-ltb, dec_lt}
 use native.Mathlib.Decide.{dec_le}
 use Rattle.wire.specs.declared.Setting.{Setting}
 use Rattle.wire.specs.Packets.{source_symbols, source_adu, source_esi, protected_count, first_esi, repair_symbols}

@@ -1,5 +1,6 @@
 -- From what the code reads in the memory to what is found in it.
-use Rattle.words.specs.Words.{◌≡◌, arith, ℕ, ◌≤◌, ◌+◌, List, length, refl, ◌∙◌, sym, ap, some, ◌%◌, true, none, false, Bool, subst, Option, ◌^◌}
+use Rattle.std.specs.Prelude.{◌≡◌, ◌≤◌, ◌+◌, ◌%◌, ◌^◌}
+use Rattle.words.specs.Words.{arith, ℕ, List, length, refl, ◌∙◌, sym, ap, some, true, none, false, Bool, subst, Option}
 use Rattle.words.specs.Words.{some-injective, none-ne-some, lt-ltb, mod-add-mod}
 use Rattle.memory.specs.Part.{part}
 use Rattle.memory.specs.Number.{Bytes}

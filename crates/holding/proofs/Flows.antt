@@ -1,5 +1,6 @@
 -- The flows that a memory keeps: what is stored there leaves the state, and what is stored elsewhere leaves them.
-use Rattle.words.specs.Words.{◌≡◌, arith, ℕ, ◌≤◌, ◌+◌, List, length, ◌<◌, refl, ◌∙◌, sym, ap, some, none, Option, get_or, subst, ext_get_or}
+use Rattle.std.specs.Prelude.{◌≡◌, ◌≤◌, ◌+◌, ◌<◌}
+use Rattle.words.specs.Words.{arith, ℕ, List, length, refl, ◌∙◌, sym, ap, some, none, Option, get_or, subst, ext_get_or}
 use Rattle.memory.specs.Part.{part, splice}
 use Rattle.memory.proofs.Parts.{length_part, length-splice, take-splice, part-before, part-splice, get_or-part}
 use Rattle.wire.specs.declared.Setting.{Setting}

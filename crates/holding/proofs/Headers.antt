@@ -5,8 +5,9 @@
 --     header_fits
 --   a held state: header_held, setting-of, setting_held, of-header, of-joined
 --   refusal 3: zeros_unopened, other_unopened, short_unopened
-use Rattle.words.specs.Words.{◌≡◌, arith, ℕ, ◌≤◌, ◌+◌, List, length, ◌<◌, refl, ◌∙◌, sym, ap, ◌-◌, some, ◌%◌, true, none, ◌*◌, false, Bool, subst, Option, ◌^◌}
-use Rattle.words.specs.Words.{take, cond, ltb, leb, le-leb, ◌&&◌, some-injective, none-ne-some, lt-leb, lt-ltb, true≢false, leb-true, length-take}
+use Rattle.std.specs.Prelude.{◌≡◌, ◌≤◌, ◌+◌, ◌<◌, ◌-◌, ◌%◌, ◌*◌, ◌^◌, ◌&&◌}
+use Rattle.words.specs.Words.{arith, ℕ, List, length, refl, ◌∙◌, sym, ap, some, true, none, false, Bool, subst, Option}
+use Rattle.words.specs.Words.{take, cond, ltb, leb, le-leb, some-injective, none-ne-some, lt-leb, lt-ltb, true≢false, leb-true, length-take}
 use Rattle.words.specs.Words.{mul-le-mul}
 use lib.Seq.{take-take}
 use Rattle.memory.specs.Part.{part}

@@ -4,7 +4,8 @@
 --   stand by the tests: stands_unopened, stands_fresh, stands_behind, stands_past, stands_inside
 --   in the window: InWindow, Stood, stood, Looks, looks
 --   outside it: Hidden, side_held, hidden
-use Rattle.words.specs.Words.{◌≡◌, arith, ℕ, ◌≤◌, ◌+◌, List, length, ◌<◌, refl, ◌∙◌, sym, ap, some, ◌%◌, true, none, false, Bool, subst, Option, ◌≢◌, ◌^◌, cond, ltb}
+use Rattle.std.specs.Prelude.{◌≡◌, ◌≤◌, ◌+◌, ◌<◌, ◌%◌, ◌≢◌, ◌^◌}
+use Rattle.words.specs.Words.{arith, ℕ, List, length, refl, ◌∙◌, sym, ap, some, true, none, false, Bool, subst, Option, cond, ltb}
 use Rattle.words.specs.Words.{none-ne-some, lt-ltb, mod-eq_of_lt, true≢false, le-ltb, ltb-true, ltb-false}
 use Rattle.wire.specs.declared.Setting.{Setting}
 use Rattle.wire.specs.declared.Refusal.{Refusal}

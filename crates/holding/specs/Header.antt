@@ -1,5 +1,6 @@
 -- The header at the front of a receiver's memory, and the test that refusal 3 stands for.
-use Rattle.words.specs.Words.{ℕ, List, length, ◌-◌, some, none, Option, cond, ltb, leb, ◌&&◌}
+use Rattle.std.specs.Prelude.{◌-◌, ◌&&◌}
+use Rattle.words.specs.Words.{ℕ, List, length, some, none, Option, cond, ltb, leb}
 use Rattle.memory.specs.Part.{part}
 use Rattle.memory.specs.Number.{number}
 use Rattle.wire.specs.declared.Setting.{Setting}

@@ -1,5 +1,6 @@
 -- Contracts of inner functions: a reader need not believe these.
-use Rattle.words.specs.Words.{◌≡◌, ℕ, ◌≤◌, ◌+◌, List, length, ◌-◌, some, ◌%◌, none, Option, ◌≢◌, cond, ltb}
+use Rattle.std.specs.Prelude.{◌≡◌, ◌≤◌, ◌+◌, ◌-◌, ◌%◌, ◌≢◌}
+use Rattle.words.specs.Words.{ℕ, List, length, some, none, Option, cond, ltb}
 use Rattle.memory.specs.Part.{part, splice}
 use Rattle.wire.specs.declared.Setting.{Setting}
 use Rattle.wire.specs.Numbers.{number_of}

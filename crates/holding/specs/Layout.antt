@@ -1,7 +1,8 @@
 -- How the receiver's memory holds a state: a header of 96 bytes, which keeps the flows, then the window's rows (crate `table`), then a byte for each row
 -- (crate `origins`).
 -- The claims hold of every layout: a reader of them need not believe this one.
-use Rattle.words.specs.Words.{◌≡◌, ℕ, ◌+◌, List, some, ◌%◌, true, none, false, ◌^◌}
+use Rattle.std.specs.Prelude.{◌≡◌, ◌+◌, ◌%◌, ◌^◌}
+use Rattle.words.specs.Words.{ℕ, List, some, true, none, false}
 use Rattle.wire.specs.declared.Setting.{Setting}
 use Rattle.wire.specs.Flows.{flows_in}
 use Rattle.decoder.specs.Bytes.{Coded}

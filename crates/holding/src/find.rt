@@ -1,5 +1,5 @@
 // Where the position and the symbol with an ESI stand.
-ghost use Rattle.words.specs.Words.{◌≡◌};
+ghost use Rattle.std.specs.Prelude.{◌≡◌};
 ghost use Rattle.history.specs.History.{side_of};
 ghost use Rattle.holding.specs.Header.{header_in};
 ghost use Rattle.holding.specs.Inner.{side_found, stand_of, Spotted};

@@ -1,5 +1,6 @@
 // The header at the front of a receiver's memory.
-ghost use Rattle.words.specs.Words.{◌≡◌, ◌≤◌, length};
+ghost use Rattle.std.specs.Prelude.{◌≡◌, ◌≤◌};
+ghost use Rattle.words.specs.Words.{length};
 ghost use Rattle.wire.specs.Settings.{Valid};
 ghost use Rattle.history.specs.History.{memory_size, working_size};
 ghost use Rattle.holding.specs.Header.{header_in};

@@ -4,7 +4,7 @@
 pub mod find;
 pub mod front;
 
-ghost use Rattle.words.specs.Words.{◌≡◌};
+ghost use Rattle.std.specs.Prelude.{◌≡◌};
 ghost use Rattle.holding.specs.Inner.{shape_of};
 
 use table::Shape;

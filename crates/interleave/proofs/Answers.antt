@@ -1,5 +1,6 @@
 -- The answer: by which tests it is which, and what one that is a number of bytes says of the grid.
-use Rattle.words.specs.Words.{◌≡◌, arith, ℕ, ◌≤◌, ◌<◌, refl, ◌∙◌, sym, true, ◌*◌, false, Bool, dec_lt, eqb, mul-le-mul, eqb-true, eq-eqb, lt-ltb, le-ltb}
+use Rattle.std.specs.Prelude.{◌≡◌, ◌≤◌, ◌<◌, ◌*◌}
+use Rattle.words.specs.Words.{arith, ℕ, refl, ◌∙◌, sym, true, false, Bool, dec_lt, eqb, mul-le-mul, eqb-true, eq-eqb, lt-ltb, le-ltb}
 use Rattle.words.specs.Words.{true≢false, List, length}
 use native.Mathlib.Nat.{mul_comm}
 use Rattle.wire.specs.Numbers.{within}

@@ -1,5 +1,6 @@
 -- The claims: what is promised is that each symbol goes to its place, and what can be concluded from that.
-use Rattle.words.specs.Words.{◌≡◌, arith, ℕ, ◌≤◌, ◌+◌, List, length, ◌<◌, refl, ◌∙◌, sym, ap, ◌*◌, take, length-take-le, take-append-drop, zero-add, ap₂}
+use Rattle.std.specs.Prelude.{◌≡◌, ◌≤◌, ◌+◌, ◌<◌, ◌*◌}
+use Rattle.words.specs.Words.{arith, ℕ, List, length, refl, ◌∙◌, sym, ap, take, length-take-le, take-append-drop, zero-add, ap₂}
 use Rattle.memory.specs.Part.{part, splice}
 use Rattle.memory.proofs.Parts.{length-splice, past-splice, part-within, part-part, whole, row_fits}
 use Rattle.wire.specs.declared.Answer.{Answer}

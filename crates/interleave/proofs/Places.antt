@@ -1,5 +1,6 @@
 -- Places of a grid: every place is that of one row and one column, in the order taken and in send order.
-use Rattle.words.specs.Words.{◌≡◌, arith, ℕ, ◌≤◌, ◌+◌, ◌<◌, ◌%◌, suc, zero, ◌*◌, ◌/◌, mod-lt, add-zero, mod-eq_of_lt, dec_lt, ℕ_discrete, ◌⊎◌, inl, inr}
+use Rattle.std.specs.Prelude.{◌≡◌, ◌≤◌, ◌+◌, ◌<◌, ◌%◌, ◌*◌, ◌/◌, ◌⊎◌}
+use Rattle.words.specs.Words.{arith, ℕ, suc, zero, mod-lt, add-zero, mod-eq_of_lt, dec_lt, ℕ_discrete, inl, inr}
 use native.Mathlib.Nat.{mul-add-div_right, mul-add-mod_self_right, div-eq_of_lt, div-add-mod', div-lt_iff_lt-mul, mul_comm}
 use Rattle.memory.proofs.Parts.{row_fits}
 use Rattle.interleave.specs.Places.{taken_at, sent_at}

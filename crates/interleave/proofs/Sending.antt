@@ -1,5 +1,6 @@
 -- A turn of the loop that sends a grid: at place p, the symbol in a row and a column.
-use Rattle.words.specs.Words.{◌≡◌, arith, ℕ, ◌≤◌, ◌+◌, List, length, ◌<◌, refl, ◌∙◌, ◌%◌, ◌*◌, ◌/◌, add-one, suc-mul}
+use Rattle.std.specs.Prelude.{◌≡◌, ◌≤◌, ◌+◌, ◌<◌, ◌%◌, ◌*◌, ◌/◌}
+use Rattle.words.specs.Words.{arith, ℕ, List, length, refl, ◌∙◌, add-one, suc-mul}
 use Rattle.memory.specs.Part.{part, splice}
 use Rattle.memory.proofs.Parts.{row_fits, length-splice, length_part}
 use Rattle.interleave.specs.Places.{taken_at, sent_at}

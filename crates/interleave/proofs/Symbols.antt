@@ -1,5 +1,6 @@
 -- Symbols that are picked out of a memory, one after the other: their length, each of them, one more, and that they are all.
-use Rattle.words.specs.Words.{◌≡◌, arith, ℕ, ◌≤◌, ◌+◌, List, length, ◌<◌, sym, suc, zero, ◌*◌, dec_lt, zero-mul, suc-mul, zero-add, add-one, length-append}
+use Rattle.std.specs.Prelude.{◌≡◌, ◌≤◌, ◌+◌, ◌<◌, ◌*◌}
+use Rattle.words.specs.Words.{arith, ℕ, List, length, sym, suc, zero, dec_lt, zero-mul, suc-mul, zero-add, add-one, length-append}
 use Rattle.words.specs.Words.{drop, length-drop, take_all}
 use lib.Seq.{take-append-le, drop-append-le, drop-append_seam}
 use Rattle.memory.specs.Part.{part, splice}

@@ -1,6 +1,7 @@
 -- What is claimed of the two calls, over all E, D and L (document 02, No. 8). `src` is the input, `out` the output
 -- before the call and `out'` after it, and `a` the answer.
-use Rattle.words.specs.Words.{◌≡◌, ℕ, ◌≤◌, ◌+◌, List, length, ◌<◌, ◌*◌, take, ◌↔◌, ◌⊎◌}
+use Rattle.std.specs.Prelude.{◌≡◌, ◌≤◌, ◌+◌, ◌<◌, ◌*◌, ◌↔◌, ◌⊎◌}
+use Rattle.words.specs.Words.{ℕ, List, length, take}
 use Rattle.memory.specs.Part.{part}
 use Rattle.memory.specs.Contained.{Contained}
 use Rattle.wire.specs.declared.Answer.{Answer}

@@ -1,6 +1,7 @@
 -- Computed from the definitions: a grid of 2 rows by 3 columns of 4 bytes, and back; one row, one column; the answers at their limits, and their order;
 -- output past the grid.
-use Rattle.words.specs.Words.{◌≡◌, ℕ, List, refl, [], ◌∷◌, ◌++◌}
+use Rattle.std.specs.Prelude.{◌≡◌, ◌∷◌, ◌++◌}
+use Rattle.words.specs.Words.{ℕ, List, refl, []}
 use Rattle.memory.specs.Part.{part, splice}
 use Rattle.wire.specs.Answers.{value, refusal}
 use Rattle.interleave.specs.Grid.{symbols_from, interleaved, deinterleaved, answer_to, output_after}

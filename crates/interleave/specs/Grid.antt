@@ -1,5 +1,6 @@
 -- A grid of D rows by L columns of symbols of E bytes as the two calls write it, and what they answer, outright.
-use Rattle.words.specs.Words.{ℕ, List, [], ◌%◌, suc, zero, ◌*◌, ◌++◌, Bool, cond, ◌/◌, ◌&&◌, ltb, eqb}
+use Rattle.std.specs.Prelude.{◌%◌, ◌*◌, ◌++◌, ◌/◌, ◌&&◌}
+use Rattle.words.specs.Words.{ℕ, List, [], suc, zero, Bool, cond, ltb, eqb}
 use Rattle.memory.specs.Part.{part, splice}
 use Rattle.wire.specs.Numbers.{within}
 use Rattle.wire.specs.Answers.{Said, value, refusal}

@@ -1,5 +1,6 @@
 -- The contracts of inner functions; they need not be believed.
-use Rattle.words.specs.Words.{◌≡◌, ℕ, ◌≤◌, ◌*◌}
+use Rattle.std.specs.Prelude.{◌≡◌, ◌≤◌, ◌*◌}
+use Rattle.words.specs.Words.{ℕ}
 use Rattle.wire.specs.declared.Answer.{Answer}
 use Rattle.wire.specs.declared.Answer.TheVariants.{Done, Refused}
 

@@ -1,6 +1,7 @@
 -- What the two calls promise, outright. `src` is the input, `out` the output before the call and `out'` after it, and
 -- `a` the answer.
-use Rattle.words.specs.Words.{◌≡◌, ℕ, List, length}
+use Rattle.std.specs.Prelude.{◌≡◌}
+use Rattle.words.specs.Words.{ℕ, List, length}
 use Rattle.wire.specs.declared.Answer.{Answer}
 use Rattle.wire.specs.Answers.{said}
 use Rattle.interleave.specs.Grid.{interleaved, deinterleaved, answer_to, output_after}

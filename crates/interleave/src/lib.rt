@@ -1,7 +1,8 @@
 // Send order against bursts (document 02, No. 8): a grid of symbols, taken row by row and sent column by column; and back.
 #![tactic(auto)]
 
-ghost use Rattle.words.specs.Words.{◌≡◌, length};
+ghost use Rattle.std.specs.Prelude.{◌≡◌};
+ghost use Rattle.words.specs.Words.{length};
 ghost use Rattle.memory.specs.Part.{splice};
 ghost use Rattle.wire.specs.Answers.{said};
 ghost use Rattle.interleave.specs.Grid.{interleaved, answer_to, output_after};

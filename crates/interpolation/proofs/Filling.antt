@@ -1,5 +1,6 @@
 -- A list of coefficients that is filled one after the other.
-use Rattle.words.specs.Words.{◌≡◌, sym, ap, ◌∙◌, List, ℕ, ◌+◌, ◌≤◌, ◌<◌, arith, ℕ_discrete, length, get_or, set, replicate, length-replicate, length-set}
+use Rattle.std.specs.Prelude.{◌≡◌, ◌+◌, ◌≤◌, ◌<◌}
+use Rattle.words.specs.Words.{sym, ap, ◌∙◌, List, ℕ, arith, ℕ_discrete, length, get_or, set, replicate, length-replicate, length-set}
 use Rattle.words.specs.Words.{ext_get_or}
 use lib.ListN.{get_or-replicate}
 use lib.Seq.{get_or-set_same, get_or-set_other}

@@ -1,5 +1,6 @@
 -- The coefficient of one source symbol from that of the one before it: since each point is twice the one before, all but a few factors cancel.
-use Rattle.words.specs.Words.{◌≡◌, refl, sym, ap, ap₂, ◌∙◌, ◌≢◌, ℕ, zero, suc, ◌+◌, ◌-◌, ◌≤◌, ◌<◌, arith, not-suc-le-zero, ℕ_discrete, add-one, bit_xor, xor_lt}
+use Rattle.std.specs.Prelude.{◌≡◌, ◌≢◌, ◌+◌, ◌-◌, ◌≤◌, ◌<◌}
+use Rattle.words.specs.Words.{refl, sym, ap, ap₂, ◌∙◌, ℕ, zero, suc, arith, not-suc-le-zero, ℕ_discrete, add-one, bit_xor, xor_lt}
 use Rattle.field.specs.Gf256.{product}
 use Rattle.field.specs.Powers.{inverse, power}
 use Rattle.field.proofs.Laws.{product_lt, product_comm, product_assoc, product-sum_right, product-one, product-zero, product-inverse, power-lt, power-sum}

@@ -1,5 +1,6 @@
 -- The field as interpolation needs it: sums and products that are zero, and the powers of 2 as 255 different points.
-use Rattle.words.specs.Words.{◌≡◌, refl, sym, ap, ◌∙◌, ◌≢◌, Bool, ℕ, ◌-◌, ◌≤◌, ◌<◌, arith, bit_xor, xor_zero_r, eqb, length, get_or}
+use Rattle.std.specs.Prelude.{◌≡◌, ◌≢◌, ◌-◌, ◌≤◌, ◌<◌}
+use Rattle.words.specs.Words.{refl, sym, ap, ◌∙◌, Bool, ℕ, arith, bit_xor, xor_zero_r, eqb, length, get_or}
 use lib.Bits.{xor_self}
 use lib.Dec.{T, eqb→eq}
 use Rattle.field.specs.Gf256.{product}

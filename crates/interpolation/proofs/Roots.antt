@@ -1,5 +1,6 @@
 -- A polynomial of degree under n with n different roots is zero, so two that agree at n points are the same.
-use Rattle.words.specs.Words.{◌≡◌, refl, sym, ap, ap₂, ◌∙◌, ◌≢◌, List, [], ◌∷◌, ℕ, zero, suc, ◌≤◌, ◌<◌, arith, not-suc-le-zero, bit_xor, xor_zero_r, xor_lt}
+use Rattle.std.specs.Prelude.{◌≡◌, ◌≢◌, ◌∷◌, ◌≤◌, ◌<◌}
+use Rattle.words.specs.Words.{refl, sym, ap, ap₂, ◌∙◌, List, [], ℕ, zero, suc, arith, not-suc-le-zero, bit_xor, xor_zero_r, xor_lt}
 use Rattle.words.specs.Words.{xor_comm, length, get_or, ext_get_or}
 use lib.Bits.{xor_self}
 use Rattle.field.specs.Gf256.{product}

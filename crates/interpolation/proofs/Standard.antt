@@ -1,5 +1,6 @@
 -- The code is the standard's, any k of its symbols tell the block, and fewer tell nothing of another.
-use Rattle.words.specs.Words.{◌≡◌, refl, sym, ap, ◌∙◌, ◌≢◌, List, [], ◌∷◌, ℕ, zero, suc, ◌≤◌, ◌<◌, arith, not-suc-le-zero, bit_xor, xor_lt, length, get_or}
+use Rattle.std.specs.Prelude.{◌≡◌, ◌≢◌, ◌∷◌, ◌≤◌, ◌<◌}
+use Rattle.words.specs.Words.{refl, sym, ap, ◌∙◌, List, [], ℕ, zero, suc, arith, not-suc-le-zero, bit_xor, xor_lt, length, get_or}
 use lib.Bits.{xor_self}
 use Rattle.field.specs.Gf256.{product}
 use Rattle.field.specs.Powers.{power}

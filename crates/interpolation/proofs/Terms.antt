@@ -1,5 +1,6 @@
 -- Lagrange's formula: the terms are polynomials, and their sum is one that has given values at given points.
-use Rattle.words.specs.Words.{◌≡◌, refl, sym, ap, ap₂, ◌∙◌, ◌≢◌, Bool, true, false, List, [], ◌∷◌, ℕ, zero, suc, ◌≤◌, ◌<◌, arith, not-suc-le-zero, ℕ_discrete}
+use Rattle.std.specs.Prelude.{◌≡◌, ◌≢◌, ◌∷◌, ◌≤◌, ◌<◌}
+use Rattle.words.specs.Words.{refl, sym, ap, ap₂, ◌∙◌, Bool, true, false, List, [], ℕ, zero, suc, arith, not-suc-le-zero, ℕ_discrete}
 use Rattle.words.specs.Words.{bit_xor, xor_zero_r, xor_lt, xor_comm, eqb, length, eqb-true, eqb-false}
 use lib.Bits.{xor_self}
 use Rattle.field.specs.Gf256.{product}

@@ -1,5 +1,6 @@
 -- What is proved of the code (proofs/Standard): it is that of RFC 5510, and any k of its symbols tell the block, while fewer tell nothing of another.
-use Rattle.words.specs.Words.{◌≡◌, ◌≢◌, List, ℕ, ◌≤◌, ◌<◌, length, get_or}
+use Rattle.std.specs.Prelude.{◌≡◌, ◌≢◌, ◌≤◌, ◌<◌}
+use Rattle.words.specs.Words.{List, ℕ, length, get_or}
 use Rattle.field.specs.Powers.{power}
 use Rattle.interpolation.specs.Polynomial.{value, Through}
 use Rattle.interpolation.specs.Lagrange.{lagrange, encoded}

@@ -1,6 +1,7 @@
 -- Computed from the definitions: the coefficients of source and repair symbols in blocks of one to five source symbols, and all symbols of a block.
 -- A computation by Vandermonde's matrices, as RFC 5510 has it, gives the same.
-use Rattle.words.specs.Words.{◌≡◌, refl, [], ◌∷◌, map, get_or}
+use Rattle.std.specs.Prelude.{◌≡◌, ◌∷◌}
+use Rattle.words.specs.Words.{refl, [], map, get_or}
 use Rattle.field.specs.Gf256.{product}
 use Rattle.field.specs.Powers.{power, inverse, inverse_below}
 use Rattle.interpolation.specs.Lagrange.{lagranges, lagrange, encoded}

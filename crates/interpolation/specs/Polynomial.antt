@@ -1,5 +1,6 @@
 -- Polynomials over GF(2^8) as lists of their coefficients, that of degree 0 first.
-use Rattle.words.specs.Words.{◌≡◌, List, [], ◌∷◌, ℕ, ◌<◌, bit_xor, length}
+use Rattle.std.specs.Prelude.{◌≡◌, ◌∷◌, ◌<◌}
+use Rattle.words.specs.Words.{List, [], ℕ, bit_xor, length}
 use Rattle.field.specs.Gf256.{product}
 use Rattle.field.specs.Powers.{power}
 use Rattle.memory.specs.Number.{Bytes}

@@ -1,7 +1,8 @@
 // The Reed-Solomon code of RFC 5510 over GF(2^8): the coefficients of a symbol of a block.
 #![tactic(auto)]
 
-ghost use Rattle.words.specs.Words.{◌≡◌, ◌+◌, ◌≤◌, ◌<◌, bit_xor, length};
+ghost use Rattle.std.specs.Prelude.{◌≡◌, ◌+◌, ◌≤◌, ◌<◌};
+ghost use Rattle.words.specs.Words.{bit_xor, length};
 ghost use Rattle.field.specs.Powers.{power};
 ghost use Rattle.field.specs.Tables.{power_table, logarithm_table};
 ghost use Rattle.memory.specs.Part.{splice};

@@ -1,5 +1,6 @@
 -- The definition's answer is that of the division.
-use Rattle.words.specs.Words.{◌≡◌, arith, ℕ, ◌≤◌, ◌<◌, refl, ◌∙◌, sym, ap, ◌%◌, true, ◌*◌, false, Bool, mod-lt, ◌/◌, ◌↔◌, add-zero, mod-eq_of_lt, true≢false}
+use Rattle.std.specs.Prelude.{◌≡◌, ◌≤◌, ◌<◌, ◌%◌, ◌*◌, ◌/◌, ◌↔◌}
+use Rattle.words.specs.Words.{arith, ℕ, refl, ◌∙◌, sym, ap, true, false, Bool, mod-lt, add-zero, mod-eq_of_lt, true≢false}
 use Rattle.words.specs.Words.{mul-le-mul}
 use native.Mathlib.Nat.{mul-le-mul_left, mul-add-div_right, mul-add-mod_self_right, div-add-mod', div-eq_of_lt, le-div_iff_mul-le}
 use Rattle.wire.specs.Numbers.{within}

@@ -1,6 +1,7 @@
 -- Computed from the definition: the example of document 02; quotients from 0 to the largest, with remainders up to one less than the divisor; and each
 -- value just outside its limits.
-use Rattle.words.specs.Words.{◌≡◌, refl, [], ◌∷◌}
+use Rattle.std.specs.Prelude.{◌≡◌, ◌∷◌}
+use Rattle.words.specs.Words.{refl, []}
 use Rattle.latency.specs.Window.{divided, refused, window_of}
 
 pub example : window_of 100001 33600000 1400 ≡ divided 300 33600000

@@ -1,5 +1,6 @@
 -- The contract of an inner function; it need not be believed.
-use Rattle.words.specs.Words.{ℕ, ◌≤◌}
+use Rattle.std.specs.Prelude.{◌≤◌}
+use Rattle.words.specs.Words.{ℕ}
 use Rattle.latency.specs.Window.{dividend}
 
 -- what the division asks: a product of at most 64 bits, and E within its limits

@@ -1,5 +1,6 @@
 -- What the call promises: its answer outright, and that this is the answer of the division.
-use Rattle.words.specs.Words.{◌≡◌, ℕ, ◌≤◌, ◌+◌, ◌<◌, true, ◌*◌, ◌↔◌}
+use Rattle.std.specs.Prelude.{◌≡◌, ◌≤◌, ◌+◌, ◌<◌, ◌*◌, ◌↔◌}
+use Rattle.words.specs.Words.{ℕ, true}
 use Rattle.latency.specs.declared.WindowAnswer.{WindowAnswer}
 use Rattle.latency.specs.declared.WindowAnswer.TheVariants.{Divided}
 use Rattle.latency.specs.Window.{dividend, divisor, allowed, window_in, window_of}

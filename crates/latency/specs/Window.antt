@@ -1,6 +1,7 @@
 -- The largest size of the decoding window (RFC 8681, appendix C.1): dw_max_size = (max_lat * br_in) / (8 * E), with the latency budget max_lat in seconds and
 -- the input bitrate br_in in bits per second. Here the budget is in microseconds (document 02, No. 3), so dividend and divisor are in millionths of a bit.
-use Rattle.words.specs.Words.{ℕ, ◌%◌, ◌*◌, Bool, cond, ◌/◌, ◌&&◌}
+use Rattle.std.specs.Prelude.{◌%◌, ◌*◌, ◌/◌, ◌&&◌}
+use Rattle.words.specs.Words.{ℕ, Bool, cond}
 use Rattle.wire.specs.Numbers.{within, number_of}
 use Rattle.latency.specs.declared.WindowAnswer.{WindowAnswer}
 use Rattle.latency.specs.declared.WindowAnswer.TheVariants.{Divided, NotDivided}

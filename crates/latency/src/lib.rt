@@ -1,7 +1,7 @@
 // The largest decoding window that a latency budget allows: dw_max_size of RFC 8681, appendix C.1 (document 02, No. 3).
 #![tactic(auto)]
 
-ghost use Rattle.words.specs.Words.{◌≡◌, ◌%◌, ◌/◌};
+ghost use Rattle.std.specs.Prelude.{◌≡◌, ◌%◌, ◌/◌};
 ghost use Rattle.latency.specs.Window.{dividend, divisor, allowed};
 ghost use Rattle.latency.specs.Inner.{Bounds};
 ghost use Rattle.latency.specs.Promises.{WindowAnswered};

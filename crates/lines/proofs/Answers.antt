@@ -1,5 +1,6 @@
 -- What the answers of the functions that read say of what was to be read.
-use Rattle.words.specs.Words.{◌≡◌, ℕ, ◌≤◌, List, length, ◌∙◌, sym, ap, some, none, Option, drop, take}
+use Rattle.std.specs.Prelude.{◌≡◌, ◌≤◌}
+use Rattle.words.specs.Words.{ℕ, List, length, ◌∙◌, sym, ap, some, none, Option, drop, take}
 use Rattle.lines.specs.declared.Number.{Number}
 use Rattle.lines.specs.declared.Number.TheVariants.{Is, NoNumber}
 use Rattle.lines.specs.declared.Packet.{Packet}

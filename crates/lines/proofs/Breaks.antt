@@ -1,6 +1,7 @@
 -- Laws of an input's lines: where they end, and where they go on.
-use Rattle.words.specs.Words.{◌≡◌, arith, ℕ, ◌≤◌, ◌+◌, List, refl, ◌∙◌, ap, ◌-◌, [], ◌∷◌, suc, true, get_or, false, ◌++◌, Bool, drop, take, ltb, eqb, ne_eqb}
-use Rattle.words.specs.Words.{append_assoc, append-nil, ◌||◌, ltb-true, length-take, ltb-false, get_or-drop, eqb-false, get_or-take}
+use Rattle.std.specs.Prelude.{◌≡◌, ◌≤◌, ◌+◌, ◌-◌, ◌∷◌, ◌++◌, ◌||◌}
+use Rattle.words.specs.Words.{arith, ℕ, List, refl, ◌∙◌, ap, [], suc, true, get_or, false, Bool, drop, take, ltb, eqb, ne_eqb}
+use Rattle.words.specs.Words.{append_assoc, append-nil, ltb-true, length-take, ltb-false, get_or-drop, eqb-false, get_or-take}
 use Prim.Native.Nat.{suc-le-suc, zero-le}
 use borrow.Author.Count.{below_more}
 use Rattle.lines.specs.Lines.{unended, lines_from, lines_of}

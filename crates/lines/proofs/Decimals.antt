@@ -1,6 +1,7 @@
 -- Exactly the decimal numbers are read, up to the largest.
-use Rattle.words.specs.Words.{◌≡◌, arith, ℕ, ◌≤◌, ◌+◌, List, ◌<◌, refl, ◌∙◌, ◌-◌, [], some, ◌%◌, ◌∷◌, suc, true, zero, ◌*◌, false, ◌++◌, Bool, subst, leb, eqb}
-use Rattle.words.specs.Words.{◌/◌, le-leb, some-injective, none-ne-some, ne_eqb, append_assoc, leb-true, eqb-true, ⊎_elim, eqb-false}
+use Rattle.std.specs.Prelude.{◌≡◌, ◌≤◌, ◌+◌, ◌<◌, ◌-◌, ◌%◌, ◌∷◌, ◌*◌, ◌++◌, ◌/◌}
+use Rattle.words.specs.Words.{arith, ℕ, List, refl, ◌∙◌, [], some, suc, true, zero, false, Bool, subst, leb, eqb}
+use Rattle.words.specs.Words.{le-leb, some-injective, none-ne-some, ne_eqb, append_assoc, leb-true, eqb-true, ⊎_elim, eqb-false}
 use native.Mathlib.Nat.{eq-zero-or-pos}
 use Rattle.text.specs.Text.{decimal}
 use Rattle.text.proofs.Decimals.{decimal_small, decimal-more, decimal_step}

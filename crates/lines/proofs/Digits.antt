@@ -11,8 +11,9 @@
 --   all_read: all of them
 --   next_digits: the next two
 --   more-read: a byte more
-use Rattle.words.specs.Words.{◌≡◌, arith, ℕ, ◌≤◌, ◌+◌, List, length, ◌<◌, refl, ◌∙◌, ap, ◌-◌, [], some, ◌%◌, ◌∷◌, suc, true, zero, none, ◌*◌, get_or, false, ◌++◌}
-use Rattle.words.specs.Words.{Bool, Option, drop, take, cond, ltb, eqb, ◌/◌, ◌&&◌, add-zero, add-one, bit_xor, lt-ltb, le_of_suc-le-suc, append_assoc, set}
+use Rattle.std.specs.Prelude.{◌≡◌, ◌≤◌, ◌+◌, ◌<◌, ◌-◌, ◌%◌, ◌∷◌, ◌*◌, ◌++◌, ◌/◌, ◌&&◌}
+use Rattle.words.specs.Words.{arith, ℕ, List, length, refl, ◌∙◌, ap, [], some, suc, true, zero, none, get_or, false}
+use Rattle.words.specs.Words.{Bool, Option, drop, take, cond, ltb, eqb, add-zero, add-one, bit_xor, lt-ltb, le_of_suc-le-suc, append_assoc, set}
 use Rattle.words.specs.Words.{length-drop, eqb-true, append-nil, ltb-true, ⊎_elim, get_or-drop, drop-cons, drop-length}
 use mathlib.Core.Bool.{and_assoc, and-true}
 use native.Mathlib.Nat.{eq-or-lt_of_le}

@@ -1,6 +1,7 @@
 -- Exactly the bytes in hexadecimal are read.
-use Rattle.words.specs.Words.{◌≡◌, arith, ℕ, ◌≤◌, ◌+◌, List, ◌<◌, refl, ◌-◌, [], some, ◌%◌, ◌∷◌, suc, true, zero, none, ◌*◌, false, ◌++◌, Bool, subst, Option}
-use Rattle.words.specs.Words.{ltb, ◌/◌, le-leb, ◌&&◌, some-injective, none-ne-some, lt-leb, lt-ltb, le-ltb, ltb-true, ltb-false}
+use Rattle.std.specs.Prelude.{◌≡◌, ◌≤◌, ◌+◌, ◌<◌, ◌-◌, ◌%◌, ◌∷◌, ◌*◌, ◌++◌, ◌/◌, ◌&&◌}
+use Rattle.words.specs.Words.{arith, ℕ, List, refl, [], some, suc, true, zero, none, false, Bool, subst, Option}
+use Rattle.words.specs.Words.{ltb, le-leb, some-injective, none-ne-some, lt-leb, lt-ltb, le-ltb, ltb-true, ltb-false}
 use Rattle.memory.specs.Number.{Bytes}
 use Rattle.text.specs.Text.{digit, hexadecimal}
 use Rattle.wire.specs.Numbers.{within}

@@ -1,5 +1,6 @@
 -- Laws of a number that is read at a place of a line, a digit at a time.
-use Rattle.words.specs.Words.{◌≡◌, ℕ, ◌≤◌, ◌+◌, List, length, ◌<◌, ◌-◌, some, true, none, ◌*◌, get_or, false, drop, le-leb, add-one, lt-leb, ne_eqb, drop-cons}
+use Rattle.std.specs.Prelude.{◌≡◌, ◌≤◌, ◌+◌, ◌<◌, ◌-◌, ◌*◌}
+use Rattle.words.specs.Words.{ℕ, List, length, some, true, none, get_or, false, drop, le-leb, add-one, lt-leb, ne_eqb, drop-cons}
 use Rattle.words.specs.Words.{drop-length}
 use lib.ListN.{drop_of_length-le}
 use Rattle.lines.specs.Reading.{is_digit, number_from, number_in}

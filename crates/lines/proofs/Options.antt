@@ -1,5 +1,6 @@
 -- Laws of what may be read or not.
-use Rattle.words.specs.Words.{◌≡◌, refl, some, true, none, false, Bool, Option, cond, none-ne-some}
+use Rattle.std.specs.Prelude.{◌≡◌}
+use Rattle.words.specs.Words.{refl, some, true, none, false, Bool, Option, cond, none-ne-some}
 use Rattle.lines.specs.Reading.{on}
 
 -- a test whose arms are the same

@@ -1,6 +1,7 @@
 -- What is promised of how lines are read (specs/Promises).
-use Rattle.words.specs.Words.{◌≡◌, arith, ℕ, ◌≤◌, List, length, refl, ◌∙◌, ap, [], some, ◌∷◌, none, ◌++◌, subst, Option, leb, le-leb, some-injective}
-use Rattle.words.specs.Words.{none-ne-some, ◌⊎◌, inr, inl, leb-true, append-nil, ⊎_elim}
+use Rattle.std.specs.Prelude.{◌≡◌, ◌≤◌, ◌∷◌, ◌++◌, ◌⊎◌}
+use Rattle.words.specs.Words.{arith, ℕ, List, length, refl, ◌∙◌, ap, [], some, none, subst, Option, leb, le-leb, some-injective}
+use Rattle.words.specs.Words.{none-ne-some, inr, inl, leb-true, append-nil, ⊎_elim}
 use Rattle.text.specs.Text.{ascii, decimal, hexadecimal}
 use Rattle.memory.specs.Number.{Bytes}
 use Rattle.history.specs.History.{Call, source-call, repair-call, OfBytes}

@@ -1,5 +1,6 @@
 -- Laws of the text at a place of a line (`after`), a byte at a time.
-use Rattle.words.specs.Words.{◌≡◌, arith, ℕ, ◌≤◌, ◌+◌, List, length, ◌<◌, refl, ap, ◌-◌, [], some, ◌∷◌, true, none, get_or, ◌++◌, Bool, drop, cond, eqb, add-one}
+use Rattle.std.specs.Prelude.{◌≡◌, ◌≤◌, ◌+◌, ◌<◌, ◌-◌, ◌∷◌, ◌++◌}
+use Rattle.words.specs.Words.{arith, ℕ, List, length, refl, ap, [], some, true, none, get_or, Bool, drop, cond, eqb, add-one}
 use Rattle.words.specs.Words.{length-append, ne_eqb, eq-eqb, length-drop, eqb-true, add-suc, drop-cons, drop-length}
 use Rattle.lines.specs.Reading.{after}
 use Rattle.lines.proofs.Options.{cond_same, cond_some}

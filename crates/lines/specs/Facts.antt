@@ -1,5 +1,6 @@
 -- Computed from how lines are read: document 02's sample, and lines that have not the form.
-use Rattle.words.specs.Words.{◌≡◌, refl, [], some, ◌∷◌, none, ◌++◌, map, replicate}
+use Rattle.std.specs.Prelude.{◌≡◌, ◌∷◌, ◌++◌}
+use Rattle.words.specs.Words.{refl, [], some, none, map, replicate}
 use Rattle.text.specs.Text.{ascii}
 use Rattle.history.specs.History.{source-call, repair-call}
 use Rattle.lines.specs.Lines.{lines_from, lines_of}

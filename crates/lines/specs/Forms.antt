@@ -1,5 +1,6 @@
 -- The forms that lines have (document 02, No. 4): the first line of a capture, and packet lines.
-use Rattle.words.specs.Words.{◌≡◌, ℕ, ◌≤◌, List, length, ◌++◌}
+use Rattle.std.specs.Prelude.{◌≡◌, ◌≤◌, ◌++◌}
+use Rattle.words.specs.Words.{ℕ, List, length}
 use Rattle.text.specs.Text.{ascii, hexadecimal, field}
 use Rattle.history.specs.History.{Call, source-call, repair-call, OfBytes}
 

@@ -1,5 +1,6 @@
 -- Contracts of the functions that read lines, over how lines are read (Reading).
-use Rattle.words.specs.Words.{◌≡◌, ℕ, ◌≤◌, List, length, ◌<◌, [], some, ◌∷◌, true, none, get_or, Bool, Option, drop, take, ltb, ◌&&◌}
+use Rattle.std.specs.Prelude.{◌≡◌, ◌≤◌, ◌<◌, ◌∷◌, ◌&&◌}
+use Rattle.words.specs.Words.{ℕ, List, length, [], some, true, none, get_or, Bool, Option, drop, take, ltb}
 use Rattle.history.specs.History.{Call, source-call, repair-call}
 use Rattle.lines.specs.declared.Number.{Number}
 use Rattle.lines.specs.declared.Number.TheVariants.{Is, NoNumber}

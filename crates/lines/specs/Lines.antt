@@ -1,5 +1,6 @@
 -- The lines of an input (document 02, No. 4): each ends at the byte 0A, or at the input's end if bytes follow the last 0A.
-use Rattle.words.specs.Words.{ℕ, List, [], ◌∷◌, ◌++◌, cond, eqb}
+use Rattle.std.specs.Prelude.{◌∷◌, ◌++◌}
+use Rattle.words.specs.Words.{ℕ, List, [], cond, eqb}
 
 -- the line that the bytes p begin, at the input's end: none where there are no bytes
 abbrev pub unended : List ℕ → List (List ℕ)

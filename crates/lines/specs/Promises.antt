@@ -1,5 +1,6 @@
 -- What is proved of how lines are read (proofs/Promises): exactly the lines of the forms are read, and as what they say.
-use Rattle.words.specs.Words.{◌≡◌, ℕ, ◌≤◌, List, length, ◌<◌, [], some, ◌∷◌, get_or, ◌++◌, ◌↔◌}
+use Rattle.std.specs.Prelude.{◌≡◌, ◌≤◌, ◌<◌, ◌∷◌, ◌++◌, ◌↔◌}
+use Rattle.words.specs.Words.{ℕ, List, length, [], some, get_or}
 use Rattle.history.specs.History.{Call}
 use Rattle.lines.specs.Lines.{unended, lines_of}
 use Rattle.lines.specs.Forms.{Values, first_line, Says}

@@ -1,5 +1,6 @@
 -- How lines are read. That exactly the lines of the forms are read, and as what they say, is proved (Promises): a reader need not believe this.
-use Rattle.words.specs.Words.{ℕ, ◌+◌, List, length, ◌-◌, [], some, ◌∷◌, none, ◌*◌, ◌++◌, Bool, Option, cond, ltb, leb, eqb, ◌&&◌}
+use Rattle.std.specs.Prelude.{◌+◌, ◌-◌, ◌∷◌, ◌*◌, ◌++◌, ◌&&◌}
+use Rattle.words.specs.Words.{ℕ, List, length, [], some, none, Bool, Option, cond, ltb, leb, eqb}
 use Rattle.text.specs.Text.{ascii}
 use Rattle.wire.specs.Numbers.{within}
 use Rattle.history.specs.History.{Call, source-call, repair-call}

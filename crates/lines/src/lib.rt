@@ -1,7 +1,8 @@
 // The lines of a capture (document 02, No. 4): where a line ends, and what a first line and a packet line say.
 #![tactic(auto)]
 
-ghost use Rattle.words.specs.Words.{◌≡◌, ◌≤◌, ◌+◌, length, ◌<◌, some, none, ◌*◌, false, drop, cond, ltb};
+ghost use Rattle.std.specs.Prelude.{◌≡◌, ◌≤◌, ◌+◌, ◌<◌, ◌*◌};
+ghost use Rattle.words.specs.Words.{length, some, none, false, drop, cond, ltb};
 ghost use Rattle.lines.specs.Reading.{after, is_digit, number_from, number_in, field_in, value_of, bytes_in, packet_in, values_in, call_in};
 ghost use Rattle.lines.specs.Inner.{NoEnd, Ends, NumberRead, all_digits, BytesRead, values_of, CallRead};
 

@@ -1,6 +1,7 @@
 -- A combination of rows, digit by digit of the coefficients: the rows whose coefficients are odd, added to twice the combination that has
 -- the halves of the coefficients.
-use Rattle.words.specs.Words.{◌≡◌, refl, ◌∙◌, sym, ap, ap₂, arith, Bool, List, ◌%◌, ◌*◌, ◌+◌, ◌/◌, ◌<◌, ◌^◌, ◌≤◌, add-one, bit_xor, cond, dec_lt, eqb}
+use Rattle.std.specs.Prelude.{◌≡◌, ◌%◌, ◌*◌, ◌+◌, ◌/◌, ◌<◌, ◌^◌, ◌≤◌}
+use Rattle.words.specs.Words.{refl, ◌∙◌, sym, ap, ap₂, arith, Bool, List, add-one, bit_xor, cond, dec_lt, eqb}
 use Rattle.words.specs.Words.{ext_get_or, false, get_or, length, mod-lt, suc, true, xor_comm, zero, ℕ}
 use native.Mathlib.Nat.{pow-suc, div-div-eq-div-mul, div-eq_of_lt, div-one}
 use lib.ListN.{get_or-eq_default}

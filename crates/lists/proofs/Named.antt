@@ -1,5 +1,6 @@
 -- Laws of rows that a list names.
-use Rattle.words.specs.Words.{◌≡◌, refl, ◌∙◌, sym, ap, ap₂, arith, List, ◌%◌, ◌*◌, ◌+◌, ◌-◌, ◌/◌, ◌<◌, ◌≤◌, add-one, add-zero, bit_xor, dec_lt}
+use Rattle.std.specs.Prelude.{◌≡◌, ◌%◌, ◌*◌, ◌+◌, ◌-◌, ◌/◌, ◌<◌, ◌≤◌}
+use Rattle.words.specs.Words.{refl, ◌∙◌, sym, ap, ap₂, arith, List, add-one, add-zero, bit_xor, dec_lt}
 use Rattle.words.specs.Words.{get_or, length, length-replicate, length-set, replicate, set, suc, zero, ℕ, ⊎_elim}
 use native.Mathlib.Nat.{eq-or-lt_of_le}
 use lib.Seq.{get_or-set_same, get_or-set_other}

@@ -1,5 +1,6 @@
 -- Contracts of inner functions: a reader need not believe these. The binary digits of the elements of a list of coefficients.
-use Rattle.words.specs.Words.{ℕ, List, ◌%◌, ◌^◌, ◌/◌, cond, eqb}
+use Rattle.std.specs.Prelude.{◌%◌, ◌^◌, ◌/◌}
+use Rattle.words.specs.Words.{ℕ, List, cond, eqb}
 use Rattle.rows.specs.Combination.{coefficient}
 
 -- the digits of element k from e on, as a number

@@ -1,5 +1,6 @@
 -- Contracts of inner functions: a reader need not believe these. Rows that a list names are added one after the other.
-use Rattle.words.specs.Words.{◌≡◌, List, ◌%◌, ◌*◌, ◌+◌, ◌-◌, ◌/◌, ◌<◌, ◌≤◌, get_or, length, replicate, suc, zero, ℕ}
+use Rattle.std.specs.Prelude.{◌≡◌, ◌%◌, ◌*◌, ◌+◌, ◌-◌, ◌/◌, ◌<◌, ◌≤◌}
+use Rattle.words.specs.Words.{List, get_or, length, replicate, suc, zero, ℕ}
 use Rattle.memory.specs.Part.{part}
 use Rattle.rows.specs.Rows.{add_scaled, scaled}
 use Rattle.rows.specs.Sums.{combined}

@@ -3,7 +3,8 @@
 // so far is doubled twice, and the rows of the lists are added, in strips of 64 bytes, each of which stays in registers.
 #![tactic(auto)]
 
-ghost use Rattle.words.specs.Words.{◌≡◌, ℕ, ◌≤◌, ◌+◌, ◌-◌, ◌*◌, length, ◌<◌, replicate, get_or};
+ghost use Rattle.std.specs.Prelude.{◌≡◌, ◌≤◌, ◌+◌, ◌-◌, ◌*◌, ◌<◌};
+ghost use Rattle.words.specs.Words.{ℕ, length, replicate, get_or};
 ghost use Rattle.memory.specs.Part.{part};
 ghost use Rattle.rows.specs.Rows.{add_scaled, scaled};
 ghost use Rattle.rows.specs.Sums.{row_at};

@@ -1,5 +1,6 @@
 -- Any marks can be had: a memory that has them, and is as it was but for marks.
-use Rattle.words.specs.Words.{◌≡◌, arith, ℕ, ◌≤◌, ◌+◌, List, length, ◌<◌, refl, ◌∙◌, sym, ap, ◌%◌, suc, true, zero, get_or, false, Bool, ◌≢◌, cond, ltb, mod-lt}
+use Rattle.std.specs.Prelude.{◌≡◌, ◌≤◌, ◌+◌, ◌<◌, ◌%◌, ◌≢◌}
+use Rattle.words.specs.Words.{arith, ℕ, List, length, refl, ◌∙◌, sym, ap, suc, true, zero, get_or, false, Bool, cond, ltb, mod-lt}
 use Rattle.words.specs.Words.{ℕ_discrete, dec_lt, set}
 use Rattle.table.specs.Window.{row_offset}
 use Rattle.table.proofs.Offsets.{header-long}

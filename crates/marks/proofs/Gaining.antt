@@ -1,8 +1,9 @@
 -- Positions that have become known: how many of a packet's own, and that there are no others.
 -- Counting in memory: unseen_empty, one_outside, one_known, one_unknown, tallied_none, tallied_more, tallied_to.
 -- A packet that has no others: old_ones.
-use Rattle.words.specs.Words.{◌≡◌, arith, ℕ, ◌≤◌, ◌+◌, List, ◌<◌, refl, ◌∙◌, sym, ap, ◌-◌, some, ◌%◌, suc, true, zero, none, false, Bool, subst, Option, ap₂}
-use Rattle.words.specs.Words.{none-ne-some, add-zero, dec_lt, add-one, mod-add-mod, ◌⊎◌, inr, inl, add-suc, add_assoc}
+use Rattle.std.specs.Prelude.{◌≡◌, ◌≤◌, ◌+◌, ◌<◌, ◌-◌, ◌%◌, ◌⊎◌}
+use Rattle.words.specs.Words.{arith, ℕ, List, refl, ◌∙◌, sym, ap, some, suc, true, zero, none, false, Bool, subst, Option, ap₂}
+use Rattle.words.specs.Words.{none-ne-some, add-zero, dec_lt, add-one, mod-add-mod, inr, inl, add-suc, add_assoc}
 use Rattle.decoder.specs.Field.{Ops, Laws}
 use Rattle.decoder.specs.Bytes.{Coded}
 use Rattle.decoder.specs.Model.{Row, State, end, free, pivot, Rref, known}

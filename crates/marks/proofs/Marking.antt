@@ -1,8 +1,9 @@
 -- Marks that are set, dropped and moved on.
 -- One mark: written, written-only, added. The first are dropped: dropped_none, dropped_more, dropped_to.
 -- The window moves on: moved_none, moved-far, moved_near.
-use Rattle.words.specs.Words.{◌≡◌, arith, ℕ, ◌≤◌, ◌+◌, List, length, ◌<◌, refl, ◌∙◌, sym, ap, ◌-◌, ◌%◌, get_or, false, subst, ◌≢◌, ltb, leb, mod-lt, le-leb, ◌&&◌}
-use Rattle.words.specs.Words.{ℕ_discrete, add-zero, dec_lt, lt-leb, ne_eqb, mod-eq_of_lt, mod-add-mod, eq-eqb, set, length-set, ◌||◌, add_assoc, add-mod_right}
+use Rattle.std.specs.Prelude.{◌≡◌, ◌≤◌, ◌+◌, ◌<◌, ◌-◌, ◌%◌, ◌≢◌, ◌&&◌, ◌||◌}
+use Rattle.words.specs.Words.{arith, ℕ, List, length, refl, ◌∙◌, sym, ap, get_or, false, subst, ltb, leb, mod-lt, le-leb}
+use Rattle.words.specs.Words.{ℕ_discrete, add-zero, dec_lt, lt-leb, ne_eqb, mod-eq_of_lt, mod-add-mod, eq-eqb, set, length-set, add_assoc, add-mod_right}
 use native.Mathlib.Nat.{add-mod-mod}
 use lib.Seq.{get_or-set_same, get_or-set_other}
 use Rattle.starts.specs.Starts.{Starts, also, moved}

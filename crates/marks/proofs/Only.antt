@@ -1,5 +1,6 @@
 -- Where marks stand, and what is as it was when nothing but marks has changed.
-use Rattle.words.specs.Words.{◌≡◌, arith, ℕ, ◌≤◌, ◌+◌, List, ◌<◌, refl, ◌∙◌, sym, ap, ◌%◌, true, ◌*◌, false, ◌≢◌, ltb, mod-lt, dec_lt, lt-ltb, le-ltb}
+use Rattle.std.specs.Prelude.{◌≡◌, ◌≤◌, ◌+◌, ◌<◌, ◌%◌, ◌*◌, ◌≢◌}
+use Rattle.words.specs.Words.{arith, ℕ, List, refl, ◌∙◌, sym, ap, true, false, ltb, mod-lt, dec_lt, lt-ltb, le-ltb}
 use Rattle.memory.proofs.Parts.{row_fits}
 use Rattle.decoder.specs.Bytes.{Coded}
 use Rattle.decoder.specs.Model.{State}

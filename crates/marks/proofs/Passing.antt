@@ -4,9 +4,10 @@
 -- The pass: Passing, passing-none, passing-more, passed, passed_all.
 -- Walks: Walking, walking_none, walking_more, walked, followed_none, followed_more, followed_to, followed_own.
 -- After a packet: owned_some, owned_none, updated.
-use Rattle.words.specs.Words.{◌≡◌, arith, ℕ, ◌≤◌, ◌+◌, List, length, ◌<◌, refl, ◌∙◌, sym, ap, ◌-◌, some, ◌%◌, suc, true, zero, none, false, Bool, subst, ◌≢◌}
-use Rattle.words.specs.Words.{cond, ltb, mod-lt, ℕ_discrete, some-injective, none-ne-some, dec_lt, add-one, ne_eqb, lt-ltb, mod-add-mod, ◌⊎◌, inr}
-use Rattle.words.specs.Words.{eq-eqb, true≢false, inl, set, length-set, le-ltb, ◌||◌, ltb-false}
+use Rattle.std.specs.Prelude.{◌≡◌, ◌≤◌, ◌+◌, ◌<◌, ◌-◌, ◌%◌, ◌≢◌, ◌⊎◌, ◌||◌}
+use Rattle.words.specs.Words.{arith, ℕ, List, length, refl, ◌∙◌, sym, ap, some, suc, true, zero, none, false, Bool, subst}
+use Rattle.words.specs.Words.{cond, ltb, mod-lt, ℕ_discrete, some-injective, none-ne-some, dec_lt, add-one, ne_eqb, lt-ltb, mod-add-mod, inr}
+use Rattle.words.specs.Words.{eq-eqb, true≢false, inl, set, length-set, le-ltb, ltb-false}
 use lib.Seq.{get_or-set_same, get_or-set_other}
 use Rattle.memory.specs.Part.{part}
 use Rattle.memory.specs.Number.{number, Bytes}

@@ -1,5 +1,6 @@
 -- Contracts of inner functions that read and change marks: a reader need not believe these.
-use Rattle.words.specs.Words.{◌≡◌, ℕ, ◌≤◌, ◌+◌, List, length, ◌<◌, some, ◌%◌, suc, true, zero, none, get_or, false, Bool, Option, ◌≢◌, ◌⊎◌}
+use Rattle.std.specs.Prelude.{◌≡◌, ◌≤◌, ◌+◌, ◌<◌, ◌%◌, ◌≢◌, ◌⊎◌}
+use Rattle.words.specs.Words.{ℕ, List, length, some, suc, true, zero, none, get_or, false, Bool, Option}
 use Rattle.decoder.specs.Bytes.{Coded}
 use Rattle.decoder.specs.Model.{State, known}
 use Rattle.table.specs.Window.{Window}

@@ -1,6 +1,7 @@
 -- Where the receiver's memory keeps the marks: that of a position of the window in the second flag of its row, that of the position just past the
 -- window in byte 10 of the header.
-use Rattle.words.specs.Words.{◌≡◌, ℕ, ◌≤◌, ◌+◌, List, length, ◌<◌, ◌%◌, get_or, ◌≢◌, cond, ltb}
+use Rattle.std.specs.Prelude.{◌≡◌, ◌≤◌, ◌+◌, ◌<◌, ◌%◌, ◌≢◌}
+use Rattle.words.specs.Words.{ℕ, List, length, get_or, cond, ltb}
 use Rattle.table.specs.Window.{row_offset}
 use Rattle.starts.specs.Starts.{Starts}
 

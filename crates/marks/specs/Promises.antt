@@ -1,6 +1,7 @@
 -- Contracts of inner functions: a reader need not believe these.
 -- Each holds for every system S that the memory holds for a window from b on, where `base` is the row of b.
-use Rattle.words.specs.Words.{◌≡◌, ℕ, ◌+◌, List, ◌%◌}
+use Rattle.std.specs.Prelude.{◌≡◌, ◌+◌, ◌%◌}
+use Rattle.words.specs.Words.{ℕ, List}
 use Rattle.decoder.specs.Bytes.{Coded}
 use Rattle.decoder.specs.Model.{State}
 use Rattle.table.specs.Window.{Window}

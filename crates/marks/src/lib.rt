@@ -1,7 +1,8 @@
 // The marks of starts: read, set, moved on with the window, and the pass that follows the lengths of known ADUs.
 #![tactic(auto)]
 
-ghost use Rattle.words.specs.Words.{◌≡◌, ◌≤◌, ◌+◌, length, ◌<◌, ◌%◌};
+ghost use Rattle.std.specs.Prelude.{◌≡◌, ◌≤◌, ◌+◌, ◌<◌, ◌%◌};
+ghost use Rattle.words.specs.Words.{length};
 ghost use Rattle.table.specs.Window.{header_size, row_offset, Fits};
 ghost use Rattle.marks.specs.Marks.{mark_at, marked};
 ghost use Rattle.marks.specs.MarkSteps.{Written, Dropped, Noted, Stepped, Followed, Owned, Decided, Extended, Updated, OneKnown, Tallied};

@@ -1,6 +1,7 @@
 -- A loop that replaces the elements of a list one by one, in order. After i turns the first i are those of the result r, and the others are as
 -- they were. A turn asks for element i of the result and for no other, so a loop hands over the length of its result and the law of its elements.
-use Rattle.words.specs.Words.{◌≡◌, arith, ℕ, ◌≤◌, ◌+◌, List, length, ◌<◌, refl, ◌∙◌, ap, [], ◌∷◌, suc, zero, get_or, add-one, not-suc-le-zero, le_of_suc-le-suc}
+use Rattle.std.specs.Prelude.{◌≡◌, ◌≤◌, ◌+◌, ◌<◌, ◌∷◌}
+use Rattle.words.specs.Words.{arith, ℕ, List, length, refl, ◌∙◌, ap, [], suc, zero, get_or, add-one, not-suc-le-zero, le_of_suc-le-suc}
 use Rattle.words.specs.Words.{set, length-set}
 
 -- the list after i turns, d before them and r the result

@@ -1,5 +1,6 @@
 -- Numbers in bytes: written, read, and in pieces.
-use Rattle.words.specs.Words.{◌≡◌, arith, ℕ, ◌≤◌, ◌+◌, List, length, ◌<◌, refl, ◌∙◌, sym, ap, [], ◌%◌, ◌∷◌, suc, zero, ◌*◌, ◌++◌, drop, ◌^◌, take, ◌/◌}
+use Rattle.std.specs.Prelude.{◌≡◌, ◌≤◌, ◌+◌, ◌<◌, ◌%◌, ◌∷◌, ◌*◌, ◌++◌, ◌^◌, ◌/◌}
+use Rattle.words.specs.Words.{arith, ℕ, List, length, refl, ◌∙◌, sym, ap, [], suc, zero, drop, take}
 use Rattle.words.specs.Words.{add-zero, length-append, mod-eq_of_lt, zero-add, zero-mul, lit<, get_or-drop, add_assoc, mul-le-mul_right}
 use native.Mathlib.Nat.{mod-one, pow-suc, pow-succ', mul-add-div_right, div-eq_of_lt, add-mul, mul_assoc}
 use lib.Arith.{mod-mul}

@@ -7,7 +7,8 @@
 --   parts of parts, and stores on stores: whole, get_or-part, part-part, part-drop, part-splice, splice-part, splice_next, splice-append, splice-within
 --   bytes one by one: part_none, part-cons, part-two, part-add, sets_splice
 --   rows of s bytes: row_fits
-use Rattle.words.specs.Words.{◌≡◌, arith, ℕ, ◌≤◌, ◌+◌, List, length, ◌<◌, refl, ◌∙◌, ap, ◌-◌, [], ◌∷◌, suc, zero, ◌*◌, get_or, ◌++◌, drop, take, add-zero}
+use Rattle.std.specs.Prelude.{◌≡◌, ◌≤◌, ◌+◌, ◌<◌, ◌-◌, ◌∷◌, ◌*◌, ◌++◌}
+use Rattle.words.specs.Words.{arith, ℕ, List, length, refl, ◌∙◌, ap, [], suc, zero, get_or, drop, take, add-zero}
 use Rattle.words.specs.Words.{add-one, length-append, not-suc-le-zero, zero-add, inr, le_of_suc-le-suc, inl, append_assoc, set, length-drop, length-set}
 use Rattle.words.specs.Words.{length-take, suc-mul, get_or-drop, take_all, get_or-append, suc-add, drop-cons, take-append-drop, mul-le-mul_right, drop-drop}
 use Rattle.words.specs.Words.{take_at, take-append_seam, get_or-take}

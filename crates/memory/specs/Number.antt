@@ -1,5 +1,6 @@
 -- Numbers in bytes, the most significant byte first.
-use Rattle.words.specs.Words.{ℕ, ◌+◌, List, length, ◌<◌, [], ◌%◌, ◌∷◌, suc, zero, ◌*◌, get_or, ◌^◌, ◌/◌}
+use Rattle.std.specs.Prelude.{◌+◌, ◌<◌, ◌%◌, ◌∷◌, ◌*◌, ◌^◌, ◌/◌}
+use Rattle.words.specs.Words.{ℕ, List, length, [], suc, zero, get_or}
 
 -- the number that the bytes write
 abbrev pub number : List ℕ → ℕ

@@ -1,6 +1,7 @@
 -- A part of a memory, and a memory with a part replaced.
 use Rattle.std.specs.Borrow.{Bor}
-use Rattle.words.specs.Words.{◌≡◌, ℕ, ◌≤◌, ◌+◌, List, length, ◌++◌, drop, take, ◌⊎◌}
+use Rattle.std.specs.Prelude.{◌≡◌, ◌≤◌, ◌+◌, ◌++◌, ◌⊎◌}
+use Rattle.words.specs.Words.{ℕ, List, length, drop, take}
 
 -- the n bytes of m from a on
 unfoldable pub part : ℕ → ℕ → List ℕ → List ℕ

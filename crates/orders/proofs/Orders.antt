@@ -1,5 +1,6 @@
 -- What two receivers show depends on which packets they have accepted, and not on their order.
-use Rattle.words.specs.Words.{◌≡◌, ℕ, List, length, refl, ◌∙◌, sym, ap₂, true, subst, ◌↔◌}
+use Rattle.std.specs.Prelude.{◌≡◌, ◌↔◌}
+use Rattle.words.specs.Words.{ℕ, List, length, refl, ◌∙◌, sym, ap₂, true, subst}
 use mathlib.Core.List.{Memᴰ}
 use Rattle.wire.specs.declared.Setting.{Setting}
 use Rattle.wire.specs.Settings.{setting_of, Valid}

@@ -6,8 +6,9 @@
 --   handed_alike: by what the ADU call came to; adu_alike: which starts change to 13 alone
 --   shown: all calls that show
 use denote.Ref.{Bor}
-use Rattle.words.specs.Words.{◌≡◌, ℕ, List, length, refl, ◌∙◌, sym, ap, some, true, none, false, Bool, subst, ap₂, ◌↔◌, ◌⊎◌, inl, inr, ltb}
-use Rattle.words.specs.Words.{some-injective, none-ne-some, ◌<◌}
+use Rattle.std.specs.Prelude.{◌≡◌, ◌↔◌, ◌⊎◌, ◌<◌}
+use Rattle.words.specs.Words.{ℕ, List, length, refl, ◌∙◌, sym, ap, some, true, none, false, Bool, subst, ap₂, inl, inr, ltb}
+use Rattle.words.specs.Words.{some-injective, none-ne-some}
 use Rattle.memory.specs.Part.{part}
 use Rattle.wire.specs.declared.Setting.{Setting}
 use Rattle.wire.specs.declared.Answer.{Answer}

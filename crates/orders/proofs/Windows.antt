@@ -5,7 +5,8 @@
 --   Based, based: the base is the least first position, or where some packet just fits
 --   same_base: so it is the same for the same packets
 --   ahead_on: each packet that a list of calls has accepted lay ahead
-use Rattle.words.specs.Words.{◌≡◌, arith, ℕ, ◌≤◌, ◌+◌, List, length, ◌<◌, refl, sym, ap, ◌-◌, [], some, ◌∷◌, none, subst, ◌⊎◌, inl, inr, ⊎_elim, dec_lt}
+use Rattle.std.specs.Prelude.{◌≡◌, ◌≤◌, ◌+◌, ◌<◌, ◌-◌, ◌∷◌, ◌⊎◌}
+use Rattle.words.specs.Words.{arith, ℕ, List, length, refl, sym, ap, [], some, none, subst, inl, inr, ⊎_elim, dec_lt}
 use mathlib.Core.List.Memᴰ
 use mathlib.Core.List.{Memᴰ}
 use Rattle.wire.specs.declared.Setting.{Setting}

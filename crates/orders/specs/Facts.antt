@@ -1,6 +1,7 @@
 -- Computed from the definitions, from the packets' bytes on: the same packets in two orders, in scheme 9 with E 4 and width 2. What is shown is the same;
 -- counts and starts need not be. And what is not the same packets.
-use Rattle.words.specs.Words.{◌≡◌, ℕ, List, refl, [], some, ◌∷◌, none, Option, map, cond}
+use Rattle.std.specs.Prelude.{◌≡◌, ◌∷◌}
+use Rattle.words.specs.Words.{ℕ, List, refl, [], some, none, Option, map, cond}
 use Rattle.wire.specs.Answers.{Said, value, refusal}
 use Rattle.wire.specs.Flows.{all_flows}
 use Rattle.starts.specs.Adu.{Handing, hands, withholds}

@@ -1,6 +1,7 @@
 -- Receivers that have accepted the same packets know and show the same: the order is nothing to it (document 02, No. 10).
 use Rattle.std.specs.Borrow.{Bor}
-use Rattle.words.specs.Words.{◌≡◌, ℕ, List, length, some, ◌∷◌, true, ◌++◌, ◌↔◌, ◌⊎◌}
+use Rattle.std.specs.Prelude.{◌≡◌, ◌∷◌, ◌++◌, ◌↔◌, ◌⊎◌}
+use Rattle.words.specs.Words.{ℕ, List, length, some, true}
 use mathlib.Core.List.{Memᴰ}
 use Rattle.memory.specs.Part.{part}
 use Rattle.wire.specs.declared.Setting.{Setting}

@@ -1,8 +1,9 @@
 -- Bytes of origins that are filled, and what the memory hears after a packet.
 -- Nothing else has changed: only_refl, only_trans, only_fits. Bytes are filled one by one: filled_none, filled_more, filled_to.
 -- What is brought: brought_in, brought_out. Both fills: updated.
-use Rattle.words.specs.Words.{◌≡◌, arith, ℕ, ◌≤◌, ◌+◌, List, length, ◌<◌, refl, ◌∙◌, sym, ap, ap₂, ◌-◌, ◌%◌, get_or, true, subst, ◌≢◌, ltb, mod-lt}
-use Rattle.words.specs.Words.{ℕ_discrete, dec_lt, lt-leb, le-leb, lt-ltb, le-ltb, mod-add-mod, set, length-set, add_assoc, ◌&&◌, ◌||◌, ◌⊎◌, inl, inr}
+use Rattle.std.specs.Prelude.{◌≡◌, ◌≤◌, ◌+◌, ◌<◌, ◌-◌, ◌%◌, ◌≢◌, ◌&&◌, ◌||◌, ◌⊎◌}
+use Rattle.words.specs.Words.{arith, ℕ, List, length, refl, ◌∙◌, sym, ap, ap₂, get_or, true, subst, ltb, mod-lt}
+use Rattle.words.specs.Words.{ℕ_discrete, dec_lt, lt-leb, le-leb, lt-ltb, le-ltb, mod-add-mod, set, length-set, add_assoc, inl, inr}
 use lib.Seq.{get_or-set_same, get_or-set_other}
 use Rattle.decoder.proofs.Stretch.{remainders}
 use Rattle.table.specs.Window.{row_offset, Fits}

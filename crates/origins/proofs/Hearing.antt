@@ -1,5 +1,6 @@
 -- What memories hear that agree past their rows, and what is as it was when nothing but the bytes of origins has changed.
-use Rattle.words.specs.Words.{◌≡◌, arith, ℕ, ◌≤◌, ◌+◌, List, length, ◌<◌, ◌∙◌, sym, ap, ◌%◌, get_or, take, ltb, dec_lt, ext_get_or, get_or-take, inl, inr}
+use Rattle.std.specs.Prelude.{◌≡◌, ◌≤◌, ◌+◌, ◌<◌, ◌%◌}
+use Rattle.words.specs.Words.{arith, ℕ, List, length, ◌∙◌, sym, ap, get_or, take, ltb, dec_lt, ext_get_or, get_or-take, inl, inr}
 use Rattle.words.specs.Words.{length-take, min}
 use Rattle.decoder.specs.Bytes.{Coded}
 use Rattle.decoder.specs.Model.{State}

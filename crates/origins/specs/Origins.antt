@@ -1,5 +1,6 @@
 -- Where the receiver's memory keeps which positions a source packet has brought: in a byte for each row, past the rows.
-use Rattle.words.specs.Words.{◌≡◌, ℕ, ◌≤◌, ◌+◌, List, ◌<◌, ◌%◌, get_or, false, Bool, ltb}
+use Rattle.std.specs.Prelude.{◌≡◌, ◌≤◌, ◌+◌, ◌<◌, ◌%◌}
+use Rattle.words.specs.Words.{ℕ, List, get_or, false, Bool, ltb}
 use Rattle.table.specs.Window.{row_offset}
 use Rattle.history.specs.Model.{Origins}
 

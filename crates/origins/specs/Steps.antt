@@ -1,5 +1,6 @@
 -- Contracts of inner functions: a reader need not believe these.
-use Rattle.words.specs.Words.{◌≡◌, ℕ, ◌≤◌, ◌+◌, List, length, ◌<◌, ◌-◌, ◌%◌, get_or, ◌⊎◌}
+use Rattle.std.specs.Prelude.{◌≡◌, ◌≤◌, ◌+◌, ◌<◌, ◌-◌, ◌%◌, ◌⊎◌}
+use Rattle.words.specs.Words.{ℕ, List, length, get_or}
 use Rattle.table.specs.Window.{row_offset}
 use Rattle.history.specs.Model.{Origins, bringing}
 use Rattle.origins.specs.Origins.{origin_at, Hears}

@@ -1,7 +1,8 @@
 // Which positions of the window a source packet has brought: one byte for each row, past the rows.
 #![tactic(auto)]
 
-ghost use Rattle.words.specs.Words.{◌≡◌, ◌≤◌, ◌+◌, length, ◌<◌, ◌-◌};
+ghost use Rattle.std.specs.Prelude.{◌≡◌, ◌≤◌, ◌+◌, ◌<◌, ◌-◌};
+ghost use Rattle.words.specs.Words.{length};
 ghost use Rattle.table.specs.Window.{row_offset, Fits};
 ghost use Rattle.origins.specs.Origins.{heard_in};
 ghost use Rattle.origins.specs.Steps.{Filled, Updated};

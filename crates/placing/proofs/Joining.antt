@@ -1,5 +1,6 @@
 -- A packet's rows, placed one after the other, give what the model makes of its equations; and as many positions become known as are counted.
-use Rattle.words.specs.Words.{◌≡◌, arith, ℕ, ◌+◌, List, ◌<◌, refl, ◌∙◌, sym, ap, true, get_or, false, Bool, subst, add-one, zero-add}
+use Rattle.std.specs.Prelude.{◌≡◌, ◌+◌, ◌<◌}
+use Rattle.words.specs.Words.{arith, ℕ, List, refl, ◌∙◌, sym, ap, true, get_or, false, Bool, subst, add-one, zero-add}
 use Rattle.memory.specs.Part.{part}
 use Rattle.memory.specs.Number.{Bytes}
 use Rattle.memory.proofs.Parts.{get_or-part}

@@ -1,6 +1,7 @@
 -- To unmark the rows of the positions that leave moves the window on.
 -- One row unmarked: other, moved_to. Row after row: Leaving, leaving_none, leaving_more. A rise past the width: position, window_free, moved-past.
-use Rattle.words.specs.Words.{◌≡◌, arith, ℕ, ◌≤◌, ◌+◌, List, ◌<◌, refl, ◌∙◌, sym, ap, ◌-◌, ◌%◌, suc, true, zero, get_or, false, Bool, subst, ◌≢◌, mod-lt}
+use Rattle.std.specs.Prelude.{◌≡◌, ◌≤◌, ◌+◌, ◌<◌, ◌-◌, ◌%◌, ◌≢◌}
+use Rattle.words.specs.Words.{arith, ℕ, List, refl, ◌∙◌, sym, ap, suc, true, zero, get_or, false, Bool, subst, mod-lt}
 use Rattle.words.specs.Words.{ℕ_discrete, add-zero, add-one, mod-eq_of_lt, mod-add-mod, true≢false, add_assoc, add-mod_right}
 use native.Mathlib.Nat.{add-mod-mod}
 use Rattle.decoder.specs.Field.{Ops}

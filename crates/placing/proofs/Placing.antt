@@ -2,7 +2,8 @@
 -- The row stored: stored_copy. The search for the next row: Passed, passed_none, passed_more, passed_here, passed_all.
 -- One row cleared: cleared_zero, cleared_unused, cleared_row. Row after row: Cleared, cleared_none, cleared_more, cleared_skip.
 -- The whole call: settled. What it is in the model: places.
-use Rattle.words.specs.Words.{◌≡◌, arith, ℕ, ◌≤◌, ◌+◌, List, length, ◌<◌, refl, ◌∙◌, sym, ap, ◌-◌, ◌%◌, suc, true, zero, get_or, false, subst, ◌≢◌, ap₂, mod-lt}
+use Rattle.std.specs.Prelude.{◌≡◌, ◌≤◌, ◌+◌, ◌<◌, ◌-◌, ◌%◌, ◌≢◌}
+use Rattle.words.specs.Words.{arith, ℕ, List, length, refl, ◌∙◌, sym, ap, suc, true, zero, get_or, false, subst, ap₂, mod-lt}
 use Rattle.words.specs.Words.{ℕ_discrete, add-zero, bit_xor, zero-add, true≢false, get_or-append}
 use Rattle.field.specs.Gf256.{product}
 use Rattle.memory.specs.Part.{part, splice}

@@ -1,5 +1,6 @@
 -- A position is known just where its row's first flag is 2; and how many are known.
-use Rattle.words.specs.Words.{◌≡◌, arith, ℕ, ◌≤◌, ◌+◌, List, ◌<◌, refl, ◌∙◌, sym, ap, ◌-◌, some, ◌%◌, suc, true, none, get_or, false, Bool, Option, ◌≢◌, eqb}
+use Rattle.std.specs.Prelude.{◌≡◌, ◌≤◌, ◌+◌, ◌<◌, ◌-◌, ◌%◌, ◌≢◌}
+use Rattle.words.specs.Words.{arith, ℕ, List, refl, ◌∙◌, sym, ap, some, suc, true, none, get_or, false, Bool, Option, eqb}
 use Rattle.words.specs.Words.{mod-lt, ℕ_discrete, dec_lt, eqb-true, eqb-false}
 use mathlib.Core.Option.{some-ne-none}
 use Rattle.memory.specs.Part.{part}

@@ -1,6 +1,7 @@
 -- What the calls that change the receiver's memory, and the one that looks a position up, promise. Each holds for every window that the
 -- memory holds: `b` is the window's oldest position, `oldest` the row of it.
-use Rattle.words.specs.Words.{◌≡◌, ℕ, ◌≤◌, ◌+◌, List, ◌<◌, some, ◌%◌, true, none, ◌*◌, false, Bool}
+use Rattle.std.specs.Prelude.{◌≡◌, ◌≤◌, ◌+◌, ◌<◌, ◌%◌, ◌*◌}
+use Rattle.words.specs.Words.{ℕ, List, some, true, none, false, Bool}
 use Rattle.decoder.specs.Bytes.{Coded}
 use Rattle.decoder.specs.Model.{Row, State, Rref, known}
 use Rattle.decoder.specs.Receiver.{advance_by, insert_all, newly}

@@ -1,6 +1,7 @@
 -- Contracts of inner functions: a reader need not believe these.
 -- A column is cleared in the rows in use, by a working row `l`, and the working row becomes the row of that column.
-use Rattle.words.specs.Words.{◌≡◌, ℕ, ◌≤◌, ◌+◌, List, length, ◌<◌, true, ◌*◌, get_or, false, ◌≢◌}
+use Rattle.std.specs.Prelude.{◌≡◌, ◌≤◌, ◌+◌, ◌<◌, ◌*◌, ◌≢◌}
+use Rattle.words.specs.Words.{ℕ, List, length, true, get_or, false}
 use Rattle.decoder.specs.Bytes.{byte, Coded}
 use Rattle.decoder.specs.Model.{State}
 use Rattle.decoder.specs.TableSteps.{add_line, total}

@@ -2,7 +2,8 @@
 // And whether a position is known, which its row's first flag says.
 #![tactic(auto)]
 
-ghost use Rattle.words.specs.Words.{◌≡◌, ◌≤◌, ◌+◌, length, ◌<◌, get_or, ◌≢◌};
+ghost use Rattle.std.specs.Prelude.{◌≡◌, ◌≤◌, ◌+◌, ◌<◌, ◌≢◌};
+ghost use Rattle.words.specs.Words.{length, get_or};
 ghost use Rattle.table.specs.Window.{row_offset, Fits};
 ghost use Rattle.placing.specs.Place.{RowsMoved, KnownAt, Committed};
 ghost use Rattle.table.specs.Packet.{Works};

@@ -1,5 +1,6 @@
 -- Laws of texts that are put into a buffer one after the other.
-use Rattle.words.specs.Words.{◌≡◌, arith, ℕ, ◌≤◌, ◌+◌, List, length, ◌<◌, refl, ◌∙◌, sym, ap, ◌-◌, [], ◌∷◌, ◌++◌, ◌^◌, drop, take, add-one, length-append, set}
+use Rattle.std.specs.Prelude.{◌≡◌, ◌≤◌, ◌+◌, ◌<◌, ◌-◌, ◌∷◌, ◌++◌, ◌^◌}
+use Rattle.words.specs.Words.{arith, ℕ, List, length, refl, ◌∙◌, sym, ap, [], drop, take, add-one, length-append, set}
 use Rattle.words.specs.Words.{append_assoc, length-set, length-take, take_at, drop-drop}
 use lib.Seq.{take-suc-set, drop-set-lt}
 use Rattle.memory.specs.Part.{part, splice}

@@ -1,5 +1,6 @@
 -- Computed from the definitions: document 02's sample.
-use Rattle.words.specs.Words.{◌≡◌, refl, ◌++◌}
+use Rattle.std.specs.Prelude.{◌≡◌, ◌++◌}
+use Rattle.words.specs.Words.{refl}
 use Rattle.text.specs.Text.{ascii, digit, decimal_within, decimal}
 use Rattle.printing.specs.Printed.{record_line, last_line}
 

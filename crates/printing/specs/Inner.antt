@@ -1,5 +1,6 @@
 -- What the printing functions promise: of a buffer, the bytes before a place are kept, a text follows them, and what comes after it is kept.
-use Rattle.words.specs.Words.{◌≡◌, ℕ, ◌≤◌, ◌+◌, List, length, ◌++◌, drop, take}
+use Rattle.std.specs.Prelude.{◌≡◌, ◌≤◌, ◌+◌, ◌++◌}
+use Rattle.words.specs.Words.{ℕ, List, length, drop, take}
 
 -- `text` was put into `out` from `at` on, up to `next`; `out'` is the buffer afterwards
 pub record Put (out out' : List ℕ) (at next : ℕ) (text : List ℕ) : Type 0 where

@@ -1,5 +1,6 @@
 -- The lines that are printed of a capture (document 02, No. 4).
-use Rattle.words.specs.Words.{ℕ, List, ◌++◌}
+use Rattle.std.specs.Prelude.{◌++◌}
+use Rattle.words.specs.Words.{ℕ, List}
 use Rattle.text.specs.Text.{ascii, field}
 
 -- the line of the n-th packet line: its answer, and how many positions became known

@@ -1,7 +1,8 @@
 // Text in a buffer: texts, decimal numbers, and the lines that are printed of a capture (document 02, No. 4).
 #![tactic(auto)]
 
-ghost use Rattle.words.specs.Words.{◌≤◌, ◌+◌, length, ◌++◌};
+ghost use Rattle.std.specs.Prelude.{◌≤◌, ◌+◌, ◌++◌};
+ghost use Rattle.words.specs.Words.{length};
 ghost use Rattle.text.specs.Text.{decimal};
 ghost use Rattle.printing.specs.Printed.{record_line, last_line};
 ghost use Rattle.printing.specs.Inner.{Put};

@@ -1,5 +1,6 @@
 -- The answers of the packet calls with their draws.
-use Rattle.words.specs.Words.{◌≡◌, arith, ℕ, ◌≤◌, List, ◌∙◌, sym, ap, some, some-injective}
+use Rattle.std.specs.Prelude.{◌≡◌, ◌≤◌}
+use Rattle.words.specs.Words.{arith, ℕ, List, ◌∙◌, sym, ap, some, some-injective}
 use Rattle.table.specs.Packet.{Works}
 use Rattle.wire.specs.declared.Refusal.{Refusal}
 use Rattle.wire.specs.declared.Answer.TheVariants.{Done, Refused}

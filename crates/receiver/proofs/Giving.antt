@@ -1,5 +1,6 @@
 -- From what the code reads in the memory to what the ADU call promises.
-use Rattle.words.specs.Words.{◌≡◌, ℕ, length, List, refl, ◌∙◌, sym, ap, some, ◌%◌, none, subst, ◌^◌, lt-ltb, ◌≢◌, none-ne-some}
+use Rattle.std.specs.Prelude.{◌≡◌, ◌%◌, ◌^◌, ◌≢◌}
+use Rattle.words.specs.Words.{ℕ, length, List, refl, ◌∙◌, sym, ap, some, none, subst, lt-ltb, none-ne-some}
 use Rattle.wire.specs.declared.Refusal.{Refusal}
 use Rattle.wire.specs.Numbers.{number_of}
 use Rattle.wire.specs.Flows.{flows_in}

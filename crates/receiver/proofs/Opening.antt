@@ -1,5 +1,6 @@
 -- Opening: what it answers, and that the memory it leaves holds a fresh receiver.
-use Rattle.words.specs.Words.{◌≡◌, arith, ℕ, ◌≤◌, length, ◌+◌, List, ◌<◌, refl, ◌∙◌, sym, ap, ◌-◌, some, ◌%◌, none, get_or, false, subst, drop, le-ltb, lt-ltb}
+use Rattle.std.specs.Prelude.{◌≡◌, ◌≤◌, ◌+◌, ◌<◌, ◌-◌, ◌%◌}
+use Rattle.words.specs.Words.{arith, ℕ, length, List, refl, ◌∙◌, sym, ap, some, none, get_or, false, subst, drop, le-ltb, lt-ltb}
 use Rattle.words.specs.Words.{ltb, length-replicate, ext_get_or, some-injective, dec_lt, mod-lt}
 use lib.ListN.{get_or-replicate}
 use Rattle.memory.specs.Part.{part, splice}

@@ -1,5 +1,6 @@
 -- From where a symbol was found to what the call for its place promises.
-use Rattle.words.specs.Words.{◌≡◌, ℕ, ◌≤◌, length, ◌+◌, List, refl, sym, ap, Bool, subst}
+use Rattle.std.specs.Prelude.{◌≡◌, ◌≤◌, ◌+◌}
+use Rattle.words.specs.Words.{ℕ, length, List, refl, sym, ap, Bool, subst}
 use Rattle.memory.specs.Part.{part}
 use Rattle.wire.specs.declared.Refusal.{Refusal}
 use Rattle.wire.specs.declared.Answer.TheVariants.{Done, Refused}

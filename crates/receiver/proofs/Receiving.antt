@@ -2,7 +2,8 @@
 -- Laws:
 --   a check fails: received_failed
 --   all checks passed: location_width, location_size, Ready, ready, accept_asks, received_contradiction, received_done
-use Rattle.words.specs.Words.{◌≡◌, arith, ℕ, ◌≤◌, length, ◌+◌, List, ◌<◌, refl, ◌∙◌, sym, ap, ◌-◌, some, ◌%◌, none, subst, Option, none-ne-some, ◌^◌}
+use Rattle.std.specs.Prelude.{◌≡◌, ◌≤◌, ◌+◌, ◌<◌, ◌-◌, ◌%◌, ◌^◌}
+use Rattle.words.specs.Words.{arith, ℕ, length, List, refl, ◌∙◌, sym, ap, some, none, subst, Option, none-ne-some}
 use Rattle.words.specs.Words.{some-injective, mod-add-mod, mod-lt}
 use Rattle.origins.proofs.Hearing.{hears_alike}
 use Rattle.wire.specs.declared.Setting.{Setting}

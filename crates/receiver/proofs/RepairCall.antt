@@ -1,6 +1,7 @@
 -- The call for a repair packet that passed its checks: its equations at its place, and what each of its answers comes to.
 -- Laws: gather_asks, call_contradicts, call_done
-use Rattle.words.specs.Words.{◌≡◌, arith, ℕ, ◌≤◌, length, ◌+◌, List, ◌<◌, refl, ◌∙◌, sym, ap, ◌*◌, subst, ap₂}
+use Rattle.std.specs.Prelude.{◌≡◌, ◌≤◌, ◌+◌, ◌<◌, ◌*◌}
+use Rattle.words.specs.Words.{arith, ℕ, length, List, refl, ◌∙◌, sym, ap, subst, ap₂}
 use Rattle.wire.specs.Packets.{protected_count, repair_symbols}
 use Rattle.decoder.specs.Bytes.{Coded}
 use Rattle.table.specs.Window.{Fits}

@@ -1,6 +1,7 @@
 -- From what is found in the memory to what the symbol calls promise.
 use denote.Ref.{Bor}
-use Rattle.words.specs.Words.{◌≡◌, arith, ℕ, ◌+◌, List, length, ◌<◌, refl, ◌∙◌, sym, ap, [], some, ◌%◌, true, none, false, Bool, subst, Option}
+use Rattle.std.specs.Prelude.{◌≡◌, ◌+◌, ◌<◌, ◌%◌}
+use Rattle.words.specs.Words.{arith, ℕ, List, length, refl, ◌∙◌, sym, ap, [], some, true, none, false, Bool, subst, Option}
 use Rattle.words.specs.Words.{inl, inr, cond, ltb, ltb-true}
 use Rattle.memory.specs.Part.{LiesAt}
 use Rattle.memory.proofs.Parts.{length_part}

@@ -1,6 +1,7 @@
 -- The call for a source packet that passed its checks: its equations at its place, and what each of its answers comes to.
 -- Laws: gather_asks, call_contradicts, call_done
-use Rattle.words.specs.Words.{◌≡◌, arith, ℕ, ◌≤◌, length, ◌+◌, List, ◌<◌, refl, ◌∙◌, sym, ap, ◌-◌, subst, lt-ltb, cond, ap₂}
+use Rattle.std.specs.Prelude.{◌≡◌, ◌≤◌, ◌+◌, ◌<◌, ◌-◌}
+use Rattle.words.specs.Words.{arith, ℕ, length, List, refl, ◌∙◌, sym, ap, subst, lt-ltb, cond, ap₂}
 use Rattle.memory.specs.Part.{part}
 use Rattle.wire.specs.declared.Setting.{Setting}
 use Rattle.wire.specs.Packets.{symbol_count, source_symbols, source_adu}

@@ -1,5 +1,5 @@
 -- What the answers of a packet call, of the symbol call and of the ADU call say.
-use Rattle.words.specs.Words.{◌+◌, ◌*◌}
+use Rattle.std.specs.Prelude.{◌+◌, ◌*◌}
 use Rattle.wire.specs.Numbers.{number_of}
 use Rattle.wire.specs.declared.Answer.{Answer}
 use Rattle.wire.specs.declared.Answer.TheVariants.{Done, Refused}

@@ -1,5 +1,6 @@
 -- What is printed of a capture is what is claimed of it.
-use Rattle.words.specs.Words.{◌≡◌, arith, ℕ, ◌≤◌, List, length, ◌<◌, refl, ◌∙◌, sym, ap, some, ◌∷◌, none, subst, Option, take, leb, le-leb, ◌&&◌}
+use Rattle.std.specs.Prelude.{◌≡◌, ◌≤◌, ◌<◌, ◌∷◌, ◌&&◌}
+use Rattle.words.specs.Words.{arith, ℕ, List, length, refl, ◌∙◌, sym, ap, some, none, subst, Option, take, leb, le-leb}
 use Rattle.words.specs.Words.{some-injective, length-append, leb-true}
 use Rattle.wire.specs.declared.Setting.{Setting}
 use Rattle.wire.specs.declared.Scheme.{Scheme}

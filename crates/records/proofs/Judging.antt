@@ -1,5 +1,6 @@
 -- Each record is what the history asks of its line, and nothing else can be one.
-use Rattle.words.specs.Words.{◌≡◌, arith, ℕ, List, ◌<◌, refl, ◌∙◌, sym, ap, [], some, ◌∷◌, suc, true, zero, none, false, Bool, subst, Option, ◌≢◌, ap₂, cond}
+use Rattle.std.specs.Prelude.{◌≡◌, ◌<◌, ◌∷◌, ◌≢◌}
+use Rattle.words.specs.Words.{arith, ℕ, List, refl, ◌∙◌, sym, ap, [], some, suc, true, zero, none, false, Bool, subst, Option, ap₂, cond}
 use Rattle.words.specs.Words.{eqb, some-injective, none-ne-some, ne_eqb}
 use Rattle.wire.specs.declared.Setting.{Setting}
 use Rattle.history.specs.History.{Call, source-call, repair-call, OfBytes, esi_of, Side, behind, ahead, Reading, fails, located, check, from_side, read_source}

@@ -4,7 +4,8 @@
 --   worked_through
 --   Goes: packet lines
 --   stops
-use Rattle.words.specs.Words.{◌≡◌, arith, ℕ, ◌≤◌, ◌+◌, List, length, refl, ◌∙◌, sym, ap, [], some, ◌∷◌, true, none, false, ◌++◌, Bool, subst, Option, take, ltb}
+use Rattle.std.specs.Prelude.{◌≡◌, ◌≤◌, ◌+◌, ◌∷◌, ◌++◌}
+use Rattle.words.specs.Words.{arith, ℕ, List, length, refl, ◌∙◌, sym, ap, [], some, true, none, false, Bool, subst, Option, take, ltb}
 use Rattle.words.specs.Words.{le-leb, length-append, append_assoc, leb-true, ltb-true, ⊎_elim, min, ltb-false}
 use Rattle.wire.specs.declared.Setting.{Setting}
 use Rattle.history.specs.Model.{State, opened}

@@ -1,5 +1,6 @@
 -- Sums of records, and what a line makes of a capture's standing.
-use Rattle.words.specs.Words.{◌≡◌, arith, ℕ, ◌≤◌, ◌+◌, List, length, ◌<◌, refl, ◌∙◌, sym, ap, ◌-◌, [], some, ◌∷◌, suc, true, zero, none, false, ◌++◌, Bool}
+use Rattle.std.specs.Prelude.{◌≡◌, ◌≤◌, ◌+◌, ◌<◌, ◌-◌, ◌∷◌, ◌++◌}
+use Rattle.words.specs.Words.{arith, ℕ, List, length, refl, ◌∙◌, sym, ap, [], some, suc, true, zero, none, false, Bool}
 use Rattle.words.specs.Words.{Option, take, cond, ltb, eqb, length-append, lt-ltb, append_assoc, append-nil, le-ltb, ltb-true, ltb-false}
 use Rattle.wire.specs.declared.Setting.{Setting}
 use Rattle.history.specs.Model.{State}

@@ -4,7 +4,8 @@
 --   final-over: where more is wanted
 --   taken_none, taken_stops, taken_goes, taken-part, taken_end: how much is taken
 --   taken_exactly
-use Rattle.words.specs.Words.{◌≡◌, arith, ℕ, ◌≤◌, ◌+◌, List, length, ◌<◌, refl, ◌∙◌, sym, ap, [], ◌∷◌, suc, true, zero, false, ◌++◌, Bool, subst, drop, take}
+use Rattle.std.specs.Prelude.{◌≡◌, ◌≤◌, ◌+◌, ◌<◌, ◌∷◌, ◌++◌}
+use Rattle.words.specs.Words.{arith, ℕ, List, length, refl, ◌∙◌, sym, ap, [], suc, true, zero, false, Bool, subst, drop, take}
 use Rattle.words.specs.Words.{cond, ltb, eqb, length-append, ltb-true, ltb-false, append_assoc, append-nil, ne_eqb, take-append_seam, take_at, add-zero}
 use Rattle.words.specs.Words.{le_of_suc-le-suc}
 use lib.Seq.{drop-append_seam, drop_at}

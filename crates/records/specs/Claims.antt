@@ -1,5 +1,6 @@
 -- What is claimed of what is printed (proofs/Claims), in the words of document 02, No. 4, and of the receiver's history.
-use Rattle.words.specs.Words.{◌≡◌, ℕ, ◌≤◌, ◌+◌, List, length, ◌<◌, [], some, ◌∷◌, true, none, ◌++◌, Option, ◌≢◌, take, cond, eqb, ◌↔◌}
+use Rattle.std.specs.Prelude.{◌≡◌, ◌≤◌, ◌+◌, ◌<◌, ◌∷◌, ◌++◌, ◌≢◌, ◌↔◌}
+use Rattle.words.specs.Words.{ℕ, List, length, [], some, true, none, Option, take, cond, eqb}
 use Rattle.wire.specs.declared.Setting.{Setting}
 use Rattle.wire.specs.Settings.{scheme_number, Valid}
 use Rattle.wire.specs.Answers.{Said, value, refusal}

@@ -1,6 +1,7 @@
 -- Computed from the definitions: document 02's sample, answers of each kind, inputs that end without 0A, bad first lines, and
 -- what is taken of a piece.
-use Rattle.words.specs.Words.{◌≡◌, [], ℕ, List, refl, some, ◌∷◌, none, map}
+use Rattle.std.specs.Prelude.{◌≡◌, ◌∷◌}
+use Rattle.words.specs.Words.{[], ℕ, List, refl, some, none, map}
 use Prim.Native.String.{String}
 use Rattle.history.specs.Computing.{computing}
 use Rattle.rows.specs.Combination.{combination}

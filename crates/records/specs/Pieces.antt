@@ -1,5 +1,6 @@
 -- A capture that is handed over in pieces: any number of calls of `feed`, one after the other, and then `finish`.
-use Rattle.words.specs.Words.{◌≡◌, ℕ, ◌≤◌, List, length, [], ◌∷◌, true, ◌++◌, take, ◌⊎◌}
+use Rattle.std.specs.Prelude.{◌≡◌, ◌≤◌, ◌∷◌, ◌++◌, ◌⊎◌}
+use Rattle.words.specs.Words.{ℕ, List, length, [], true, take}
 use Rattle.wire.specs.declared.Setting.{Setting}
 use Rattle.lines.specs.Promises.{AllUnbroken, Unbroken, joined}
 use Rattle.records.specs.declared.Progress.{Progress}

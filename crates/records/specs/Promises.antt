@@ -1,6 +1,7 @@
 -- What the calls that work through a capture promise. p is the progress, line the bytes kept of a line that has not ended, m the receiver's memory;
 -- p', line', m' these afterwards.
-use Rattle.words.specs.Words.{◌≡◌, ℕ, ◌≤◌, List, length, ◌<◌, [], true, false, ◌++◌, Bool, take, leb}
+use Rattle.std.specs.Prelude.{◌≡◌, ◌≤◌, ◌<◌, ◌++◌}
+use Rattle.words.specs.Words.{ℕ, List, length, [], true, false, Bool, take, leb}
 use Rattle.lines.specs.Lines.{lines_from}
 use Rattle.records.specs.declared.Stage.{Stage}
 use Rattle.records.specs.declared.Stage.TheVariants.{Opening, Working, Closed}

@@ -1,5 +1,6 @@
 -- The records of packet lines, their lines and their sums (document 02, No. 4), and the limits.
-use Rattle.words.specs.Words.{ℕ, ◌+◌, List, length, [], ◌∷◌, ◌++◌, cond, eqb}
+use Rattle.std.specs.Prelude.{◌+◌, ◌∷◌, ◌++◌}
+use Rattle.words.specs.Words.{ℕ, List, length, [], cond, eqb}
 use Rattle.printing.specs.Printed.{record_line, last_line}
 use Rattle.records.specs.declared.Record.{Record}
 

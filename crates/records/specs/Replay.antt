@@ -1,6 +1,7 @@
 -- What is printed of a capture, as a definition that computes. That it is what document 02 asks for is claimed in the history's words (Claims): a
 -- reader need not believe this.
-use Rattle.words.specs.Words.{ℕ, List, length, [], some, ◌∷◌, none, ◌++◌, Option, take, cond, leb, ◌&&◌}
+use Rattle.std.specs.Prelude.{◌∷◌, ◌++◌, ◌&&◌}
+use Rattle.words.specs.Words.{ℕ, List, length, [], some, none, Option, take, cond, leb}
 use Rattle.wire.specs.declared.Setting.{Setting}
 use Rattle.wire.specs.Settings.{setting_of}
 use Rattle.wire.specs.Answers.{Said, value, refusal}

@@ -1,5 +1,6 @@
 -- Where a capture stands after lines of it, and what is printed on the way. The claims need only that it is kept: a reader need not believe it.
-use Rattle.words.specs.Words.{◌≡◌, ℕ, ◌≤◌, ◌+◌, List, length, [], some, ◌∷◌, none, ◌*◌, ◌++◌, Option, take, cond, ltb, min}
+use Rattle.std.specs.Prelude.{◌≡◌, ◌≤◌, ◌+◌, ◌∷◌, ◌*◌, ◌++◌}
+use Rattle.words.specs.Words.{ℕ, List, length, [], some, none, Option, take, cond, ltb, min}
 use Rattle.wire.specs.declared.Setting.{Setting}
 use Rattle.wire.specs.Flows.{all_flows}
 use Rattle.history.specs.Model.{State, opened}

@@ -1,6 +1,7 @@
 -- How much of a piece of the input is taken, and the lines that end in it, as definitions that compute. Lines are taken as long as there is input, room for
 -- a record's line and more is wanted: both are asked before the first and after the end of each.
-use Rattle.words.specs.Words.{◌≡◌, ℕ, ◌≤◌, ◌+◌, List, length, ◌<◌, [], ◌∷◌, true, false, ◌++◌, Bool, take, cond, leb, eqb, ◌&&◌, not}
+use Rattle.std.specs.Prelude.{◌≡◌, ◌≤◌, ◌+◌, ◌<◌, ◌∷◌, ◌++◌, ◌&&◌}
+use Rattle.words.specs.Words.{ℕ, List, length, [], true, false, Bool, take, cond, leb, eqb, not}
 use Rattle.records.specs.Records.{most_lines}
 use Rattle.records.specs.Standing.{Standing, opening, closed, working, after_line, printed_line, after, printed_by}
 

@@ -1,5 +1,6 @@
 -- What a packet of a block says, byte by byte: in each byte its symbol is that of the code.
-use Rattle.words.specs.Words.{◌≡◌, refl, sym, ap, ◌∙◌, ◌↔◌, List, [], ◌∷◌, ℕ, ◌<◌, zero-add, arith, dec_lt, get_or, ext_get_or}
+use Rattle.std.specs.Prelude.{◌≡◌, ◌↔◌, ◌∷◌, ◌<◌}
+use Rattle.words.specs.Words.{refl, sym, ap, ◌∙◌, List, [], ℕ, zero-add, arith, dec_lt, get_or, ext_get_or}
 use lib.ListN.{get_or-eq_default}
 use Rattle.rows.specs.Combination.{dot, coefficient, tabulate, combination}
 use Rattle.rows.proofs.Dot.{dot_same}

@@ -1,5 +1,6 @@
 -- The numbers that were counted, as a list.
-use Rattle.words.specs.Words.{◌≡◌, refl, ap, List, [], ◌∷◌, ℕ, zero, suc, ◌≤◌, ◌<◌, arith, not-suc-le-zero, ℕ_discrete, length, get_or}
+use Rattle.std.specs.Prelude.{◌≡◌, ◌∷◌, ◌≤◌, ◌<◌}
+use Rattle.words.specs.Words.{refl, ap, List, [], ℕ, zero, suc, arith, not-suc-le-zero, ℕ_discrete, length, get_or}
 use Rattle.history.specs.History.{Counted, nothing, has, lacks}
 
 -- every number has the property or has it not, so they can be counted

@@ -1,5 +1,6 @@
 -- What packets of a block say together: with k different ESIs all of it, with fewer the source symbols that were heard.
-use Rattle.words.specs.Words.{◌≡◌, refl, sym, ap, ◌∙◌, ◌↔◌, inl, inr, List, [], ◌∷◌, ℕ, zero, suc, ◌≤◌, ◌<◌, arith, ℕ_discrete, bit_xor, xor_lt, length, get_or}
+use Rattle.std.specs.Prelude.{◌≡◌, ◌↔◌, ◌∷◌, ◌≤◌, ◌<◌}
+use Rattle.words.specs.Words.{refl, sym, ap, ◌∙◌, inl, inr, List, [], ℕ, zero, suc, arith, ℕ_discrete, bit_xor, xor_lt, length, get_or}
 use Rattle.words.specs.Words.{ext_get_or}
 use native.Mathlib.Decide.{dec_le}
 use Rattle.field.specs.Powers.{power}

@@ -1,5 +1,6 @@
 -- An encoder's packets: the block itself satisfies all of them, so they agree, and what they tell is the block.
-use Rattle.words.specs.Words.{◌≡◌, refl, sym, ap, ◌↔◌, List, [], ◌∷◌, ℕ, ◌≤◌, ◌<◌, arith, dec_lt, get_or}
+use Rattle.std.specs.Prelude.{◌≡◌, ◌↔◌, ◌∷◌, ◌≤◌, ◌<◌}
+use Rattle.words.specs.Words.{refl, sym, ap, List, [], ℕ, arith, dec_lt, get_or}
 use lib.ListN.{get_or-eq_default}
 use Rattle.rows.proofs.Combinations.{length-combination}
 use Rattle.history.specs.History.{Filling, symbols_at, Satisfied, All, Known}

@@ -1,5 +1,6 @@
 -- The system of equations says what the packets say: it contradicts where they do, and it shows what they tell.
-use Rattle.words.specs.Words.{◌≡◌, refl, ◌↔◌, ◌⊎◌, inl, inr, none, some, List, [], ◌∷◌, ℕ, ◌≤◌, ◌<◌, arith, dec_lt, get_or}
+use Rattle.std.specs.Prelude.{◌≡◌, ◌↔◌, ◌⊎◌, ◌∷◌, ◌≤◌, ◌<◌}
+use Rattle.words.specs.Words.{refl, inl, inr, none, some, List, [], ℕ, arith, dec_lt, get_or}
 use native.Mathlib.Decide.{dec_le}
 use lib.ListN.{get_or-eq_default}
 use Rattle.memory.specs.Number.{Bytes}

@@ -1,6 +1,7 @@
 -- The packets of a block as a plain history (document 02, No. 9), in the words of the receiver's: positions 0 to k - 1 hold the source symbols, and each
 -- packet says that its symbol is the combination of them with the coefficients of its ESI. What is proved of them (proofs/Recovery).
-use Rattle.words.specs.Words.{◌≡◌, ◌↔◌, ◌⊎◌, List, [], ◌∷◌, map, ℕ, ◌≤◌, ◌<◌, length, get_or}
+use Rattle.std.specs.Prelude.{◌≡◌, ◌↔◌, ◌⊎◌, ◌∷◌, ◌≤◌, ◌<◌}
+use Rattle.words.specs.Words.{List, [], map, ℕ, length, get_or}
 use Rattle.field.specs.Powers.{power}
 use Rattle.memory.specs.Number.{Bytes}
 use Rattle.history.specs.Symbol.{bytes_of}

@@ -1,6 +1,7 @@
 -- The block that computes: the packets' equations over its k positions, in reduced row echelon form (crate `decoder`), in place of the packets.
 -- That its answers are the history's is proved (proofs/Tracking): a reader of the claims need not believe it.
-use Rattle.words.specs.Words.{◌≡◌, ◌↔◌, ◌⊎◌, none, some, List, [], ◌∷◌, ℕ, ◌≤◌, ◌<◌, get_or}
+use Rattle.std.specs.Prelude.{◌≡◌, ◌↔◌, ◌⊎◌, ◌∷◌, ◌≤◌, ◌<◌}
+use Rattle.words.specs.Words.{none, some, List, [], ℕ, get_or}
 use Rattle.decoder.specs.Bytes.{byte, Coded}
 use Rattle.decoder.specs.Model.{Row, State, Sat, Rref, insert, known}
 use Rattle.decoder.specs.Receiver.{empty, Accepted}

@@ -1,5 +1,6 @@
 -- The packets of one block f, as an encoder makes them, and what they tell (proofs/Sending).
-use Rattle.words.specs.Words.{◌≡◌, ◌↔◌, List, [], ◌∷◌, map, ℕ, ◌≤◌, ◌<◌}
+use Rattle.std.specs.Prelude.{◌≡◌, ◌↔◌, ◌∷◌, ◌≤◌, ◌<◌}
+use Rattle.words.specs.Words.{List, [], map, ℕ}
 use Rattle.rows.specs.Combination.{combination}
 use Rattle.history.specs.Symbol.{bytes_of}
 use Rattle.history.specs.History.{Filling, symbols_at, Satisfied, All, Consistent, Known}

@@ -1,7 +1,8 @@
 -- What holds on any memory: it was opened for a block, or the call says 3.
 -- Laws: any_memory.
 use denote.Ref.{Bor}
-use Rattle.words.specs.Words.{◌≡◌, ℕ, ◌≤◌, length, ◌+◌, List, refl, ◌∙◌, sym, ap, [], some, none, subst, Option, ◌⊎◌, inl, inr}
+use Rattle.std.specs.Prelude.{◌≡◌, ◌≤◌, ◌+◌, ◌⊎◌}
+use Rattle.words.specs.Words.{ℕ, length, List, refl, ◌∙◌, sym, ap, [], some, none, subst, Option, inl, inr}
 use Rattle.memory.specs.Part.{LiesAt}
 use Rattle.wire.specs.declared.Answer.{Answer}
 use Rattle.wire.specs.Answers.{value, said}

@@ -1,6 +1,7 @@
 -- The checks before 11 in plain numbers.
 -- Laws: opening_judged; identifier-is; all_checked.
-use Rattle.words.specs.Words.{◌≡◌, arith, ℕ, ◌≤◌, length, ◌+◌, List, ◌<◌, refl, ◌∙◌, sym, ap, ◌-◌, [], ◌*◌, true, false, Bool, get_or, leb, eqb}
+use Rattle.std.specs.Prelude.{◌≡◌, ◌≤◌, ◌+◌, ◌<◌, ◌-◌, ◌*◌}
+use Rattle.words.specs.Words.{arith, ℕ, length, List, refl, ◌∙◌, sym, ap, [], true, false, Bool, get_or, leb, eqb}
 use Rattle.words.specs.Words.{le-leb, lt-leb, lt-ltb, eq-eqb, ne_eqb, eqb-true, ltb-true, leb-true}
 use Rattle.memory.specs.Part.{part}
 use Rattle.memory.specs.Number.{number, Bytes}

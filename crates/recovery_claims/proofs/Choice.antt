@@ -1,5 +1,6 @@
 -- Two recoveries that meet what is claimed answer the same calls alike.
-use Rattle.words.specs.Words.{◌≡◌, ℕ, List, refl, ◌∙◌, sym, ap, ap₂, [], ◌∷◌, ◌++◌, subst, map}
+use Rattle.std.specs.Prelude.{◌≡◌, ◌∷◌, ◌++◌}
+use Rattle.words.specs.Words.{ℕ, List, refl, ◌∙◌, sym, ap, ap₂, [], subst, map}
 use Rattle.wire.specs.Answers.{Said, value, refusal, said}
 use Rattle.history.proofs.Counting.{counted_once}
 use Rattle.claims.specs.Run.{Step}

@@ -1,6 +1,7 @@
 -- Memory of one of the four kinds gives 3 to the calls of the others: its header names its kind.
 -- Laws: kind_of; none-says: no header of a kind, and its calls say 3; four_kinds.
-use Rattle.words.specs.Words.{◌≡◌, arith, ℕ, List, ◌<◌, refl, ◌∙◌, sym, ap, some, none, subst, take, ◌≢◌, [], none-ne-some, length}
+use Rattle.std.specs.Prelude.{◌≡◌, ◌<◌, ◌≢◌}
+use Rattle.words.specs.Words.{arith, ℕ, List, refl, ◌∙◌, sym, ap, some, none, subst, take, [], none-ne-some, length}
 use Rattle.wire.specs.declared.Setting.{Setting}
 use Rattle.wire.specs.Answers.{Said, refusal}
 use Rattle.wire.specs.Stored.{setting_in}

@@ -6,8 +6,9 @@
 --   symbol_judged: what the calls that show a symbol answer
 --   every_list
 use denote.Ref.{Bor}
-use Rattle.words.specs.Words.{◌≡◌, arith, ℕ, ◌≤◌, ◌+◌, List, length, ◌<◌, refl, ◌∙◌, sym, ap, [], some, none, ◌∷◌, true, false, ◌++◌, Bool, subst, Option, ◌↔◌}
-use Rattle.words.specs.Words.{ℕ_discrete, dec_lt, lt-ltb, le-ltb, zero-add, true≢false, ◌⊎◌, inr, inl, cond, ◌≢◌}
+use Rattle.std.specs.Prelude.{◌≡◌, ◌≤◌, ◌+◌, ◌<◌, ◌∷◌, ◌++◌, ◌↔◌, ◌⊎◌, ◌≢◌}
+use Rattle.words.specs.Words.{arith, ℕ, List, length, refl, ◌∙◌, sym, ap, [], some, none, true, false, Bool, subst, Option}
+use Rattle.words.specs.Words.{ℕ_discrete, dec_lt, lt-ltb, le-ltb, zero-add, true≢false, inr, inl, cond}
 use Rattle.memory.specs.Part.{part}
 use Rattle.wire.specs.declared.Answer.{Answer}
 use Rattle.wire.specs.Answers.{Said, value, refusal, said}

@@ -5,8 +5,9 @@
 --   after: a memory for the next system, with the header and the bytes past its size that it had
 --   next: a call
 --   runs_exist
-use Rattle.words.specs.Words.{◌≡◌, arith, ℕ, ◌≤◌, length, ◌+◌, List, ◌<◌, refl, ◌∙◌, sym, ap, [], some, none, ◌%◌, ◌∷◌, suc, zero, true, false, Bool, subst, Option, drop}
-use Rattle.words.specs.Words.{take, ◌≢◌, cond, leb, dec_lt, map, mod-eq_of_lt, leb-true, ◌&&◌, ◌||◌, ltb, inr, none-ne-some, some-injective, length-replicate, length-take, length-drop, ◌-◌}
+use Rattle.std.specs.Prelude.{◌≡◌, ◌≤◌, ◌+◌, ◌<◌, ◌%◌, ◌∷◌, ◌≢◌, ◌&&◌, ◌||◌, ◌-◌}
+use Rattle.words.specs.Words.{arith, ℕ, length, List, refl, ◌∙◌, sym, ap, [], some, none, suc, zero, true, false, Bool, subst, Option, drop}
+use Rattle.words.specs.Words.{take, cond, leb, dec_lt, map, mod-eq_of_lt, leb-true, ltb, inr, none-ne-some, some-injective, length-replicate, length-take, length-drop}
 use lib.Seq.{take-take}
 use Rattle.memory.specs.Part.{part, splice}
 use Rattle.memory.specs.Contained.{Contained}

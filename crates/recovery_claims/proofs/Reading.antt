@@ -1,7 +1,8 @@
 -- What the checks before 11 make of a call: what passes has the form of a packet, and what was written passes.
 -- Laws: IsLocated, IsFails, number_is, packet_is; read_formed, reading_formed; source_reads, repair_reads.
-use Rattle.words.specs.Words.{◌≡◌, arith, ℕ, ◌≤◌, length, ◌+◌, List, ◌<◌, refl, ◌∙◌, sym, ap, ◌-◌, [], ◌∷◌, true, false, Bool, subst, cond, leb, le-leb}
-use Rattle.words.specs.Words.{◌++◌, eq-eqb, lt-ltb, length-append, take, take-append_seam, take_all}
+use Rattle.std.specs.Prelude.{◌≡◌, ◌≤◌, ◌+◌, ◌<◌, ◌-◌, ◌∷◌, ◌++◌}
+use Rattle.words.specs.Words.{arith, ℕ, length, List, refl, ◌∙◌, sym, ap, [], true, false, Bool, subst, cond, leb, le-leb}
+use Rattle.words.specs.Words.{eq-eqb, lt-ltb, length-append, take, take-append_seam, take_all}
 use Rattle.memory.specs.Part.{part}
 use Rattle.memory.proofs.Parts.{length_part}
 use Rattle.memory.proofs.Number.{bytes-part}

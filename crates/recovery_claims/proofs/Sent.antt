@@ -6,7 +6,8 @@
 --   all_sent: so it satisfies all that was accepted
 --   sent_accepted, sent-shown
 use denote.Ref.{Bor}
-use Rattle.words.specs.Words.{◌≡◌, arith, ℕ, ◌≤◌, ◌+◌, List, length, ◌<◌, refl, ◌∙◌, sym, ap, ap₂, ◌-◌, [], ◌∷◌, get_or, ◌++◌, true, false, Bool, subst, drop, take, cond, leb, suc, zero}
+use Rattle.std.specs.Prelude.{◌≡◌, ◌≤◌, ◌+◌, ◌<◌, ◌-◌, ◌∷◌, ◌++◌}
+use Rattle.words.specs.Words.{arith, ℕ, List, length, refl, ◌∙◌, sym, ap, ap₂, [], get_or, true, false, Bool, subst, drop, take, cond, leb, suc, zero}
 use Rattle.words.specs.Words.{length-append, append-nil, get_or-append, take-append_seam, dec_lt}
 use lib.ListN.{get_or-eq_default}
 use lib.Seq.{get_or_at}

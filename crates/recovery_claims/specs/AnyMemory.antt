@@ -1,7 +1,8 @@
 -- What holds on any memory, one that no call has left too: what each call of a block's two ends leaves as it was, and where what it shows lies. By the promises
 -- alone: m, out and v are memory, output and working memory, m', out' and v' these afterwards; a is the answer. The calls that show change no memory.
 use Rattle.std.specs.Borrow.{Bor}
-use Rattle.words.specs.Words.{◌≡◌, ℕ, ◌≤◌, length, ◌+◌, List, [], ◌≢◌, ◌⊎◌}
+use Rattle.std.specs.Prelude.{◌≡◌, ◌≤◌, ◌+◌, ◌≢◌, ◌⊎◌}
+use Rattle.words.specs.Words.{ℕ, length, List, []}
 use Rattle.memory.specs.Part.{LiesAt}
 use Rattle.memory.specs.Contained.{Contained}
 use Rattle.wire.specs.declared.Answer.{Answer}

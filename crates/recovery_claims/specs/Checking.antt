@@ -1,6 +1,7 @@
 -- The checks before 11 a second time, in plain numbers: what opening and the packet calls refuse, in which order (document 02, No. 9). An identifier is read
 -- from six bytes: block number, ESI, number of source symbols.
-use Rattle.words.specs.Words.{◌≡◌, ℕ, ◌≤◌, length, ◌+◌, List, ◌<◌, ◌-◌, ◌*◌, get_or}
+use Rattle.std.specs.Prelude.{◌≡◌, ◌≤◌, ◌+◌, ◌<◌, ◌-◌, ◌*◌}
+use Rattle.words.specs.Words.{ℕ, length, List, get_or}
 use Rattle.memory.specs.Part.{part}
 use Rattle.wire.specs.Answers.{said}
 use Rattle.wire.specs.declared.Answer.{Answer}

@@ -1,5 +1,6 @@
 -- What is claimed of a recovery leaves it no choice.
-use Rattle.words.specs.Words.{◌≡◌, List, map}
+use Rattle.std.specs.Prelude.{◌≡◌}
+use Rattle.words.specs.Words.{List, map}
 use Rattle.wire.specs.Answers.{said}
 use Rattle.claims.specs.Run.{Step}
 use Rattle.claims.specs.NoChoice.{Alike}

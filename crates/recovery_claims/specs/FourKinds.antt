@@ -1,6 +1,7 @@
 -- Memory that was opened for one of the four kinds of end gives 3 to the calls of the others (document 02, No. 9). By the promises alone.
 use Rattle.std.specs.Borrow.{Bor}
-use Rattle.words.specs.Words.{◌≡◌, ℕ, List, ◌<◌, take, ◌≢◌, []}
+use Rattle.std.specs.Prelude.{◌≡◌, ◌<◌, ◌≢◌}
+use Rattle.words.specs.Words.{ℕ, List, take, []}
 use Rattle.wire.specs.declared.Setting.{Setting}
 use Rattle.wire.specs.declared.Answer.{Answer}
 use Rattle.wire.specs.Answers.{Said, value, refusal, said}

@@ -1,7 +1,8 @@
 -- What is claimed of every list of packet calls from an opening to recover a block (document 02, No. 9). The packets accepted say, each, that its symbol is the
 -- one with its ESI (`says`, crate `recovery`: `Recovery.polynomial` and `sources` tell what that is); a block is a filling of the positions 0 to k - 1.
 use Rattle.std.specs.Borrow.{Bor}
-use Rattle.words.specs.Words.{◌≡◌, ℕ, ◌≤◌, List, [], ◌<◌, ◌∷◌, true, ◌++◌, ◌↔◌, ◌⊎◌}
+use Rattle.std.specs.Prelude.{◌≡◌, ◌≤◌, ◌<◌, ◌∷◌, ◌++◌, ◌↔◌, ◌⊎◌}
+use Rattle.words.specs.Words.{ℕ, List, [], true}
 use Rattle.memory.specs.Part.{part}
 use Rattle.wire.specs.declared.Answer.{Answer}
 use Rattle.wire.specs.Answers.{Said, value, refusal, said}

@@ -1,5 +1,6 @@
 -- The claims are not empty: from every memory opened to recover a block, every list of packet calls has a run.
-use Rattle.words.specs.Words.{◌≡◌, ℕ, List, map}
+use Rattle.std.specs.Prelude.{◌≡◌}
+use Rattle.words.specs.Words.{ℕ, List, map}
 use Rattle.wire.specs.declared.Answer.{Answer}
 use Rattle.wire.specs.Answers.{value, said}
 use Rattle.claims.specs.Run.{Step}

@@ -1,5 +1,6 @@
 -- A list of packet calls to recover a block, each as its promise allows (without the draws: `answer_of`), and the packets that the list has accepted.
-use Rattle.words.specs.Words.{ℕ, List, length, [], ◌∷◌}
+use Rattle.std.specs.Prelude.{◌∷◌}
+use Rattle.words.specs.Words.{ℕ, List, length, []}
 use Rattle.history.specs.History.{OfBytes}
 use Rattle.wire.specs.Answers.{Said, value, refusal, said}
 use Rattle.claims.specs.Run.{Step}

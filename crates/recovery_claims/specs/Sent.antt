@@ -1,6 +1,7 @@
 -- What becomes of the packets that an encoder wrote where the block is recovered.
 use Rattle.std.specs.Borrow.{Bor}
-use Rattle.words.specs.Words.{◌≡◌, ℕ, ◌≤◌, List, length, [], ◌<◌, ◌∷◌, get_or, ◌++◌, take}
+use Rattle.std.specs.Prelude.{◌≡◌, ◌≤◌, ◌<◌, ◌∷◌, ◌++◌}
+use Rattle.words.specs.Words.{ℕ, List, length, [], get_or, take}
 use Rattle.wire.specs.declared.Answer.TheVariants.{Done}
 use Rattle.wire.specs.Answers.{Said, value, said}
 use Rattle.wire.specs.Opening.{working_memory}

@@ -23,7 +23,8 @@
 // Y  shows the symbol of a block with an ESI
 #![tactic(auto)]
 
-ghost use Rattle.words.specs.Words.{◌≡◌, ◌≤◌, length};
+ghost use Rattle.std.specs.Prelude.{◌≡◌, ◌≤◌};
+ghost use Rattle.words.specs.Words.{length};
 
 use block_receiver::{PacketAnswer, SymbolAnswer};
 use report::print;

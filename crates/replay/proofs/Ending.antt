@@ -9,8 +9,9 @@
 --   packet-past: the most have been read
 --   packet-read: a record is printed
 --   line-opening, line_working, line_closed
-use Rattle.words.specs.Words.{◌≡◌, arith, ℕ, ◌≤◌, ◌+◌, List, length, ◌<◌, refl, ◌∙◌, sym, ap, ◌-◌, [], some, ◌%◌, ◌∷◌, true, none, false, ◌++◌, Bool, subst}
-use Rattle.words.specs.Words.{Option, ◌^◌, take, cond, eqb, length-append, append-nil}
+use Rattle.std.specs.Prelude.{◌≡◌, ◌≤◌, ◌+◌, ◌<◌, ◌-◌, ◌%◌, ◌∷◌, ◌++◌, ◌^◌}
+use Rattle.words.specs.Words.{arith, ℕ, List, length, refl, ◌∙◌, sym, ap, [], some, true, none, false, Bool, subst}
+use Rattle.words.specs.Words.{Option, take, cond, eqb, length-append, append-nil}
 use Rattle.wire.specs.declared.Setting.{Setting}
 use Rattle.printing.specs.Printed.{record_line}
 use Rattle.printing.specs.Inner.{Put}

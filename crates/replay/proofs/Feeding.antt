@@ -11,8 +11,9 @@
 --   wanted: a line is to be taken
 --   ends_there: nothing more is taken
 --   fed: the piece was worked through
-use Rattle.words.specs.Words.{◌≡◌, arith, ℕ, ◌≤◌, ◌+◌, List, length, ◌<◌, refl, ◌∙◌, sym, ap, ◌-◌, [], ◌∷◌, suc, true, zero, false, ◌++◌, Bool, subst, drop}
-use Rattle.words.specs.Words.{take, ltb, leb, ◌&&◌, add-one, lt-ltb, append_assoc, length-drop, leb-true, append-nil, ltb-true, not, take_all}
+use Rattle.std.specs.Prelude.{◌≡◌, ◌≤◌, ◌+◌, ◌<◌, ◌-◌, ◌∷◌, ◌++◌, ◌&&◌}
+use Rattle.words.specs.Words.{arith, ℕ, List, length, refl, ◌∙◌, sym, ap, [], suc, true, zero, false, Bool, subst, drop}
+use Rattle.words.specs.Words.{take, ltb, leb, add-one, lt-ltb, append_assoc, length-drop, leb-true, append-nil, ltb-true, not, take_all}
 use Rattle.words.specs.Words.{ltb-false, le-leb, drop-cons, drop-drop, drop-length, take-append-drop, length-append, length-take-le, add_assoc, ap₂}
 use Rattle.std.proofs.Common.{drop_of_length-le, take-suc, take-add}
 use Rattle.memory.specs.Part.{part}

@@ -1,5 +1,6 @@
 -- The input's end.
-use Rattle.words.specs.Words.{◌≡◌, arith, ℕ, List, length, refl, ◌∙◌, sym, ap, [], ◌∷◌, ◌++◌, subst, append-nil}
+use Rattle.std.specs.Prelude.{◌≡◌, ◌∷◌, ◌++◌}
+use Rattle.words.specs.Words.{arith, ℕ, List, length, refl, ◌∙◌, sym, ap, [], subst, append-nil}
 use Rattle.printing.specs.Printed.{last_line}
 use Rattle.printing.specs.Inner.{Put}
 use Rattle.lines.specs.Lines.{lines_from}

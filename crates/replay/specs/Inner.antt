@@ -1,5 +1,6 @@
 -- Contracts of inner functions.
-use Rattle.words.specs.Words.{◌≡◌, ℕ, ◌≤◌, ◌+◌, List, length, ◌<◌, [], ◌∷◌, ◌++◌, drop, take}
+use Rattle.std.specs.Prelude.{◌≡◌, ◌≤◌, ◌+◌, ◌<◌, ◌∷◌, ◌++◌}
+use Rattle.words.specs.Words.{ℕ, List, length, [], drop, take}
 use Rattle.printing.specs.Printed.{last_line}
 use Rattle.lines.specs.Lines.{lines_from}
 use Rattle.records.specs.declared.Record.{Record}

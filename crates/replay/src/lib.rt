@@ -2,7 +2,8 @@
 // size, and no more is kept of it than a line.
 #![tactic(auto)]
 
-ghost use Rattle.words.specs.Words.{◌≡◌, ◌≤◌, ◌+◌, length, cond, ltb, leb, eqb, ◌&&◌, not};
+ghost use Rattle.std.specs.Prelude.{◌≡◌, ◌≤◌, ◌+◌, ◌&&◌};
+ghost use Rattle.words.specs.Words.{length, cond, ltb, leb, eqb, not};
 ghost use Rattle.records.specs.Promises.{is_over, Begun, Fed, Finished};
 ghost use Rattle.memory.specs.Contained.{Contained};
 ghost use Rattle.replay.specs.Inner.{Lent, Counted, moved_to, FirstEnded, PacketEnded, LineEnded, LineFed, InputEnded};

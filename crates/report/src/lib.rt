@@ -1,7 +1,7 @@
 // What the printing programs share: numbers, bytes in hexadecimal and refusals on standard output, and calls whose answers are printed.
 #![tactic(auto)]
 
-ghost use Rattle.words.specs.Words.{◌<◌};
+ghost use Rattle.std.specs.Prelude.{◌<◌};
 
 use receiver::{PacketAnswer, SymbolAnswer};
 use sender::RepairAnswer;

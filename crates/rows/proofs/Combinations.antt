@@ -1,5 +1,6 @@
 -- Laws of `combined` and `combination`.
-use Rattle.words.specs.Words.{◌≡◌, refl, ◌∙◌, sym, ap, arith, List, [], ◌*◌, ◌+◌, ◌-◌, ◌<◌, ◌≤◌, add-one, add-suc, add-zero, bit_xor, ext_get_or, get_or}
+use Rattle.std.specs.Prelude.{◌≡◌, ◌*◌, ◌+◌, ◌-◌, ◌<◌, ◌≤◌}
+use Rattle.words.specs.Words.{refl, ◌∙◌, sym, ap, arith, List, [], add-one, add-suc, add-zero, bit_xor, ext_get_or, get_or}
 use Rattle.words.specs.Words.{le_of_suc-le-suc, length, length-replicate, not-suc-le-zero, replicate, suc, xor_comm, xor_zero_r, zero, ℕ}
 use native.Mathlib.Nat.{add-mul}
 use lib.ListN.{get_or-replicate}

@@ -1,5 +1,6 @@
 -- Laws of `add_scaled` and `scaled`.
-use Rattle.words.specs.Words.{◌≡◌, refl, ◌∙◌, sym, ap, arith, List, [], ◌<◌, ◌∷◌, bit_xor, drop, get_or, le_of_suc-le-suc, length, not-suc-le-zero}
+use Rattle.std.specs.Prelude.{◌≡◌, ◌<◌, ◌∷◌}
+use Rattle.words.specs.Words.{refl, ◌∙◌, sym, ap, arith, List, [], bit_xor, drop, get_or, le_of_suc-le-suc, length, not-suc-le-zero}
 use Rattle.words.specs.Words.{replicate, suc, take, xor_zero_r, zero, ℕ}
 use lib.ListN.{length-map}
 use Rattle.field.proofs.Laws.{product-zero, product-zero_right, product-one, product_assoc, product-sum_right}

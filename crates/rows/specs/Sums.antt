@@ -1,5 +1,6 @@
 -- Rows of a memory that are added one by one to what is there. `combination` says the same of symbols (`get_or-combined`, `combined_sums`).
-use Rattle.words.specs.Words.{ℕ, ◌+◌, List, length, suc, zero, ◌*◌}
+use Rattle.std.specs.Prelude.{◌+◌, ◌*◌}
+use Rattle.words.specs.Words.{ℕ, List, length, suc, zero}
 use Rattle.memory.specs.Part.{part}
 use Rattle.rows.specs.Rows.{add_scaled}
 use Rattle.rows.specs.Combination.{coefficient}

@@ -1,5 +1,6 @@
 -- Two senders whose calls are judged so answer and write alike.
-use Rattle.words.specs.Words.{◌≡◌, arith, ℕ, ◌≤◌, ◌+◌, List, length, refl, ◌∙◌, sym, ap, [], ◌∷◌, true, ◌*◌, false, ◌++◌, Bool, subst, map, ap₂, append_assoc}
+use Rattle.std.specs.Prelude.{◌≡◌, ◌≤◌, ◌+◌, ◌∷◌, ◌*◌, ◌++◌}
+use Rattle.words.specs.Words.{arith, ℕ, List, length, refl, ◌∙◌, sym, ap, [], true, false, Bool, subst, map, ap₂, append_assoc}
 use Rattle.words.specs.Words.{append-nil, ℕ_discrete}
 use Rattle.wire.specs.declared.Setting.{Setting}
 use Rattle.wire.specs.declared.Answer.{Answer}

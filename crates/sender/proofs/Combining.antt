@@ -3,9 +3,10 @@
 -- one after the other: joined-more; carried_none, carried_more, carried_all (record Carried); get_or-map_in, length_symbols, get_or-symbols
 -- the packet: symbols-of, packed_refused, packed_done; sized_map, sized, counted, length-packet, draws_packet
 -- the call: repairs, repair-made, refused-made
-use Rattle.words.specs.Words.{◌≡◌, arith, ℕ, ◌≤◌, ◌+◌, List, length, ◌<◌, refl, ◌∙◌, sym, ap, [], some, ◌%◌, ◌∷◌, suc, true, zero, ◌*◌, get_or, false, ◌++◌, Bool}
-use Rattle.words.specs.Words.{◌^◌, take, ltb, some-injective, map, add-one, length-append, not-suc-le-zero, le_of_suc-le-suc, zero-mul, append_assoc}
-use Rattle.words.specs.Words.{replicate, append-nil, ◌||◌, not, take_all, mul-le-mul, take-append-drop, one-mul}
+use Rattle.std.specs.Prelude.{◌≡◌, ◌≤◌, ◌+◌, ◌<◌, ◌%◌, ◌∷◌, ◌*◌, ◌++◌, ◌^◌, ◌||◌}
+use Rattle.words.specs.Words.{arith, ℕ, List, length, refl, ◌∙◌, sym, ap, [], some, suc, true, zero, get_or, false, Bool}
+use Rattle.words.specs.Words.{take, ltb, some-injective, map, add-one, length-append, not-suc-le-zero, le_of_suc-le-suc, zero-mul, append_assoc}
+use Rattle.words.specs.Words.{replicate, append-nil, not, take_all, mul-le-mul, take-append-drop, one-mul}
 use native.Mathlib.Nat.{add-mul}
 use lib.ListN.{length-map}
 use lib.Seq.{take-suc}

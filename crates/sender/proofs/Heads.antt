@@ -3,8 +3,9 @@
 -- reading: found, none_short, none_held, none_next, none-setting; opened (record Opened)
 -- refusal 3: holds_header, zeros_unopened, other_unopened, short_unopened
 -- writing: part_head, header_kept, flows_kept; counts_chain, counts_held, counts_next, counts-esi, counts-written, counts-flows
-use Rattle.words.specs.Words.{◌≡◌, arith, ℕ, ◌≤◌, ◌+◌, List, length, ◌<◌, refl, ◌∙◌, sym, ap, some, true, none, ◌*◌, false, ◌++◌, Bool, Option, ◌^◌, take, ltb}
-use Rattle.words.specs.Words.{leb, le-leb, ◌&&◌, some-injective, none-ne-some, lt-leb, lt-ltb, zero-add, leb-true, le-ltb, ltb-true, length-take}
+use Rattle.std.specs.Prelude.{◌≡◌, ◌≤◌, ◌+◌, ◌<◌, ◌*◌, ◌++◌, ◌^◌, ◌&&◌}
+use Rattle.words.specs.Words.{arith, ℕ, List, length, refl, ◌∙◌, sym, ap, some, true, none, false, Bool, Option, take, ltb}
+use Rattle.words.specs.Words.{leb, le-leb, some-injective, none-ne-some, lt-leb, lt-ltb, zero-add, leb-true, le-ltb, ltb-true, length-take}
 use Rattle.words.specs.Words.{mul-le-mul}
 use lib.Seq.{take-take}
 use Rattle.memory.specs.Part.{part, splice}

@@ -4,8 +4,9 @@
 --   adds_judged, key_is, repairs_judged
 --   sender_judged, announced-only: every list of calls
 --   opening_judged: every opening
-use Rattle.words.specs.Words.{◌≡◌, arith, ℕ, ◌≤◌, ◌+◌, List, length, ◌<◌, refl, ◌∙◌, sym, ap, [], ◌∷◌, true, ◌*◌, false, Bool, subst}
-use Rattle.words.specs.Words.{drop, ltb, length-drop, ◌||◌, not, lt-ltb, le-ltb, suc-mul, mul-le-mul_right, ℕ_discrete}
+use Rattle.std.specs.Prelude.{◌≡◌, ◌≤◌, ◌+◌, ◌<◌, ◌∷◌, ◌*◌, ◌||◌}
+use Rattle.words.specs.Words.{arith, ℕ, List, length, refl, ◌∙◌, sym, ap, [], true, false, Bool, subst}
+use Rattle.words.specs.Words.{drop, ltb, length-drop, not, lt-ltb, le-ltb, suc-mul, mul-le-mul_right, ℕ_discrete}
 use Rattle.memory.specs.Part.{splice}
 use Rattle.wire.specs.declared.Scheme.{Scheme}
 use Rattle.wire.specs.declared.Scheme.TheVariants.{Gf2, Gf256}

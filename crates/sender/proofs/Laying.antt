@@ -1,5 +1,6 @@
 -- Coefficients laid by slot, one after the other around the window.
-use Rattle.words.specs.Words.{◌≡◌, arith, ℕ, ◌≤◌, ◌+◌, List, length, ◌<◌, refl, ◌∙◌, sym, ap, [], ◌%◌, ◌∷◌, suc, zero, get_or, take, ap₂, mod-lt, ℕ_discrete}
+use Rattle.std.specs.Prelude.{◌≡◌, ◌≤◌, ◌+◌, ◌<◌, ◌%◌, ◌∷◌}
+use Rattle.words.specs.Words.{arith, ℕ, List, length, refl, ◌∙◌, sym, ap, [], suc, zero, get_or, take, ap₂, mod-lt, ℕ_discrete}
 use Rattle.words.specs.Words.{add-zero, add-one, bit_xor, mod-eq_of_lt, mod-add-mod, set, length-set, xor_zero_r, xor_comm}
 use lib.Seq.{get_or-set_same, get_or-set_other}
 use Rattle.field.specs.Gf256.{product}

@@ -1,5 +1,6 @@
 -- From the case that a call came to, to what it promises.
-use Rattle.words.specs.Words.{◌≡◌, arith, ℕ, ◌≤◌, ◌+◌, List, length, ◌<◌, refl, ◌∙◌, sym, ap, [], some, true, none, false, subst, drop, some-injective}
+use Rattle.std.specs.Prelude.{◌≡◌, ◌≤◌, ◌+◌, ◌<◌}
+use Rattle.words.specs.Words.{arith, ℕ, List, length, refl, ◌∙◌, sym, ap, [], some, true, none, false, subst, drop, some-injective}
 use Rattle.words.specs.Words.{none-ne-some, lt-ltb, le-ltb}
 use Rattle.memory.specs.Part.{splice}
 use Rattle.memory.proofs.Parts.{length-splice, past-splice}

@@ -1,7 +1,8 @@
 -- Making repair: the window as the memory has it is the sender's, the lists of coefficients give the packet's symbols, and what each case of the call
 -- comes to.
-use Rattle.words.specs.Words.{◌≡◌, arith, ℕ, ◌≤◌, ◌+◌, List, length, ◌<◌, refl, ◌∙◌, sym, ap, ◌-◌, [], ◌%◌, suc, true, zero, ◌*◌, get_or, false, Bool, ◌^◌, cond}
-use Rattle.words.specs.Words.{ltb, eqb, add-zero, ne_eqb, lt-ltb, mod-eq_of_lt, not-suc-le-zero, mod-add-mod, eq-eqb, le_of_suc-le-suc, lit<, le-ltb, ◌||◌, not}
+use Rattle.std.specs.Prelude.{◌≡◌, ◌≤◌, ◌+◌, ◌<◌, ◌-◌, ◌%◌, ◌*◌, ◌^◌, ◌||◌}
+use Rattle.words.specs.Words.{arith, ℕ, List, length, refl, ◌∙◌, sym, ap, [], suc, true, zero, get_or, false, Bool, cond}
+use Rattle.words.specs.Words.{ltb, eqb, add-zero, ne_eqb, lt-ltb, mod-eq_of_lt, not-suc-le-zero, mod-add-mod, eq-eqb, le_of_suc-le-suc, lit<, le-ltb, not}
 use Rattle.words.specs.Words.{min, get_or-drop, add-mod_right, ext_get_or, ltb-false, not-false}
 use native.Mathlib.Nat.{add-mod_left}
 use Rattle.memory.specs.Part.{part}

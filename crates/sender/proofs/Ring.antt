@@ -1,5 +1,6 @@
 -- The window's symbols stand in the slots of their positions modulo the width: what one symbol more does.
-use Rattle.words.specs.Words.{◌≡◌, arith, ℕ, ◌≤◌, ◌+◌, List, length, ◌<◌, refl, ◌∙◌, sym, [], ◌%◌, ◌∷◌, ◌*◌, get_or, ◌++◌, mod-lt, ◌/◌, ℕ_discrete, dec_lt}
+use Rattle.std.specs.Prelude.{◌≡◌, ◌≤◌, ◌+◌, ◌<◌, ◌%◌, ◌∷◌, ◌*◌, ◌++◌, ◌/◌}
+use Rattle.words.specs.Words.{arith, ℕ, List, length, refl, ◌∙◌, sym, [], get_or, mod-lt, ℕ_discrete, dec_lt}
 use Rattle.words.specs.Words.{length-append, mod-add-mod, append_assoc, append-nil, suc-mul, get_or-append, mul-le-mul_right}
 use native.Mathlib.Nat.{mul-le-mul_left, mul-suc, div-add-mod}
 use lib.Seq.{get_or-append_seam}

@@ -1,6 +1,7 @@
 -- What a sender's memory holds after every list of its calls.
-use Rattle.words.specs.Words.{◌≡◌, arith, ℕ, ◌+◌, List, length, refl, ◌∙◌, sym, ap, [], some, ◌∷◌, true, none, false, ◌++◌, Bool, Option, ltb, append_assoc}
-use Rattle.words.specs.Words.{append-nil, ◌||◌, not}
+use Rattle.std.specs.Prelude.{◌≡◌, ◌+◌, ◌∷◌, ◌++◌, ◌||◌}
+use Rattle.words.specs.Words.{arith, ℕ, List, length, refl, ◌∙◌, sym, ap, [], some, true, none, false, Bool, Option, ltb, append_assoc}
+use Rattle.words.specs.Words.{append-nil, not}
 use Rattle.wire.specs.declared.Setting.{Setting}
 use Rattle.wire.specs.Settings.{scheme_number, Valid, setting_of}
 use Rattle.wire.specs.Flows.{announced}

@@ -3,8 +3,9 @@
 --   placed_all: symbols placed one after the other
 --   add, make: one call
 --   runs, runs_exist: all calls
-use Rattle.words.specs.Words.{◌≡◌, arith, ℕ, ◌≤◌, ◌+◌, List, length, ◌<◌, refl, ap, [], some, ◌%◌, ◌∷◌, suc, true, zero, ◌*◌, get_or, false, Bool, ◌^◌, take, ltb}
-use Rattle.words.specs.Words.{map, lt-ltb, le-ltb, ◌||◌, not, min, take_all}
+use Rattle.std.specs.Prelude.{◌≡◌, ◌≤◌, ◌+◌, ◌<◌, ◌%◌, ◌∷◌, ◌*◌, ◌^◌, ◌||◌}
+use Rattle.words.specs.Words.{arith, ℕ, List, length, refl, ap, [], some, suc, true, zero, get_or, false, Bool, take, ltb}
+use Rattle.words.specs.Words.{map, lt-ltb, le-ltb, not, min, take_all}
 use lib.Seq.{take-suc}
 use Rattle.memory.specs.Part.{splice}
 use Rattle.wire.specs.declared.Refusal.{Refusal}

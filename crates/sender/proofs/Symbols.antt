@@ -1,5 +1,6 @@
 -- A sender's symbols have E bytes.
-use Rattle.words.specs.Words.{◌≡◌, arith, ℕ, ◌+◌, List, length, ◌<◌, ◌-◌, [], ◌∷◌, suc, zero, ◌*◌, get_or, ◌++◌, drop, ◌^◌, take, mod-lt, ◌/◌, not-suc-le-zero}
+use Rattle.std.specs.Prelude.{◌≡◌, ◌+◌, ◌<◌, ◌-◌, ◌∷◌, ◌*◌, ◌++◌, ◌^◌, ◌/◌}
+use Rattle.words.specs.Words.{arith, ℕ, List, length, [], suc, zero, get_or, drop, take, mod-lt, not-suc-le-zero}
 use Rattle.words.specs.Words.{le_of_suc-le-suc, lit<}
 use Rattle.memory.specs.Number.{bytes, Bytes}
 use Rattle.wire.specs.Packets.{zeros, chunks, symbol_count, adui, source_symbols, Sized}

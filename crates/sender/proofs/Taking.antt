@@ -1,5 +1,6 @@
 -- Taking an ADU into the window: the header and the slots afterwards are those of the sender that took it.
-use Rattle.words.specs.Words.{◌≡◌, arith, ℕ, ◌≤◌, ◌+◌, List, length, refl, ◌∙◌, sym, ap, ◌-◌, [], some, ◌%◌, ◌*◌, drop, ◌^◌, mod-lt, some-injective}
+use Rattle.std.specs.Prelude.{◌≡◌, ◌≤◌, ◌+◌, ◌-◌, ◌%◌, ◌*◌, ◌^◌}
+use Rattle.words.specs.Words.{arith, ℕ, List, length, refl, ◌∙◌, sym, ap, [], some, drop, mod-lt, some-injective}
 use Rattle.words.specs.Words.{length-append, not-suc-le-zero, mod-add-mod, length-drop, lit<, min}
 use native.Mathlib.Nat.{zero-mod}
 use lib.Seq.{drop-nil}

@@ -1,6 +1,7 @@
 -- What each call of a sender comes to (document 01, "Packets"): the refusals in their order ("Why a call says no"; document 02, No. 7), else the packet that
 -- is written and the sender after it. Refusal 3 comes before all of these.
-use Rattle.words.specs.Words.{ℕ, ◌+◌, List, length, [], some, ◌%◌, none, ◌*◌, Bool, Option, ◌^◌, cond, ltb, eqb, map, ◌||◌, not}
+use Rattle.std.specs.Prelude.{◌+◌, ◌%◌, ◌*◌, ◌^◌, ◌||◌}
+use Rattle.words.specs.Words.{ℕ, List, length, [], some, none, Bool, Option, cond, ltb, eqb, map, not}
 use Rattle.wire.specs.declared.Setting.{Setting}
 use Rattle.wire.specs.Numbers.{within}
 use Rattle.wire.specs.Settings.{setting_of}

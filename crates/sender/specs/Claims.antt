@@ -1,5 +1,6 @@
 -- All that is claimed of the sender's calls, from an opening on.
-use Rattle.words.specs.Words.{◌≡◌, ℕ, ◌≤◌, List, length, ◌<◌, [], ◌∷◌, get_or, ◌++◌, ◌^◌, map}
+use Rattle.std.specs.Prelude.{◌≡◌, ◌≤◌, ◌<◌, ◌∷◌, ◌++◌, ◌^◌}
+use Rattle.words.specs.Words.{ℕ, List, length, [], get_or, map}
 use Rattle.memory.specs.Number.{Bytes}
 use Rattle.wire.specs.declared.Setting.{Setting}
 use Rattle.wire.specs.Settings.{scheme_number}

@@ -1,6 +1,7 @@
 -- Computed from the definitions of the calls: refusals in their order, the limits of memory and of ADUs, flows that are announced and not, the keys and
 -- density thresholds that are written, and windows that have lost symbols: one table, one result.
-use Rattle.words.specs.Words.{◌≡◌, ℕ, List, length, refl, ◌-◌, [], ◌∷◌, get_or, ◌++◌, map}
+use Rattle.std.specs.Prelude.{◌≡◌, ◌-◌, ◌∷◌, ◌++◌}
+use Rattle.words.specs.Words.{ℕ, List, length, refl, [], get_or, map}
 use Rattle.tinymt.specs.Computing.{computing}
 use Rattle.field.specs.Gf256.{product}
 use Rattle.memory.specs.Part.{part}

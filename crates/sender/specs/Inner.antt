@@ -1,6 +1,7 @@
 -- Contracts of inner functions: a reader need not believe these.
 -- They speak of a memory and of the header that was read from it, whether or not the memory holds a sender.
-use Rattle.words.specs.Words.{◌≡◌, ℕ, ◌≤◌, ◌+◌, List, length, ◌<◌, ◌-◌, [], some, ◌%◌, ◌∷◌, suc, true, zero, none, ◌*◌, get_or, false, ◌++◌, Bool, Option, drop}
+use Rattle.std.specs.Prelude.{◌≡◌, ◌≤◌, ◌+◌, ◌<◌, ◌-◌, ◌%◌, ◌∷◌, ◌*◌, ◌++◌}
+use Rattle.words.specs.Words.{ℕ, List, length, [], some, suc, true, zero, none, get_or, false, Bool, Option, drop}
 use Rattle.words.specs.Words.{take, map}
 use Rattle.memory.specs.Part.{part, splice}
 use Rattle.memory.specs.Number.{bytes}

@@ -2,7 +2,8 @@
 -- "Packets" and "Why a call says no"; document 02, No. 7; RFC 8681, sections 3.3, 4.1.2 and 4.1.3). m, out and a are memory, output and answer; m' and out'
 -- memory and output afterwards; `flows` are the 32 bytes of the opening; `taken` are the symbols of the ADUs that the sender took before the call, the oldest
 -- first. Each record has the refusals in the order of their tests; 3 has no place here, since the calls follow an opening.
-use Rattle.words.specs.Words.{◌≡◌, ℕ, ◌≤◌, ◌+◌, List, length, ◌<◌, ◌-◌, [], ◌%◌, ◌∷◌, true, ◌*◌, ◌++◌, drop, ◌^◌, cond, eqb, ◌&&◌, map, min}
+use Rattle.std.specs.Prelude.{◌≡◌, ◌≤◌, ◌+◌, ◌<◌, ◌-◌, ◌%◌, ◌∷◌, ◌*◌, ◌++◌, ◌^◌, ◌&&◌}
+use Rattle.words.specs.Words.{ℕ, List, length, [], true, drop, cond, eqb, map, min}
 use Rattle.memory.specs.Contained.{Contained}
 use Rattle.wire.specs.declared.Setting.{Setting}
 use Rattle.wire.specs.Settings.{scheme_number}

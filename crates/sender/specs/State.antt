@@ -1,6 +1,7 @@
 -- What a sender is (document 01, "Packets"; document 02, No. 7; RFC 8681, section 3.3), and how its memory holds it: a header, which keeps the flows, then
 -- a slot of E bytes for each symbol of the window.
-use Rattle.words.specs.Words.{◌≡◌, ℕ, ◌≤◌, ◌+◌, List, length, ◌<◌, ◌-◌, [], some, ◌%◌, none, ◌*◌, get_or, ◌++◌, Option, drop, ◌^◌, cond, ltb, leb, ◌&&◌}
+use Rattle.std.specs.Prelude.{◌≡◌, ◌≤◌, ◌+◌, ◌<◌, ◌-◌, ◌%◌, ◌*◌, ◌++◌, ◌^◌, ◌&&◌}
+use Rattle.words.specs.Words.{ℕ, List, length, [], some, none, get_or, Option, drop, cond, ltb, leb}
 use Rattle.memory.specs.Part.{part}
 use Rattle.memory.specs.Number.{number}
 use Rattle.wire.specs.declared.Setting.{Setting}

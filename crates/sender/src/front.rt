@@ -1,5 +1,6 @@
 // The header at the front of a sender's memory.
-ghost use Rattle.words.specs.Words.{◌≡◌, ◌≤◌, length, ◌<◌};
+ghost use Rattle.std.specs.Prelude.{◌≡◌, ◌≤◌, ◌<◌};
+ghost use Rattle.words.specs.Words.{length};
 ghost use Rattle.memory.specs.Part.{splice};
 ghost use Rattle.wire.specs.Settings.{Valid};
 ghost use Rattle.sender.specs.State.{memory_size, header_in};

@@ -1,5 +1,6 @@
 // The window's slots: the symbol of position p stands in slot p mod width.
-ghost use Rattle.words.specs.Words.{◌≡◌, ◌≤◌, ◌+◌, length, ◌<◌, some, ◌*◌};
+ghost use Rattle.std.specs.Prelude.{◌≡◌, ◌≤◌, ◌+◌, ◌<◌, ◌*◌};
+ghost use Rattle.words.specs.Words.{length, some};
 ghost use Rattle.memory.specs.Part.{part, splice};
 ghost use Rattle.wire.specs.Packets.{longest_adu, symbol_count, adui};
 ghost use Rattle.sender.specs.State.{header_in};

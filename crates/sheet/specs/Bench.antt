@@ -1,7 +1,8 @@
 -- The bench sheet of document 01 (C1 to C12, C10 as document 02 has it), the small examples of its refusals, cases at the limits of place and density,
 -- of joining, of starts and of the ADU call, computed from the definitions that the promises use, from the packets' bytes on: one table, one result. All
 -- flows are announced throughout (document 02, No. 7).
-use Rattle.words.specs.Words.{◌≡◌, [], ℕ, List, refl, some, ◌∷◌, none, ◌*◌, Option, map}
+use Rattle.std.specs.Prelude.{◌≡◌, ◌∷◌, ◌*◌}
+use Rattle.words.specs.Words.{[], ℕ, List, refl, some, none, Option, map}
 use Rattle.history.specs.Computing.{computing}
 use Rattle.field.specs.Gf256.{product}
 use Rattle.field.specs.Powers.{inverse}

@@ -1,5 +1,6 @@
 -- Marks that agree up to the width agree after a packet.
-use Rattle.words.specs.Words.{◌≡◌, arith, ℕ, ◌≤◌, ◌+◌, List, refl, ◌∙◌, ap, some, suc, true, zero, none, false, Bool, Option, leb, eqb, ◌&&◌, leb-true, ◌||◌}
+use Rattle.std.specs.Prelude.{◌≡◌, ◌≤◌, ◌+◌, ◌&&◌, ◌||◌}
+use Rattle.words.specs.Words.{arith, ℕ, List, refl, ◌∙◌, ap, some, suc, true, zero, none, false, Bool, Option, leb, eqb, leb-true}
 use Rattle.starts.specs.Adu.{needs, View}
 use Rattle.starts.specs.Starts.{Starts, also, moved, onward, pass}
 

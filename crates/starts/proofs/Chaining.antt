@@ -1,6 +1,7 @@
 -- The pass marks what the marks reach: from a marked known position of the window to the position that its L names, and so on.
-use Rattle.words.specs.Words.{◌≡◌, arith, ℕ, ◌≤◌, ◌+◌, List, ◌<◌, refl, sym, ap, ◌-◌, some, suc, true, zero, none, ◌*◌, false, Bool, subst, Option, ◌↔◌}
-use Rattle.words.specs.Words.{some-injective, none-ne-some, add-zero, zero-add, ◌⊎◌, inr, inl, zero-mul, add-suc}
+use Rattle.std.specs.Prelude.{◌≡◌, ◌≤◌, ◌+◌, ◌<◌, ◌-◌, ◌*◌, ◌↔◌, ◌⊎◌}
+use Rattle.words.specs.Words.{arith, ℕ, List, refl, sym, ap, some, suc, true, zero, none, false, Bool, subst, Option}
+use Rattle.words.specs.Words.{some-injective, none-ne-some, add-zero, zero-add, inr, inl, zero-mul, add-suc}
 use mathlib.Core.Bool.{false≢true}
 use Rattle.wire.specs.Packets.{symbol_count}
 use Rattle.wire.proofs.Adui.{room}

@@ -4,8 +4,9 @@
 --   Shows: the view shows these symbols from the i-th position on
 --   Unpacked: what is handed out at the d-th position
 --   handing_exactly
-use Rattle.words.specs.Words.{◌≡◌, arith, ℕ, ◌≤◌, ◌+◌, List, length, ◌<◌, refl, ◌∙◌, sym, ap, [], some, ◌∷◌, suc, true, zero, none, ◌*◌, false, ◌++◌, Bool}
-use Rattle.words.specs.Words.{subst, Option, drop, ap₂, leb, ◌↔◌, le-leb, some-injective, none-ne-some, leb-true}
+use Rattle.std.specs.Prelude.{◌≡◌, ◌≤◌, ◌+◌, ◌<◌, ◌∷◌, ◌*◌, ◌++◌, ◌↔◌}
+use Rattle.words.specs.Words.{arith, ℕ, List, length, refl, ◌∙◌, sym, ap, [], some, suc, true, zero, none, false, Bool}
+use Rattle.words.specs.Words.{subst, Option, drop, ap₂, leb, le-leb, some-injective, none-ne-some, leb-true}
 use Rattle.memory.specs.Part.{part}
 use Rattle.memory.specs.Number.{number, Bytes}
 use Rattle.memory.proofs.Parts.{length_part}

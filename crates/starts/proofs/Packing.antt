@@ -1,5 +1,6 @@
 -- Whole symbols hold an ADUI: its F, its L, the ADU and zero padding are the ADUI that the wire's definition gives, and it reads so.
-use Rattle.words.specs.Words.{◌≡◌, arith, ℕ, ◌≤◌, ◌+◌, List, length, ◌<◌, refl, ◌∙◌, sym, ap, ◌-◌, [], ◌∷◌, suc, true, zero, ◌*◌, ◌++◌, subst, drop, take, ap₂}
+use Rattle.std.specs.Prelude.{◌≡◌, ◌≤◌, ◌+◌, ◌<◌, ◌-◌, ◌∷◌, ◌*◌, ◌++◌}
+use Rattle.words.specs.Words.{arith, ℕ, List, length, refl, ◌∙◌, sym, ap, [], suc, true, zero, subst, drop, take, ap₂}
 use Rattle.words.specs.Words.{eqb, zero-mul, length-drop, eqb-true, suc-mul, take-append-drop, length-take-le, take-append_seam}
 use lib.Seq.{take-append-le, drop-append-le, drop-append_seam}
 use Rattle.memory.specs.Part.{part}

@@ -8,8 +8,9 @@
 --   pass_settled: the pass settles all but what is past the window, and with that noted, all
 --   unseen_settled: where nothing is seen, all is
 --   nothing_open
-use Rattle.words.specs.Words.{◌≡◌, arith, ℕ, ◌≤◌, ◌+◌, List, ◌<◌, refl, ◌∙◌, sym, ap, some, true, none, false, Bool, subst, ◌≢◌, cond, ltb, eqb, le-leb, ◌&&◌}
-use Rattle.words.specs.Words.{ℕ_discrete, some-injective, none-ne-some, dec_lt, ne_eqb, ◌⊎◌, inr, true≢false, inl, ◌||◌, ltb-true, add_assoc}
+use Rattle.std.specs.Prelude.{◌≡◌, ◌≤◌, ◌+◌, ◌<◌, ◌≢◌, ◌&&◌, ◌⊎◌, ◌||◌}
+use Rattle.words.specs.Words.{arith, ℕ, List, refl, ◌∙◌, sym, ap, some, true, none, false, Bool, subst, cond, ltb, eqb, le-leb}
+use Rattle.words.specs.Words.{ℕ_discrete, some-injective, none-ne-some, dec_lt, ne_eqb, inr, true≢false, inl, ltb-true, add_assoc}
 use Rattle.starts.specs.Adu.{needs, View}
 use Rattle.starts.specs.Starts.{Starts, also, owning, moved, pass}
 use Rattle.starts.specs.Settled.{Open, Settled, Old, Reaches, seed, next}

@@ -1,5 +1,6 @@
 -- Tests that are joined.
-use Rattle.words.specs.Words.{◌≡◌, ℕ, ◌≤◌, ◌+◌, refl, true, false, Bool, leb, eqb, ◌↔◌, le-leb, ◌&&◌, ◌⊎◌, inr, eq-eqb, inl, leb-true, eqb-true, ◌||◌}
+use Rattle.std.specs.Prelude.{◌≡◌, ◌≤◌, ◌+◌, ◌↔◌, ◌&&◌, ◌⊎◌, ◌||◌}
+use Rattle.words.specs.Words.{ℕ, refl, true, false, Bool, leb, eqb, le-leb, inr, eq-eqb, inl, leb-true, eqb-true}
 use mathlib.Core.Bool.{false≢true}
 use Rattle.starts.specs.Starts.{Starts, also, moved}
 

@@ -1,5 +1,6 @@
 -- No position past the window is known.
-use Rattle.words.specs.Words.{◌≡◌, ℕ, ◌≤◌, refl, suc, zero, none, not-suc-le-zero, le_of_suc-le-suc}
+use Rattle.std.specs.Prelude.{◌≡◌, ◌≤◌}
+use Rattle.words.specs.Words.{ℕ, refl, suc, zero, none, not-suc-le-zero, le_of_suc-le-suc}
 use Rattle.decoder.specs.Field.{Ops}
 use Rattle.decoder.specs.Model.{State, end, free, pivot, known}
 

@@ -1,5 +1,6 @@
 -- Handing out an ADU: F and L of an ADUI, and the ADU call at a position of the window, with its refusals in their order (document 01; document 02, No. 7).
-use Rattle.words.specs.Words.{◌≡◌, ℕ, ◌≤◌, ◌+◌, List, length, [], some, ◌∷◌, suc, true, zero, none, get_or, false, ◌++◌, Bool, Option, drop, leb, eqb, ◌&&◌}
+use Rattle.std.specs.Prelude.{◌≡◌, ◌≤◌, ◌+◌, ◌∷◌, ◌++◌, ◌&&◌}
+use Rattle.words.specs.Words.{ℕ, List, length, [], some, suc, true, zero, none, get_or, false, Bool, Option, drop, leb, eqb}
 use Rattle.memory.specs.Part.{part}
 use Rattle.memory.specs.Number.{number}
 use Rattle.wire.specs.Numbers.{number_of}

@@ -1,5 +1,6 @@
 -- Computed from the definitions: what the ADU call hands out of a window of symbols of 4 bytes, and the order of its refusals past 8.
-use Rattle.words.specs.Words.{◌≡◌, ℕ, List, refl, [], some, ◌∷◌, suc, zero, none, Option, eqb, ◌++◌}
+use Rattle.std.specs.Prelude.{◌≡◌, ◌∷◌, ◌++◌}
+use Rattle.words.specs.Words.{ℕ, List, refl, [], some, suc, zero, none, Option, eqb}
 use Rattle.memory.specs.Part.{part}
 use Rattle.wire.specs.Packets.{zeros, symbol_count}
 use Rattle.wire.specs.Flows.{announced}

@@ -1,5 +1,6 @@
 -- Marks in which the pass has nothing left to do, and what is to be known of a packet for that. A reader need not believe this.
-use Rattle.words.specs.Words.{◌≡◌, ℕ, ◌≤◌, ◌+◌, List, ◌<◌, some, true, false, ◌⊎◌}
+use Rattle.std.specs.Prelude.{◌≡◌, ◌≤◌, ◌+◌, ◌<◌, ◌⊎◌}
+use Rattle.words.specs.Words.{ℕ, List, some, true, false}
 use Rattle.starts.specs.Adu.{needs, View}
 use Rattle.starts.specs.Starts.{Starts}
 

@@ -1,6 +1,7 @@
 -- The marks of starts as the receiver computes them: by a position's distance from the base, up to the width.
 -- That these are the history's is proved (crate `claims`): a reader of the claims need not believe it.
-use Rattle.words.specs.Words.{ℕ, ◌+◌, List, some, suc, true, zero, none, false, Bool, Option, cond, ltb, leb, eqb, ◌&&◌, ◌||◌}
+use Rattle.std.specs.Prelude.{◌+◌, ◌&&◌, ◌||◌}
+use Rattle.words.specs.Words.{ℕ, List, some, suc, true, zero, none, false, Bool, Option, cond, ltb, leb, eqb}
 use Rattle.decoder.specs.Tuples.{Tuple, Byte, bytes-of}
 use Rattle.decoder.specs.Bytes.{Coded}
 use Rattle.decoder.specs.Model.{State, known}

@@ -1,5 +1,6 @@
 -- Laws of a sum that is cut into strips.
-use Rattle.words.specs.Words.{◌≡◌, ◌∙◌, sym, ap, ap₂, arith, List, ◌++◌, ◌+◌, ◌-◌, ◌<◌, ◌≤◌, ext_get_or, length, length-replicate, replicate, zero-add, ℕ}
+use Rattle.std.specs.Prelude.{◌≡◌, ◌++◌, ◌+◌, ◌-◌, ◌<◌, ◌≤◌}
+use Rattle.words.specs.Words.{◌∙◌, sym, ap, ap₂, arith, List, ext_get_or, length, length-replicate, replicate, zero-add, ℕ}
 use lib.ListN.{get_or-replicate}
 use Rattle.memory.proofs.Parts.{part_none, part-add, part-past, part-splice, splice-part, splice_next, length_part, length-splice, get_or-part, whole}
 use Rattle.memory.specs.Number.{Bytes}

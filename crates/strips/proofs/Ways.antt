@@ -1,5 +1,6 @@
 -- Laws of the ways in which a strip is summed.
-use Rattle.words.specs.Words.{◌≡◌, refl, sym, arith, List, ◌*◌, ◌+◌, ◌≤◌, false, length, true, true≢false, ℕ}
+use Rattle.std.specs.Prelude.{◌≡◌, ◌*◌, ◌+◌, ◌≤◌}
+use Rattle.words.specs.Words.{refl, sym, arith, List, false, length, true, true≢false, ℕ}
 use Rattle.memory.proofs.Parts.{row_fits}
 use Rattle.lists.specs.Named.{ListedPairs}
 use Rattle.buckets.specs.Buckets.{weights}

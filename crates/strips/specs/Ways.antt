@@ -1,5 +1,6 @@
 -- Contracts of inner functions: a reader need not believe these. The ways in which a strip is summed, and what each needs.
-use Rattle.words.specs.Words.{◌≡◌, List, Bool, true, false, ◌*◌, ◌+◌, ◌<◌, ◌≤◌, length, ℕ}
+use Rattle.std.specs.Prelude.{◌≡◌, ◌*◌, ◌+◌, ◌<◌, ◌≤◌}
+use Rattle.words.specs.Words.{List, Bool, true, false, length, ℕ}
 use Rattle.lists.specs.Named.{ListedPairs}
 use Rattle.buckets.specs.Sorted.{SortedHalves}
 use Rattle.buckets.specs.Buckets.{weights}

@@ -1,7 +1,8 @@
 // The sum of rows, each times a coefficient, in strips of 64 bytes: by lists, or, for many rows, in buckets.
 #![tactic(auto)]
 
-ghost use Rattle.words.specs.Words.{◌≡◌, ◌≤◌, ◌+◌, ◌*◌, length, replicate};
+ghost use Rattle.std.specs.Prelude.{◌≡◌, ◌≤◌, ◌+◌, ◌*◌};
+ghost use Rattle.words.specs.Words.{length, replicate};
 ghost use Rattle.rows.specs.Sums.{rows_added};
 ghost use Rattle.buckets.specs.Buckets.{Filled};
 ghost use Rattle.strips.specs.Ways.{in_buckets, most_rows, Prepared, Placed, Ready};

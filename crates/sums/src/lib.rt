@@ -2,7 +2,8 @@
 // after the other. Else in strips, each of which is summed over all rows.
 #![tactic(auto)]
 
-ghost use Rattle.words.specs.Words.{◌≡◌, ◌≤◌, ◌+◌, ◌*◌, length, ◌<◌, replicate, true};
+ghost use Rattle.std.specs.Prelude.{◌≡◌, ◌≤◌, ◌+◌, ◌*◌, ◌<◌};
+ghost use Rattle.words.specs.Words.{length, replicate, true};
 ghost use Rattle.rows.specs.Rows.{add_scaled};
 ghost use Rattle.rows.specs.Sums.{row_at, rows_added};
 ghost use Rattle.strips.specs.Ways.{most_rows};

@@ -1,5 +1,6 @@
 -- Laws of the rows of zero bytes: how the draws of a coefficient count them, that a shorter row than sixteen is not refused, and the largest value.
-use Rattle.words.specs.Words.{◌≡◌, arith, ℕ, ◌≤◌, ◌+◌, List, ◌<◌, refl, suc, true, zero, false, Bool, cond, leb, eqb, add-one, not-suc-le-zero, max}
+use Rattle.std.specs.Prelude.{◌≡◌, ◌≤◌, ◌+◌, ◌<◌}
+use Rattle.words.specs.Words.{arith, ℕ, List, refl, suc, true, zero, false, Bool, cond, leb, eqb, add-one, not-suc-le-zero, max}
 use native.Mathlib.Decide.{le_ind}
 use Rattle.tinymt.specs.Generator.{start_of, draw_of, low4, low8}
 use Rattle.coefficients.specs.declared.Coefficient.{Coefficient}

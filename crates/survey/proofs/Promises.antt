@@ -1,5 +1,6 @@
 -- What a survey shows: a list whose coefficients all have rows of fewer than sixteen zeros is not refused.
-use Rattle.words.specs.Words.{◌≡◌, arith, ℕ, ◌≤◌, ◌<◌, refl, suc, true, zero}
+use Rattle.std.specs.Prelude.{◌≡◌, ◌≤◌, ◌<◌}
+use Rattle.words.specs.Words.{arith, ℕ, refl, suc, true, zero}
 use Rattle.wire.specs.Numbers.{key_after}
 use Rattle.wire.specs.declared.Scheme.{Scheme}
 use Rattle.wire.specs.declared.Scheme.TheVariants.{Gf2, Gf256}

@@ -1,5 +1,6 @@
 -- Computed from the definitions: a row of two zeros and the coefficients before it, a rand16 whose low byte is zero, and the row that refusal 10 ends.
-use Rattle.words.specs.Words.{◌≡◌, refl, [], ◌∷◌}
+use Rattle.std.specs.Prelude.{◌≡◌, ◌∷◌}
+use Rattle.words.specs.Words.{refl, []}
 use Rattle.tinymt.specs.Computing.{computing}
 use Rattle.coefficients.specs.Coefficients.{nonzero_from, byte_of}
 use Rattle.coefficients.specs.Facts.{zero_words}

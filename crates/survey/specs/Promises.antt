@@ -1,5 +1,6 @@
 -- What a survey shows (proofs/Promises): where the longest row has fewer than sixteen zeros, refusal 10 never occurs.
-use Rattle.words.specs.Words.{◌≡◌, ℕ, ◌≤◌, ◌<◌, true}
+use Rattle.std.specs.Prelude.{◌≡◌, ◌≤◌, ◌<◌}
+use Rattle.words.specs.Words.{ℕ, true}
 use Rattle.wire.specs.declared.Scheme.{Scheme}
 use Rattle.coefficients.specs.Coefficients.{last_zero, coefficients_of, keys, all_ok}
 use Rattle.survey.specs.Survey.{longest_within, longest_zeros}

@@ -2,7 +2,8 @@
 // refusal 10.
 #![tactic(auto)]
 
-ghost use Rattle.words.specs.Words.{◌≡◌, max};
+ghost use Rattle.std.specs.Prelude.{◌≡◌};
+ghost use Rattle.words.specs.Words.{max};
 ghost use Rattle.survey.specs.Survey.{counted, longest_of_key, longest_at, longest_zeros};
 
 use coefficients::next_coefficient;

@@ -1,5 +1,6 @@
 -- A row's first flag: what a store of it changes, and what it says.
-use Rattle.words.specs.Words.{◌≡◌, arith, ℕ, ◌≤◌, ◌+◌, List, length, ◌<◌, refl, ◌∙◌, sym, ap, [], ◌∷◌, suc, true, zero, get_or, false, subst, ◌≢◌, ap₂, ltb}
+use Rattle.std.specs.Prelude.{◌≡◌, ◌≤◌, ◌+◌, ◌<◌, ◌∷◌, ◌≢◌}
+use Rattle.words.specs.Words.{arith, ℕ, List, length, refl, ◌∙◌, sym, ap, [], suc, true, zero, get_or, false, subst, ap₂, ltb}
 use Rattle.words.specs.Words.{ℕ_discrete, lt-ltb, true≢false}
 use Rattle.memory.specs.Part.{splice}
 use Rattle.memory.proofs.Parts.{length_part, get_or-part, row_fits}

@@ -1,5 +1,6 @@
 -- The system that a memory holds is what its rows say: a store in the header, or in a row's other flags, leaves it.
-use Rattle.words.specs.Words.{◌≡◌, arith, ℕ, ◌≤◌, ◌+◌, List, length, ◌<◌, refl, ◌∙◌, sym, ap, [], ◌%◌, ◌∷◌, suc, zero, get_or, subst, ltb, mod-lt}
+use Rattle.std.specs.Prelude.{◌≡◌, ◌≤◌, ◌+◌, ◌<◌, ◌%◌, ◌∷◌}
+use Rattle.words.specs.Words.{arith, ℕ, List, length, refl, ◌∙◌, sym, ap, [], suc, zero, get_or, subst, ltb, mod-lt}
 use Rattle.memory.specs.Part.{splice}
 use Rattle.memory.proofs.Parts.{get_or-part, get_or-past}
 use Rattle.decoder.specs.Bytes.{Coded}

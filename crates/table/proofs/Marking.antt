@@ -1,5 +1,6 @@
 -- Whether a row has no coefficient but its own: the others or-ed are zero. Its flag says so.
-use Rattle.words.specs.Words.{◌≡◌, arith, ℕ, ◌≤◌, ◌+◌, List, ◌<◌, refl, ◌∙◌, sym, ap, ◌-◌, get_or, subst, ◌≢◌, ap₂, ◌↔◌, ℕ_discrete, dec_lt}
+use Rattle.std.specs.Prelude.{◌≡◌, ◌≤◌, ◌+◌, ◌<◌, ◌-◌, ◌≢◌, ◌↔◌}
+use Rattle.words.specs.Words.{arith, ℕ, List, refl, ◌∙◌, sym, ap, get_or, subst, ap₂, ℕ_discrete, dec_lt}
 use lib.Bits.{bit_or, or_add_and, and_le_l, and_le_r}
 use Rattle.memory.proofs.Parts.{get_or-part}
 use Rattle.table.specs.Window.{stride, row_offset, row, Alone}

@@ -1,5 +1,6 @@
 -- What the sizes of the header and of a row come to. Nothing else sees the numbers.
-use Rattle.words.specs.Words.{arith, ℕ, ◌≤◌, ◌+◌, ◌<◌, mul-le-mul_right}
+use Rattle.std.specs.Prelude.{◌≤◌, ◌+◌, ◌<◌}
+use Rattle.words.specs.Words.{arith, ℕ, mul-le-mul_right}
 use Rattle.memory.proofs.Parts.{row_fits}
 use Rattle.table.specs.Window.{header_size, stride, row_offset}
 

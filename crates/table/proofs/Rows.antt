@@ -1,5 +1,6 @@
 -- Rows in memory: a store in one row, and what the others and the rest of the memory are after it.
-use Rattle.words.specs.Words.{◌≡◌, arith, ℕ, ◌≤◌, ◌+◌, List, length, ◌<◌, refl, ◌∙◌, sym, ap, [], ◌∷◌, suc, zero, get_or, ◌≢◌, ℕ_discrete, dec_lt, not-suc-le-zero}
+use Rattle.std.specs.Prelude.{◌≡◌, ◌≤◌, ◌+◌, ◌<◌, ◌∷◌, ◌≢◌}
+use Rattle.words.specs.Words.{arith, ℕ, List, length, refl, ◌∙◌, sym, ap, [], suc, zero, get_or, ℕ_discrete, dec_lt, not-suc-le-zero}
 use Rattle.words.specs.Words.{le_of_suc-le-suc, set}
 use Rattle.memory.specs.Part.{part, splice}
 use Rattle.memory.proofs.Parts.{length_part, length-splice, take-splice, past-splice, part-before, part-past, part-splice, splice-within, get_or-part, get_or-past}

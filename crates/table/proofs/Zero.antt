@@ -1,5 +1,6 @@
 -- A number that is not other than zero.
-use Rattle.words.specs.Words.{◌≡◌, ℕ, ◌≢◌, ℕ_discrete}
+use Rattle.std.specs.Prelude.{◌≡◌, ◌≢◌}
+use Rattle.words.specs.Words.{ℕ, ℕ_discrete}
 
 pub else_zero : (a : ℕ) → (a ≢ 0 → ⊥) → a ≡ 0
 else_zero a h = go (ℕ_discrete a 0)

@@ -1,6 +1,7 @@
 -- A packet's equations in working memory: a header's bytes, then `w + 1` rows laid out as the state's, in order of arrival. Row `k` holds the `k`th
 -- equation that was kept, and its first flag the column of its pivot. The state stays as it is until all are known to agree with it.
-use Rattle.words.specs.Words.{◌≡◌, ℕ, ◌≤◌, ◌+◌, List, length, ◌<◌, some, ◌%◌, get_or}
+use Rattle.std.specs.Prelude.{◌≡◌, ◌≤◌, ◌+◌, ◌<◌, ◌%◌}
+use Rattle.words.specs.Words.{ℕ, List, length, some, get_or}
 use Rattle.decoder.specs.Bytes.{Coded}
 use Rattle.decoder.specs.Model.{Row, State}
 use Rattle.decoder.specs.Receiver.{insert_all}

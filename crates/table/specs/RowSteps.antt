@@ -1,6 +1,7 @@
 -- Contracts of inner functions: a reader need not believe these.
 -- Where rows and symbols begin, and what a row's first flag says.
-use Rattle.words.specs.Words.{◌≡◌, ℕ, ◌≤◌, ◌+◌, List, ◌<◌, [], ◌%◌, ◌∷◌, suc, zero, get_or, ◌↔◌}
+use Rattle.std.specs.Prelude.{◌≡◌, ◌≤◌, ◌+◌, ◌<◌, ◌%◌, ◌∷◌, ◌↔◌}
+use Rattle.words.specs.Words.{ℕ, List, [], suc, zero, get_or}
 use Rattle.memory.specs.Part.{splice}
 use Rattle.table.specs.Window.{stride, row_offset, row, flag, Alone}
 

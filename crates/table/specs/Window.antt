@@ -1,6 +1,7 @@
 -- The window's equations in lent memory: a header, then `w` rows, each of `w` coefficients, `E` bytes of symbol and some flags.
 -- Row and column of a position are its remainder by `w`. A row's first flag: 0 no row, 1 a row, 2 a row with no coefficient but its pivot's.
-use Rattle.words.specs.Words.{◌≡◌, ℕ, ◌≤◌, ◌+◌, List, length, ◌<◌, ◌%◌, true, ◌*◌, get_or, Bool, drop, ◌≢◌, take, ltb, ◌↔◌}
+use Rattle.std.specs.Prelude.{◌≡◌, ◌≤◌, ◌+◌, ◌<◌, ◌%◌, ◌*◌, ◌≢◌, ◌↔◌}
+use Rattle.words.specs.Words.{ℕ, List, length, true, get_or, Bool, drop, take, ltb}
 use Rattle.memory.specs.Part.{part}
 use Rattle.decoder.specs.Bytes.{Coded}
 use Rattle.decoder.specs.Model.{Row, State}

@@ -2,7 +2,8 @@
 // Row and column of a position are its remainder by the width, so nothing moves when the base rises.
 #![tactic(auto)]
 
-ghost use Rattle.words.specs.Words.{◌≡◌, ◌≤◌, length, ◌<◌, ◌↔◌};
+ghost use Rattle.std.specs.Prelude.{◌≡◌, ◌≤◌, ◌<◌, ◌↔◌};
+ghost use Rattle.words.specs.Words.{length};
 ghost use Rattle.table.specs.Window.{header_size, stride};
 ghost use Rattle.table.specs.RowSteps.{RowOf, RowAt, SymbolAt, ZeroFrom};
 

@@ -1,5 +1,6 @@
 -- Laws of decimal numbers: their digits, and how many there are.
-use Rattle.words.specs.Words.{◌≡◌, arith, ℕ, ◌≤◌, ◌+◌, length, ◌<◌, refl, ap, [], ◌%◌, ◌∷◌, suc, zero, ◌*◌, ◌++◌, ◌^◌, ◌/◌, length-append, lt-ltb, le-ltb}
+use Rattle.std.specs.Prelude.{◌≡◌, ◌≤◌, ◌+◌, ◌<◌, ◌%◌, ◌∷◌, ◌*◌, ◌++◌, ◌^◌, ◌/◌}
+use Rattle.words.specs.Words.{arith, ℕ, length, refl, ap, [], suc, zero, length-append, lt-ltb, le-ltb}
 use Rattle.words.specs.Words.{⊎_elim}
 use native.Mathlib.Nat.{pow-suc, lt_of_lt_of_le, eq-zero-or-pos}
 use lib.Dec.{lit≤}

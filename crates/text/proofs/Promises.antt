@@ -1,5 +1,6 @@
 -- What is promised of the texts of numbers and bytes (specs/Promises).
-use Rattle.words.specs.Words.{◌≡◌, arith, ℕ, ◌≤◌, ◌+◌, List, length, ◌<◌, refl, ◌-◌, [], ◌%◌, ◌∷◌, suc, zero, ◌*◌, get_or, ◌++◌, ◌≢◌, ◌/◌, ⊎_elim}
+use Rattle.std.specs.Prelude.{◌≡◌, ◌≤◌, ◌+◌, ◌<◌, ◌-◌, ◌%◌, ◌∷◌, ◌*◌, ◌++◌, ◌≢◌, ◌/◌}
+use Rattle.words.specs.Words.{arith, ℕ, List, length, refl, [], suc, zero, get_or, ⊎_elim}
 use Rattle.words.specs.Words.{get_or-append}
 use native.Mathlib.Nat.{eq-zero-or-pos}
 use Rattle.text.specs.Text.{decimal, hexadecimal}

@@ -1,5 +1,6 @@
 -- Computed from the definitions: numbers of one digit and of more, and every hexadecimal digit.
-use Rattle.words.specs.Words.{◌≡◌, refl, [], ◌∷◌}
+use Rattle.std.specs.Prelude.{◌≡◌, ◌∷◌}
+use Rattle.words.specs.Words.{refl, []}
 use Rattle.text.specs.Text.{ascii, digit, decimal_within, decimal, hexadecimal}
 
 pub numbers : decimal 0 ∷ decimal 9 ∷ decimal 10 ∷ decimal 255 ∷ decimal 1000000 ∷ decimal 18446744073709551615 ∷ []

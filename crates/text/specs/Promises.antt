@@ -1,6 +1,7 @@
 -- What is proved of the texts of numbers and bytes (proofs/Promises): a number's text is digits that write it, at least one, with no leading 0. So how
 -- many digits its definition allows need not be believed.
-use Rattle.words.specs.Words.{◌≡◌, ℕ, ◌≤◌, ◌+◌, List, length, ◌<◌, ◌-◌, [], ◌∷◌, ◌*◌, get_or, ◌≢◌}
+use Rattle.std.specs.Prelude.{◌≡◌, ◌≤◌, ◌+◌, ◌<◌, ◌-◌, ◌∷◌, ◌*◌, ◌≢◌}
+use Rattle.words.specs.Words.{ℕ, List, length, [], get_or}
 use Rattle.text.specs.Text.{decimal, hexadecimal}
 
 -- the number that decimal digits write, after digits that write v

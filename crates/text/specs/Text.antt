@@ -1,5 +1,6 @@
 -- Text as bytes: characters, decimal numbers and hexadecimal bytes (document 02, No. 4).
-use Rattle.words.specs.Words.{ℕ, ◌+◌, List, [], ◌%◌, ◌∷◌, suc, zero, ◌++◌, cond, ltb, ◌/◌}
+use Rattle.std.specs.Prelude.{◌+◌, ◌%◌, ◌∷◌, ◌++◌, ◌/◌}
+use Rattle.words.specs.Words.{ℕ, List, [], suc, zero, cond, ltb}
 use Prim.Native.Char.{code}
 use Prim.Native.String.{String, [] as empty, ◌∷◌ as ◌then◌}
 

@@ -1,5 +1,6 @@
 -- The first numbers drawn, and a name under which a computed fact unfolds the generator.
-use Rattle.words.specs.Words.{ℕ, List, [], ◌∷◌, suc, zero}
+use Rattle.std.specs.Prelude.{◌∷◌}
+use Rattle.words.specs.Words.{ℕ, List, [], suc, zero}
 use Rattle.tinymt.specs.Generator.{xor_if_odd, step_q, step_y, step_of, temper, steps, mixed, seed_round, seeded, start_of, draw_of}
 
 -- the first n numbers drawn from the words s

@@ -4,7 +4,8 @@
 -- stores: first-stored, all_stored, stored-length; a symbol written: first-written, later_written
 -- stretches: length-chunks, get_or-chunks, chunks_sized; the symbols of an ADU: symbols_count, symbol_at_lem, symbol_length, symbols_sized
 -- a packet at the front of the output: front_next
-use Rattle.words.specs.Words.{◌≡◌, arith, ℕ, ◌≤◌, ◌+◌, List, length, ◌<◌, refl, ◌∙◌, sym, ap, ◌-◌, [], ◌∷◌, suc, true, zero, ◌*◌, get_or, false, ◌++◌, Bool, drop}
+use Rattle.std.specs.Prelude.{◌≡◌, ◌≤◌, ◌+◌, ◌<◌, ◌-◌, ◌∷◌, ◌*◌, ◌++◌}
+use Rattle.words.specs.Words.{arith, ℕ, List, length, refl, ◌∙◌, sym, ap, [], suc, true, zero, get_or, false, Bool, drop}
 use Rattle.words.specs.Words.{take, leb, length-append, not-suc-le-zero, zero-add, le_of_suc-le-suc, zero-mul, set, length-drop, leb-true, length-set}
 use Rattle.words.specs.Words.{append-nil, length-take, suc-mul, min, take_all, length-replicate, drop-drop, drop-length}
 use Rattle.std.proofs.Common.{le_of_eq, div-mul-le_self, leb-false}

@@ -1,5 +1,6 @@
 -- The test tells which flows are announced.
-use Rattle.words.specs.Words.{◌≡◌, ℕ, List, true, false, ◌↔◌, eqb-true, eq-eqb, ne_eqb}
+use Rattle.std.specs.Prelude.{◌≡◌, ◌↔◌}
+use Rattle.words.specs.Words.{ℕ, List, true, false, eqb-true, eq-eqb, ne_eqb}
 use Rattle.wire.specs.Flows.{Announced, announced}
 
 pub announced_exactly : (flows : List ℕ) (F : ℕ) → (announced flows F ≡ true) ↔ Announced flows F

@@ -1,5 +1,6 @@
 -- What the header parsers answer, case by case.
-use Rattle.words.specs.Words.{◌≡◌, ℕ, ◌≤◌, ◌+◌, List, length, ◌<◌, true, ◌*◌, false, le-leb, lt-leb, ne_eqb, eq-eqb}
+use Rattle.std.specs.Prelude.{◌≡◌, ◌≤◌, ◌+◌, ◌<◌, ◌*◌}
+use Rattle.words.specs.Words.{ℕ, List, length, true, false, le-leb, lt-leb, ne_eqb, eq-eqb}
 use Rattle.wire.specs.Numbers.{within}
 use Rattle.wire.specs.Packets.{source_form, most_repairs, repair_form, repair_count}
 use Rattle.wire.specs.Headers.{source_fields, source_header_of, repair_fields, repair_header_of}

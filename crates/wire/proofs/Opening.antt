@@ -1,5 +1,6 @@
 -- Numbers that are allowed name a setting, and others name none.
-use Rattle.words.specs.Words.{◌≡◌, arith, ℕ, refl, sym, some, none, true, Option, ◌⊎◌, inl, inr}
+use Rattle.std.specs.Prelude.{◌≡◌, ◌⊎◌}
+use Rattle.words.specs.Words.{arith, ℕ, refl, sym, some, none, true, Option, inl, inr}
 use Rattle.wire.specs.declared.Scheme.{Scheme}
 use Rattle.wire.specs.declared.Scheme.TheVariants.{Gf2, Gf256}
 use Rattle.wire.specs.declared.Setting.{Setting}

@@ -1,5 +1,6 @@
 -- Reading what was written gives the fields back: `source-packet-read` and `source-adu`, `repair-packet-read` and `repair-symbols`.
-use Rattle.words.specs.Words.{◌≡◌, arith, ℕ, ◌≤◌, ◌+◌, List, length, ◌<◌, refl, ◌∙◌, sym, ap, ◌-◌, [], ◌∷◌, true, ◌*◌, ◌^◌, le-leb, length-append, eq-eqb}
+use Rattle.std.specs.Prelude.{◌≡◌, ◌≤◌, ◌+◌, ◌<◌, ◌-◌, ◌∷◌, ◌*◌, ◌^◌}
+use Rattle.words.specs.Words.{arith, ℕ, List, length, refl, ◌∙◌, sym, ap, [], true, le-leb, length-append, eq-eqb}
 use Rattle.words.specs.Words.{zero-mul, suc-mul, take_at}
 use Rattle.std.proofs.Common.{mul-div_cancel, drop_at}
 use lib.Arith.{digits_div, digits_mod}

@@ -3,8 +3,9 @@
 -- the header: short_none, other_none, header_read; zeros-none, one_kind; setting-found (record Headed); setting-written, setting_kept
 -- answers told apart: setting_good, setting_bad
 -- the calls for sizes of memory: size_valid, size_given, size_refused
-use Rattle.words.specs.Words.{◌≡◌, arith, ℕ, ◌≤◌, List, length, ◌<◌, refl, ◌∙◌, sym, ap, some, suc, true, zero, none, ◌*◌, false, Bool, subst, ◌^◌, take, leb}
-use Rattle.words.specs.Words.{eqb, le-leb, ◌&&◌, some-injective, none-ne-some, lt-leb, ne_eqb, zero-add, eq-eqb, leb-true, lit<, eqb-true}
+use Rattle.std.specs.Prelude.{◌≡◌, ◌≤◌, ◌<◌, ◌*◌, ◌^◌, ◌&&◌}
+use Rattle.words.specs.Words.{arith, ℕ, List, length, refl, ◌∙◌, sym, ap, some, suc, true, zero, none, false, Bool, subst, take, leb}
+use Rattle.words.specs.Words.{eqb, le-leb, some-injective, none-ne-some, lt-leb, ne_eqb, zero-add, eq-eqb, leb-true, lit<, eqb-true}
 use Rattle.words.specs.Words.{length-take, eqb-false, Option, ap₂}
 use Rattle.std.proofs.Common.{leb-false}
 use Rattle.memory.specs.Part.{part, splice}

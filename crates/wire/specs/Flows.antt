@@ -1,5 +1,6 @@
 -- The flows that an end announces (document 02, No. 7): 256 yes or no values in 32 bytes, which its memory keeps.
-use Rattle.words.specs.Words.{◌≡◌, ℕ, List, ◌%◌, get_or, Bool, ◌^◌, ◌/◌, eqb, replicate}
+use Rattle.std.specs.Prelude.{◌≡◌, ◌%◌, ◌^◌, ◌/◌}
+use Rattle.words.specs.Words.{ℕ, List, get_or, Bool, eqb, replicate}
 use Rattle.memory.specs.Part.{part}
 
 -- F is bit F mod 8, lowest first, of byte F div 8: the flow is announced where that is 1; and as a test

@@ -1,5 +1,6 @@
 -- What a header parser answers: the fields of a packet that has the form, else refusal 5.
-use Rattle.words.specs.Words.{ℕ, List, length, ◌-◌, cond}
+use Rattle.std.specs.Prelude.{◌-◌}
+use Rattle.words.specs.Words.{ℕ, List, length, cond}
 use Rattle.wire.specs.Packets.{source_form, source_esi, repair_form, repair_count, repair_key, density_threshold, protected_count, first_esi}
 use Rattle.wire.specs.declared.Refusal.TheVariants.{Form}
 use Rattle.wire.specs.declared.SourceFields.{SourceFields}

@@ -1,5 +1,6 @@
 -- Contracts of inner functions: a reader need not believe these.
-use Rattle.words.specs.Words.{ℕ, List, length, ◌-◌, ◌++◌, take, ◌+◌, ◌%◌, ◌^◌}
+use Rattle.std.specs.Prelude.{◌-◌, ◌++◌, ◌+◌, ◌%◌, ◌^◌}
+use Rattle.words.specs.Words.{ℕ, List, length, take}
 use Rattle.wire.specs.Packets.{zeros}
 
 -- the first n bytes of l, and zero bytes where it has fewer

@@ -1,5 +1,6 @@
 -- The two kinds of number (document 01, "Words and sizes"), and the number that documents 01 and 02 give each refusal.
-use Rattle.words.specs.Words.{ℕ, ◌+◌, ◌-◌, ◌%◌, Bool, ◌^◌, leb, ◌&&◌}
+use Rattle.std.specs.Prelude.{◌+◌, ◌-◌, ◌%◌, ◌^◌, ◌&&◌}
+use Rattle.words.specs.Words.{ℕ, Bool, leb}
 use Rattle.wire.specs.declared.Refusal.{Refusal}
 use Rattle.wire.specs.declared.Refusal.TheVariants.{Values, Short, Unopened, Long, Form, Range, Empty, Behind, Ahead, Draws, Contradiction, Unknown}
 use Rattle.wire.specs.declared.Refusal.TheVariants.{NoStart, Padding, Unannounced, Grid, Block}

@@ -1,5 +1,6 @@
 -- What both ends answer to an opening, and to a call for a size of memory (document 01, "Words and sizes" and "Why a call says no").
-use Rattle.words.specs.Words.{◌≡◌, ℕ, ◌≤◌, ◌+◌, List, length, ◌<◌, ◌*◌, ◌⊎◌}
+use Rattle.std.specs.Prelude.{◌≡◌, ◌≤◌, ◌+◌, ◌<◌, ◌*◌, ◌⊎◌}
+use Rattle.words.specs.Words.{ℕ, List, length}
 use Rattle.memory.specs.Contained.{Contained}
 use Rattle.wire.specs.declared.Answer.{Answer}
 use Rattle.wire.specs.Answers.{Said, value, refusal, said}

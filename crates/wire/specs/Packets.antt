@@ -1,6 +1,7 @@
 -- The bytes of source and repair packets (document 01, "Packets"; RFC 8681, sections 3.2, 4.1.2, 4.1.3): how they are written, and how they are read.
 -- Numbers stand with the most significant byte first.
-use Rattle.words.specs.Words.{◌≡◌, ℕ, ◌+◌, List, length, ◌-◌, [], ◌%◌, ◌∷◌, suc, zero, ◌*◌, ◌++◌, Bool, drop, take, leb, eqb, ◌/◌, ◌&&◌, replicate}
+use Rattle.std.specs.Prelude.{◌≡◌, ◌+◌, ◌-◌, ◌%◌, ◌∷◌, ◌*◌, ◌++◌, ◌/◌, ◌&&◌}
+use Rattle.words.specs.Words.{ℕ, List, length, [], suc, zero, Bool, drop, take, leb, eqb, replicate}
 use Rattle.memory.specs.Part.{part}
 use Rattle.memory.specs.Number.{number, bytes}
 use Rattle.wire.specs.Numbers.{within}

@@ -1,5 +1,6 @@
 -- What an end is opened with (document 01, "Words and sizes"). Both ends find refusal 1 by these definitions.
-use Rattle.words.specs.Words.{ℕ, ◌≤◌, some, none, Bool, Option, cond, eqb, ◌&&◌}
+use Rattle.std.specs.Prelude.{◌≤◌, ◌&&◌}
+use Rattle.words.specs.Words.{ℕ, some, none, Bool, Option, cond, eqb}
 use Rattle.wire.specs.Numbers.{within}
 use Rattle.wire.specs.declared.Scheme.{Scheme}
 use Rattle.wire.specs.declared.Scheme.TheVariants.{Gf2, Gf256}

@@ -1,6 +1,7 @@
 -- How a setting is stored at the front of an end's memory: four numbers of two bytes, the kind of end (1 a sender, 2 a receiver;
 -- 3 and 4 the two ends of a block, its encoder and its recovery), scheme, E and width. All ends find refusal 3 by these definitions.
-use Rattle.words.specs.Words.{ℕ, List, length, some, none, ◌*◌, ◌++◌, Option, cond, leb, eqb, ◌&&◌}
+use Rattle.std.specs.Prelude.{◌*◌, ◌++◌, ◌&&◌}
+use Rattle.words.specs.Words.{ℕ, List, length, some, none, Option, cond, leb, eqb}
 use Rattle.memory.specs.Part.{part}
 use Rattle.memory.specs.Number.{number, bytes}
 use Rattle.wire.specs.declared.Setting.{Setting}

@@ -1,5 +1,6 @@
 -- `answering::answer_line` meets its contract.
-use Rattle.words.specs.Words.{arith, ℕ, ◌≤◌, ◌≡◌, List, rules, ◌∙◌, sym, ap, some}
+use Rattle.std.specs.Prelude.{◌≤◌, ◌≡◌}
+use Rattle.words.specs.Words.{arith, ℕ, List, rules, ◌∙◌, sym, ap, some}
 use Rattle.memory.specs.Part.{part}
 use Rattle.history.specs.History.{source-call, repair-call}
 use Rattle.lines.specs.Forms.{longest}

@@ -1,5 +1,6 @@
 -- `answering::open_by` meets its contract.
-use Rattle.words.specs.Words.{◌≡◌, arith, ℕ, ◌≤◌, List, length, ◌∙◌, ap, some, none, cond, leb, le-leb}
+use Rattle.std.specs.Prelude.{◌≡◌, ◌≤◌}
+use Rattle.words.specs.Words.{arith, ℕ, List, length, ◌∙◌, ap, some, none, cond, leb, le-leb}
 use Rattle.memory.specs.Part.{part}
 use Rattle.wire.specs.Settings.{setting_of}
 use Rattle.wire.proofs.Settings.{setting-names}

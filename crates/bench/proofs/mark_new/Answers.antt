@@ -1,5 +1,6 @@
 -- `bench::mark_new` meets its contract.
-use Rattle.words.specs.Words.{arith, ◌+◌, rules, mod-lt}
+use Rattle.std.specs.Prelude.{◌+◌}
+use Rattle.words.specs.Words.{arith, rules, mod-lt}
 use Rattle.bench.proofs.mark_new.Goals as goal
 
 pub known_among-has-requires : goal.known_among-has-requires

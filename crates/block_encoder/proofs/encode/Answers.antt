@@ -1,5 +1,6 @@
 -- `block_encoder::encode` meets its contract.
-use Rattle.words.specs.Words.{◌≡◌, arith, ℕ, ◌≤◌, List, length, sym, take, length-take-le}
+use Rattle.std.specs.Prelude.{◌≡◌, ◌≤◌}
+use Rattle.words.specs.Words.{arith, ℕ, List, length, sym, take, length-take-le}
 use Rattle.block_encoder.proofs.encode.Goals as goal
 
 -- Of the room for the coefficients k are lent.

@@ -1,5 +1,6 @@
 -- `block_encoder::encode_by` meets its contract.
-use Rattle.words.specs.Words.{◌≤◌, ◌+◌, ◌*◌, arith, length}
+use Rattle.std.specs.Prelude.{◌≤◌, ◌+◌, ◌*◌}
+use Rattle.words.specs.Words.{arith, length}
 use Rattle.block_encoder.proofs.Encoding.{symbol_made}
 use Rattle.block_encoder.proofs.encode_by.Goals as goal
 

@@ -1,5 +1,6 @@
 -- `block_encoder::has_room` meets its contract.
-use Rattle.words.specs.Words.{◌≡◌, arith, ℕ, ◌≤◌, ◌+◌, refl, sym, ◌-◌, true, false, Bool, leb, le-leb, lt-leb, leb-true}
+use Rattle.std.specs.Prelude.{◌≡◌, ◌≤◌, ◌+◌, ◌-◌}
+use Rattle.words.specs.Words.{arith, ℕ, refl, sym, true, false, Bool, leb, le-leb, lt-leb, leb-true}
 use borrow.Author.Tests.{leb-false}
 use Rattle.block_encoder.proofs.has_room.Goals as goal
 

@@ -1,5 +1,6 @@
 -- `block_encoder::make_repair` meets its contract.
-use Rattle.words.specs.Words.{◌≡◌, arith, ℕ, List, ◌+◌, ◌<◌, length, ◌∙◌, sym, some, true, leb, leb-true}
+use Rattle.std.specs.Prelude.{◌≡◌, ◌+◌, ◌<◌}
+use Rattle.words.specs.Words.{arith, ℕ, List, length, ◌∙◌, sym, some, true, leb, leb-true}
 use Rattle.memory.specs.Number.{number}
 use Rattle.memory.specs.Part.{part}
 use Rattle.blocks.specs.Stored.{block_in, taken_in}

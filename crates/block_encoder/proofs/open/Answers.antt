@@ -1,5 +1,6 @@
 -- `block_encoder::open` meets its contract.
-use Rattle.words.specs.Words.{arith, ◌≤◌, length, ◌∙◌, sym}
+use Rattle.std.specs.Prelude.{◌≤◌}
+use Rattle.words.specs.Words.{arith, length, ◌∙◌, sym}
 use Rattle.history.specs.History.{memory_size}
 use Rattle.blocks.specs.Block.{setting_for}
 use Rattle.blocks.proofs.Values.{good_names, setting_valid}

@@ -1,5 +1,6 @@
 -- `block_encoder::write_repair` meets its contract.
-use Rattle.words.specs.Words.{◌≡◌, arith, ℕ, ◌≤◌, ◌+◌, List, length, ◌∙◌, ap, ◌-◌, drop, take}
+use Rattle.std.specs.Prelude.{◌≡◌, ◌≤◌, ◌+◌, ◌-◌}
+use Rattle.words.specs.Words.{arith, ℕ, List, length, ◌∙◌, ap, drop, take}
 use Rattle.memory.specs.Part.{splice}
 use Rattle.memory.proofs.Parts.{put}
 use Rattle.block_encoder.proofs.Encoding.{lent, repair-written}

@@ -1,5 +1,6 @@
 -- `blocks::read_block` meets its contract.
-use Rattle.words.specs.Words.{◌≤◌, length}
+use Rattle.std.specs.Prelude.{◌≤◌}
+use Rattle.words.specs.Words.{length}
 use Rattle.history.specs.History.{memory_size}
 use Rattle.wire.proofs.Settings.{setting-found, setting_good, setting_bad}
 use Rattle.blocks.proofs.Stored.{none-setting, none_short, found}

@@ -1,5 +1,6 @@
 -- `buckets::add_to` meets its contract.
-use Rattle.words.specs.Words.{ap, ◌∙◌, ◌*◌, arith}
+use Rattle.std.specs.Prelude.{◌*◌}
+use Rattle.words.specs.Words.{ap, ◌∙◌, arith}
 use Rattle.memory.specs.Part.{splice}
 use Rattle.memory.proofs.Parts.{cut, put}
 use Rattle.buckets.proofs.add_to.Goals as goal

@@ -1,5 +1,6 @@
 -- `buckets::fill` meets its contract. The loop: the first k rows are in the buckets.
-use Rattle.words.specs.Words.{◌≡◌, ap, ◌∙◌, mod-lt, ℕ, ◌<◌, arith, length, length-replicate, rules}
+use Rattle.std.specs.Prelude.{◌≡◌, ◌<◌}
+use Rattle.words.specs.Words.{ap, ◌∙◌, mod-lt, ℕ, arith, length, length-replicate, rules}
 use Rattle.rows.specs.Combination.{coefficient}
 use Rattle.buckets.proofs.Filling.{filled_none, filled_turn}
 use Rattle.buckets.proofs.fill.Goals as goal

@@ -1,5 +1,6 @@
 -- `buckets::fill` meets its contract. The loop: the first k rows are in the buckets.
-use Rattle.words.specs.Words.{◌≡◌, ◌≤◌, ◌-◌, length}
+use Rattle.std.specs.Prelude.{◌≡◌, ◌≤◌, ◌-◌}
+use Rattle.words.specs.Words.{length}
 use Rattle.buckets.specs.Buckets.{Filled}
 use Rattle.buckets.proofs.fill.Given as goal
 

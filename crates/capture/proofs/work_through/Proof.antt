@@ -1,5 +1,6 @@
 -- `capture::work_through` meets its contract. The invariant: calls have brought the capture to where the loop stands, and the rest of the input is left.
-use Rattle.words.specs.Words.{arith, ◌≤◌, ◌+◌, length, rules, ◌<◌, ◌∙◌, sym, ap, ◌-◌, drop, not}
+use Rattle.std.specs.Prelude.{◌≤◌, ◌+◌, ◌<◌, ◌-◌}
+use Rattle.words.specs.Words.{arith, length, rules, ◌∙◌, sym, ap, drop, not}
 use Rattle.replay.proofs.Feeding.{left}
 use Rattle.capture.specs.Going.{Handed}
 use Rattle.capture.proofs.Turns.{handed-none, next_handed, went_over, went_failed, went_all, next_moves}

@@ -1,5 +1,6 @@
 -- `coefficients::draw_list` meets its contract. The loop's invariant: the bytes before i are the first i coefficients (`Partly`).
-use Rattle.words.specs.Words.{not-true, not-false, ◌≡◌, arith, length, refl, sym, length-set}
+use Rattle.std.specs.Prelude.{◌≡◌}
+use Rattle.words.specs.Words.{not-true, not-false, arith, length, refl, sym, length-set}
 use Rattle.coefficients.proofs.Fills.{partly_none, partly_more, next_draws, partly_draws, partly_refused, partly_all, fills_done, fills_refused}
 use Rattle.coefficients.proofs.draw_list.Goals as goal
 

@@ -1,5 +1,6 @@
 -- `coefficients::draw_list` meets its contract. The loop's invariant: the bytes before i are the first i coefficients (`Partly`).
-use Rattle.words.specs.Words.{◌≡◌, ◌≤◌, length, ◌-◌}
+use Rattle.std.specs.Prelude.{◌≡◌, ◌≤◌, ◌-◌}
+use Rattle.words.specs.Words.{length}
 use Rattle.coefficients.proofs.Fills.{Partly}
 use Rattle.coefficients.proofs.draw_list.Given as goal
 

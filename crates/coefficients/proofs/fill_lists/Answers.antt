@@ -1,5 +1,6 @@
 -- `coefficients::fill_lists` meets its contract. The loop's invariant: the lists before i stand in the output (`Listed`).
-use Rattle.words.specs.Words.{◌≡◌, arith, ◌≤◌, ◌+◌, length, ◌*◌}
+use Rattle.std.specs.Prelude.{◌≡◌, ◌≤◌, ◌+◌, ◌*◌}
+use Rattle.words.specs.Words.{arith, length}
 use Rattle.memory.proofs.Parts.{row_fits}
 use Rattle.coefficients.proofs.Fills.{listed-none, lent_length, listed_more, listed_draws, lists_refused, lists_done}
 use Rattle.coefficients.proofs.fill_lists.Goals as goal

@@ -1,5 +1,5 @@
 -- `coefficients::fill_lists` meets its contract. The loop's invariant: the lists before i stand in the output (`Listed`).
-use Rattle.words.specs.Words.{◌≤◌, ◌-◌}
+use Rattle.std.specs.Prelude.{◌≤◌, ◌-◌}
 use Rattle.coefficients.proofs.Fills.{Listed}
 use Rattle.coefficients.proofs.fill_lists.Given as goal
 

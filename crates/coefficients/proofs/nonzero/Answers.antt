@@ -1,5 +1,6 @@
 -- `coefficients::nonzero` meets its contract. The loop's invariant: what is still to be drawn gives what was asked.
-use Rattle.words.specs.Words.{◌≡◌, arith, ℕ, ◌+◌, List, ◌∙◌, ap, ◌-◌, ne_eqb}
+use Rattle.std.specs.Prelude.{◌≡◌, ◌+◌, ◌-◌}
+use Rattle.words.specs.Words.{arith, ℕ, List, ◌∙◌, ap, ne_eqb}
 use Rattle.coefficients.specs.Coefficients.{last_zero, found, nonzero_from}
 use Rattle.coefficients.proofs.Zeros.{zero-byte, nonzero_byte}
 use Rattle.coefficients.proofs.nonzero.Goals as goal

@@ -1,5 +1,5 @@
 -- `coefficients::nonzero` meets its contract. The loop's invariant: what is still to be drawn gives what was asked.
-use Rattle.words.specs.Words.{◌≡◌, ◌≤◌, ◌<◌, ◌-◌}
+use Rattle.std.specs.Prelude.{◌≡◌, ◌≤◌, ◌<◌, ◌-◌}
 use Rattle.coefficients.specs.Coefficients.{last_zero, nonzero_from}
 use Rattle.coefficients.proofs.nonzero.Given as goal
 

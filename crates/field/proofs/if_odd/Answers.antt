@@ -1,5 +1,6 @@
 -- `field::if_odd` meets its contract.
-use Rattle.words.specs.Words.{◌≡◌, arith, sym, ◌%◌, zero-mul, one-mul}
+use Rattle.std.specs.Prelude.{◌≡◌, ◌%◌}
+use Rattle.words.specs.Words.{arith, sym, zero-mul, one-mul}
 use Rattle.field.proofs.if_odd.Goals as goal
 
 pub returns-then-s-eq0 : goal.returns-then-s-eq0

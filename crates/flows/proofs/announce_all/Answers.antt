@@ -1,5 +1,6 @@
 -- `flows::announce_all` meets its contract.
-use Rattle.words.specs.Words.{◌≡◌, arith, ℕ, length, refl, ◌∙◌, ap, replicate}
+use Rattle.std.specs.Prelude.{◌≡◌}
+use Rattle.words.specs.Words.{arith, ℕ, length, refl, ◌∙◌, ap, replicate}
 use Rattle.wire.specs.Flows.{all_flows}
 use Rattle.flows.proofs.Bits.{all_announced}
 use Rattle.flows.proofs.announce_all.Goals as goal

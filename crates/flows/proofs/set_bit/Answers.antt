@@ -1,5 +1,6 @@
 -- `flows::set_bit` meets its contract.
-use Rattle.words.specs.Words.{◌≡◌, arith, length, ◌<◌, ◌/◌}
+use Rattle.std.specs.Prelude.{◌≡◌, ◌<◌, ◌/◌}
+use Rattle.words.specs.Words.{arith, length}
 use Rattle.flows.proofs.Bits.{one_more}
 use Rattle.flows.proofs.set_bit.Goals as goal
 use Rattle.flows.proofs.set_bit.Goals.{Start}

@@ -1,5 +1,6 @@
 -- `gather::add_rows` meets its contract.
-use Rattle.words.specs.Words.{arith, ◌+◌, sym, ◌*◌, ap₂, length-take-le}
+use Rattle.std.specs.Prelude.{◌+◌, ◌*◌}
+use Rattle.words.specs.Words.{arith, sym, ap₂, length-take-le}
 use Rattle.gather.proofs.Reducing.{length_lent, rows-added}
 use Rattle.gather.proofs.add_rows.Goals as goal
 

@@ -1,5 +1,6 @@
 -- `gather::collect` meets its contract. The loop: the multipliers of the columns so far.
-use Rattle.words.specs.Words.{◌≡◌, arith, rules, refl, ◌∙◌, sym, ap, ◌%◌, subst, add-zero, mod-eq_of_lt}
+use Rattle.std.specs.Prelude.{◌≡◌, ◌%◌}
+use Rattle.words.specs.Words.{arith, rules, refl, ◌∙◌, sym, ap, subst, add-zero, mod-eq_of_lt}
 use Rattle.gather.specs.GatherSteps.{Collected}
 use Rattle.gather.proofs.Collecting.{next_column, collected_none, collected_more}
 use Rattle.gather.proofs.collect.Goals as goal

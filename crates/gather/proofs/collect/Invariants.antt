@@ -1,5 +1,6 @@
 -- `gather::collect` meets its contract. The loop: the multipliers of the columns so far.
-use Rattle.words.specs.Words.{◌≡◌, ◌≤◌, ◌+◌, length, ◌<◌, ◌-◌, ◌%◌}
+use Rattle.std.specs.Prelude.{◌≡◌, ◌≤◌, ◌+◌, ◌<◌, ◌-◌, ◌%◌}
+use Rattle.words.specs.Words.{length}
 use Rattle.gather.specs.GatherSteps.{Collected}
 use Rattle.gather.proofs.collect.Given as goal
 

@@ -1,5 +1,6 @@
 -- `gather::distance` meets its contract.
-use Rattle.words.specs.Words.{◌≡◌, arith, ◌+◌, rules, ◌∙◌, ap, ◌-◌, ◌%◌, mod-eq_of_lt, add-mod_right}
+use Rattle.std.specs.Prelude.{◌≡◌, ◌+◌, ◌-◌, ◌%◌}
+use Rattle.words.specs.Words.{arith, rules, ◌∙◌, ap, mod-eq_of_lt, add-mod_right}
 use Rattle.gather.proofs.distance.Goals as goal
 
 pub returns-then-shape-c : goal.returns-then-shape-c

@@ -1,5 +1,6 @@
 -- `gather::eliminate` meets its contract.
-use Rattle.words.specs.Words.{arith, ◌+◌, rules, inr}
+use Rattle.std.specs.Prelude.{◌+◌}
+use Rattle.words.specs.Words.{arith, rules, inr}
 use Rattle.gather.proofs.Framing.{row_room}
 use Rattle.gather.proofs.Reducing.{flag-lt, rows_apart, eliminated}
 use Rattle.gather.proofs.eliminate.Goals as goal

@@ -1,5 +1,6 @@
 -- `gather::find_pivot` meets its contract. The loops: no coefficient in the rows before, and none in the columns before.
-use Rattle.words.specs.Words.{arith, rules, refl, ◌∙◌, sym, ap, ◌%◌, add-zero, mod-eq_of_lt}
+use Rattle.std.specs.Prelude.{◌%◌}
+use Rattle.words.specs.Words.{arith, rules, refl, ◌∙◌, sym, ap, add-zero, mod-eq_of_lt}
 use Rattle.table.specs.Window.{row}
 use Rattle.gather.proofs.Collecting.{next_column}
 use Rattle.gather.proofs.Searching.{blank_none, blank_more, blank_all, rows_none, rows_more, read_cell, leading_here, leading_none}

@@ -1,5 +1,5 @@
 -- `gather::find_pivot` meets its contract. The loops: no coefficient in the rows before, and none in the columns before.
-use Rattle.words.specs.Words.{◌≡◌, ◌≤◌, ◌+◌, ◌<◌, ◌-◌, ◌%◌}
+use Rattle.std.specs.Prelude.{◌≡◌, ◌≤◌, ◌+◌, ◌<◌, ◌-◌, ◌%◌}
 use Rattle.table.specs.Window.{row}
 use Rattle.gather.proofs.Searching.{Blank, BlankRows}
 use Rattle.gather.proofs.find_pivot.Given as goal

@@ -1,5 +1,6 @@
 -- `gather::multiplier` meets its contract.
-use Rattle.words.specs.Words.{arith, ◌+◌, ◌∙◌, sym, ap, get_or}
+use Rattle.std.specs.Prelude.{◌+◌}
+use Rattle.words.specs.Words.{arith, ◌∙◌, sym, ap, get_or}
 use Rattle.memory.proofs.Parts.{row_fits}
 use Rattle.table.specs.Window.{stride, row, in_use}
 use Rattle.gather.specs.GatherSteps.{if_used}

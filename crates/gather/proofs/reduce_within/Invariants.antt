@@ -1,5 +1,6 @@
 -- `gather::reduce_within` meets its contract. The loop: the pivots of the rows so far are eliminated.
-use Rattle.words.specs.Words.{◌≡◌, ◌≤◌, length, ◌-◌}
+use Rattle.std.specs.Prelude.{◌≡◌, ◌≤◌, ◌-◌}
+use Rattle.words.specs.Words.{length}
 use Rattle.memory.specs.Number.{Bytes}
 use Rattle.table.specs.Packet.{Works}
 use Rattle.gather.specs.GatherSteps.{PacketReduced}

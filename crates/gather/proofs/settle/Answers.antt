@@ -1,5 +1,6 @@
 -- `gather::settle` meets its contract.
-use Rattle.words.specs.Words.{◌≡◌, arith, ◌+◌, rules, ap, subst, mod-lt}
+use Rattle.std.specs.Prelude.{◌≡◌, ◌+◌}
+use Rattle.words.specs.Words.{arith, rules, ap, subst, mod-lt}
 use Rattle.table.specs.Packet.{Works}
 use Rattle.gather.specs.GatherSteps.{Searched}
 use Rattle.gather.proofs.Framing.{works_none}

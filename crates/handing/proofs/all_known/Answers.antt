@@ -1,5 +1,6 @@
 -- `handing::all_known` meets its contract. The loop: the positions before the i-th from d on are known.
-use Rattle.words.specs.Words.{arith, ◌+◌, rules, true, false}
+use Rattle.std.specs.Prelude.{◌+◌}
+use Rattle.words.specs.Words.{arith, rules, true, false}
 use Rattle.handing.proofs.Giving.{known_is, known-none, known_more, known_all, known-not, known_beyond}
 use Rattle.handing.proofs.all_known.Goals as goal
 

@@ -1,5 +1,5 @@
 -- `handing::all_known` meets its contract. The loop: the positions before the i-th from d on are known.
-use Rattle.words.specs.Words.{◌≤◌, ◌-◌}
+use Rattle.std.specs.Prelude.{◌≤◌, ◌-◌}
 use Rattle.handing.proofs.Giving.{KnownFrom}
 use Rattle.handing.proofs.all_known.Given as goal
 

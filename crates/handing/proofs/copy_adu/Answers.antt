@@ -1,5 +1,6 @@
 -- `handing::copy_adu` meets its contract. The loop: the ADU's bytes of the symbols before the i-th have been copied.
-use Rattle.words.specs.Words.{◌≡◌, arith, length, rules}
+use Rattle.std.specs.Prelude.{◌≡◌}
+use Rattle.words.specs.Words.{arith, length, rules}
 use Rattle.handing.proofs.Copying.{span_some, copied_none, copied_length, copied_all, copied_more}
 use Rattle.handing.proofs.copy_adu.Goals as goal
 use Rattle.handing.proofs.copy_adu.Goals.{At-loop-i}

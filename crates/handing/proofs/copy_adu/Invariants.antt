@@ -1,5 +1,5 @@
 -- `handing::copy_adu` meets its contract. The loop: the ADU's bytes of the symbols before the i-th have been copied.
-use Rattle.words.specs.Words.{◌≤◌, ◌-◌}
+use Rattle.std.specs.Prelude.{◌≤◌, ◌-◌}
 use Rattle.handing.specs.HandSteps.{text}
 use Rattle.handing.proofs.Copying.{Copied}
 use Rattle.handing.proofs.copy_adu.Given as goal

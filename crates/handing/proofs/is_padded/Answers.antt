@@ -1,5 +1,6 @@
 -- `handing::is_padded` meets its contract.
-use Rattle.words.specs.Words.{arith, ◌+◌, rules, ◌<◌, ◌-◌, ◌*◌}
+use Rattle.std.specs.Prelude.{◌+◌, ◌<◌, ◌-◌, ◌*◌}
+use Rattle.words.specs.Words.{arith, rules}
 use Rattle.handing.proofs.Copying.{span_some, span_start, span_last, padding_test}
 use Rattle.handing.proofs.is_padded.Goals as goal
 use Rattle.handing.proofs.is_padded.Goals.{Start}

@@ -1,5 +1,6 @@
 -- `interleave::send` meets its contract: at each place a turn of `Sending`.
-use Rattle.words.specs.Words.{◌≡◌, arith, ◌*◌, length}
+use Rattle.std.specs.Prelude.{◌≡◌, ◌*◌}
+use Rattle.words.specs.Words.{arith, length}
 use Rattle.interleave.proofs.Answers.{products}
 use Rattle.interleave.proofs.Sending.{begun, Turn, turn, next_row, next_column}
 use Rattle.interleave.proofs.send.Goals as goal

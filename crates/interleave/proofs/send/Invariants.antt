@@ -1,5 +1,5 @@
 -- `interleave::send` meets its contract: at each place a turn of `Sending`.
-use Rattle.words.specs.Words.{◌≤◌, ◌-◌}
+use Rattle.std.specs.Prelude.{◌≤◌, ◌-◌}
 use Rattle.interleave.proofs.Sending.{Sending}
 use Rattle.interleave.proofs.send.Given as goal
 

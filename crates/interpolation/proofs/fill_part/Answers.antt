@@ -1,5 +1,6 @@
 -- `interpolation::fill_part` meets its contract.
-use Rattle.words.specs.Words.{◌≡◌, arith, length}
+use Rattle.std.specs.Prelude.{◌≡◌}
+use Rattle.words.specs.Words.{arith, length}
 use Rattle.memory.specs.Part.{part}
 use Rattle.memory.proofs.Parts.{put, cut, length_part}
 use Rattle.interpolation.proofs.fill_part.Goals as goal

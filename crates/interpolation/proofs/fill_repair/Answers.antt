@@ -1,5 +1,6 @@
 -- `interpolation::fill_repair` meets its contract. The loop's invariant: c is the coefficient before i, and those before i are filled in.
-use Rattle.words.specs.Words.{◌≡◌, sym, ap, subst, ◌∙◌, ℕ, ◌+◌, ◌-◌, arith, length, length-set}
+use Rattle.std.specs.Prelude.{◌≡◌, ◌+◌, ◌-◌}
+use Rattle.words.specs.Words.{sym, ap, subst, ◌∙◌, ℕ, arith, length, length-set}
 use Rattle.interpolation.specs.Lagrange.{lagrange}
 use Rattle.interpolation.proofs.Filling.{Filled, filled_more, filled_all}
 use Rattle.interpolation.proofs.fill_repair.Goals as goal

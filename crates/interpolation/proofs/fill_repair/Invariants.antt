@@ -1,5 +1,6 @@
 -- `interpolation::fill_repair` meets its contract. The loop's invariant: c is the coefficient before i, and those before i are filled in.
-use Rattle.words.specs.Words.{◌≡◌, ◌≤◌, ◌-◌, length}
+use Rattle.std.specs.Prelude.{◌≡◌, ◌≤◌, ◌-◌}
+use Rattle.words.specs.Words.{length}
 use Rattle.interpolation.specs.Lagrange.{lagrange}
 use Rattle.interpolation.proofs.Filling.{Filled}
 use Rattle.interpolation.proofs.fill_repair.Given as goal

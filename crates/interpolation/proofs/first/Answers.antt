@@ -1,5 +1,6 @@
 -- `interpolation::first` meets its contract. The loop's invariant: the factors before m are multiplied.
-use Rattle.words.specs.Words.{◌≡◌, ap, ◌∙◌, ℕ, arith}
+use Rattle.std.specs.Prelude.{◌≡◌}
+use Rattle.words.specs.Words.{ap, ◌∙◌, ℕ, arith}
 use Rattle.interpolation.specs.Lagrange.{lagrange}
 use Rattle.interpolation.proofs.Neighbours.{first_one, first_more}
 use Rattle.interpolation.proofs.first.Goals as goal

@@ -1,5 +1,5 @@
 -- `interpolation::first` meets its contract. The loop's invariant: the factors before m are multiplied.
-use Rattle.words.specs.Words.{◌≡◌, ◌≤◌, ◌-◌}
+use Rattle.std.specs.Prelude.{◌≡◌, ◌≤◌, ◌-◌}
 use Rattle.interpolation.specs.Lagrange.{lagrange}
 use Rattle.interpolation.proofs.first.Given as goal
 

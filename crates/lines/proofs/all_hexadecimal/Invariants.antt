@@ -1,5 +1,6 @@
 -- `lines::all_hexadecimal` meets its contract. The loop's invariant: all are digits if those before i are, and the others are.
-use Rattle.words.specs.Words.{◌≡◌, ◌≤◌, length, ◌-◌, drop, ◌&&◌}
+use Rattle.std.specs.Prelude.{◌≡◌, ◌≤◌, ◌-◌, ◌&&◌}
+use Rattle.words.specs.Words.{length, drop}
 use Rattle.lines.specs.Inner.{all_digits}
 use Rattle.lines.proofs.all_hexadecimal.Given as goal
 

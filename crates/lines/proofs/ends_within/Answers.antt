@@ -1,5 +1,6 @@
 -- `lines::ends_within` meets its contract. The loop's invariant: where no 0A was found, none of the k bytes is one.
-use Rattle.words.specs.Words.{◌≡◌, arith}
+use Rattle.std.specs.Prelude.{◌≡◌}
+use Rattle.words.specs.Words.{arith}
 use borrow.Author.Count.{below_none}
 use Rattle.lines.proofs.Breaks.{piece_more}
 use Rattle.lines.proofs.ends_within.Goals as goal

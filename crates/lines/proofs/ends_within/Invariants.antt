@@ -1,5 +1,6 @@
 -- `lines::ends_within` meets its contract. The loop's invariant: where no 0A was found, none of the k bytes is one.
-use Rattle.words.specs.Words.{◌≡◌, ◌≤◌, ◌-◌, false, drop}
+use Rattle.std.specs.Prelude.{◌≡◌, ◌≤◌, ◌-◌}
+use Rattle.words.specs.Words.{false, drop}
 use Rattle.lines.specs.Inner.{NoEnd}
 use Rattle.lines.proofs.ends_within.Given as goal
 

@@ -1,5 +1,6 @@
 -- `lines::has` meets its contract. The loop's invariant: the text is at `at` exactly where its bytes from i on are at `at + i`.
-use Rattle.words.specs.Words.{◌≡◌, arith, length, ◌∙◌, sym, add-zero}
+use Rattle.std.specs.Prelude.{◌≡◌}
+use Rattle.words.specs.Words.{arith, length, ◌∙◌, sym, add-zero}
 use Rattle.lines.proofs.Texts.{no_room, same_byte, other_byte, all_bytes}
 use Rattle.lines.proofs.has.Goals as goal
 

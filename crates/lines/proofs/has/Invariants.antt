@@ -1,5 +1,6 @@
 -- `lines::has` meets its contract. The loop's invariant: the text is at `at` exactly where its bytes from i on are at `at + i`.
-use Rattle.words.specs.Words.{◌≡◌, ◌≤◌, ◌+◌, length, ◌-◌, drop}
+use Rattle.std.specs.Prelude.{◌≡◌, ◌≤◌, ◌+◌, ◌-◌}
+use Rattle.words.specs.Words.{length, drop}
 use Rattle.lines.specs.Reading.{after}
 use Rattle.lines.proofs.has.Given as goal
 

@@ -1,5 +1,6 @@
 -- `lines::line_end` meets its contract. The loop's invariant: no byte before i is 0A.
-use Rattle.words.specs.Words.{◌≤◌, length, ◌-◌}
+use Rattle.std.specs.Prelude.{◌≤◌, ◌-◌}
+use Rattle.words.specs.Words.{length}
 use Rattle.lines.specs.Inner.{NoEnd}
 use Rattle.lines.proofs.line_end.Given as goal
 

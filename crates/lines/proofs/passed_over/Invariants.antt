@@ -1,5 +1,6 @@
 -- `lines::passed_over` meets its contract. The loop's invariant: no line ends before i.
-use Rattle.words.specs.Words.{◌≤◌, length, ◌-◌}
+use Rattle.std.specs.Prelude.{◌≤◌, ◌-◌}
+use Rattle.words.specs.Words.{length}
 use Rattle.lines.specs.Inner.{NoEnd}
 use Rattle.lines.proofs.passed_over.Given as goal
 

@@ -1,5 +1,6 @@
 -- `lines::read_bytes` meets its contract. The loop's invariant: the bytes before k are those of the digits before `at + 2 * k`.
-use Rattle.words.specs.Words.{◌≡◌, arith, length, refl, ◌∙◌, sym, ◌-◌, drop, ◌/◌, length-drop, length-set}
+use Rattle.std.specs.Prelude.{◌≡◌, ◌-◌, ◌/◌}
+use Rattle.words.specs.Words.{arith, length, refl, ◌∙◌, sym, drop, length-drop, length-set}
 use Rattle.lines.proofs.Digits.{odd_digits, no_digits, nothing_read, next_digits, more-read, all_read}
 use Rattle.lines.proofs.read_bytes.Goals as goal
 

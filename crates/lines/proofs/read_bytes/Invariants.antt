@@ -1,5 +1,6 @@
 -- `lines::read_bytes` meets its contract. The loop's invariant: the bytes before k are those of the digits before `at + 2 * k`.
-use Rattle.words.specs.Words.{◌≡◌, ◌≤◌, ◌+◌, length, ◌-◌, ◌*◌}
+use Rattle.std.specs.Prelude.{◌≡◌, ◌≤◌, ◌+◌, ◌-◌, ◌*◌}
+use Rattle.words.specs.Words.{length}
 use Rattle.lines.proofs.Digits.{Bytewise}
 use Rattle.lines.proofs.read_bytes.Given as goal
 

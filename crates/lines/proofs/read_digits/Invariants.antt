@@ -1,5 +1,6 @@
 -- `lines::read_digits` meets its contract. The loop's invariant: the number that has begun with `value` goes on from i.
-use Rattle.words.specs.Words.{◌≡◌, ◌≤◌, length, ◌-◌, drop}
+use Rattle.std.specs.Prelude.{◌≡◌, ◌≤◌, ◌-◌}
+use Rattle.words.specs.Words.{length, drop}
 use Rattle.lines.specs.Reading.{number_from}
 use Rattle.lines.proofs.read_digits.Given as goal
 

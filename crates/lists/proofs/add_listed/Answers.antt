@@ -1,5 +1,6 @@
 -- `lists::add_listed` meets its contract. The loop: the rows of the first j elements of the list have been added.
-use Rattle.words.specs.Words.{◌≡◌, refl, arith, ◌*◌, get_or, rules}
+use Rattle.std.specs.Prelude.{◌≡◌, ◌*◌}
+use Rattle.words.specs.Words.{refl, arith, get_or, rules}
 use Rattle.memory.proofs.Parts.{get_or-part}
 use Rattle.lists.specs.Named.{added, list_of}
 use Rattle.lists.proofs.Named.{added_turn}

@@ -1,5 +1,6 @@
 -- `lists::add_listed` meets its contract. The loop: the rows of the first j elements of the list have been added.
-use Rattle.words.specs.Words.{◌≡◌, ◌≤◌, ◌-◌, length}
+use Rattle.std.specs.Prelude.{◌≡◌, ◌≤◌, ◌-◌}
+use Rattle.words.specs.Words.{length}
 use Rattle.rows.specs.Sums.{row_at}
 use Rattle.lists.specs.Named.{added, list_of}
 use Rattle.lists.proofs.add_listed.Given as goal

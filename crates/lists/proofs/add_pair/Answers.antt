@@ -1,5 +1,6 @@
 -- `lists::add_pair` meets its contract.
-use Rattle.words.specs.Words.{◌∙◌, ap, ap₂, ℕ, List, ◌+◌, ◌*◌}
+use Rattle.std.specs.Prelude.{◌+◌, ◌*◌}
+use Rattle.words.specs.Words.{◌∙◌, ap, ap₂, ℕ, List}
 use Rattle.rows.specs.Sums.{row_at}
 use Rattle.lists.specs.Named.{digit_added, pair_added}
 use Rattle.lists.proofs.add_pair.Goals as goal

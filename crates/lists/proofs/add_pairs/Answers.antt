@@ -1,5 +1,6 @@
 -- `lists::add_pairs` meets its contract. The loop: the j highest of the pairs have been added.
-use Rattle.words.specs.Words.{◌≡◌, refl, arith, rules}
+use Rattle.std.specs.Prelude.{◌≡◌}
+use Rattle.words.specs.Words.{refl, arith, rules}
 use Rattle.rows.specs.Sums.{row_at}
 use Rattle.lists.specs.Named.{pairs_added}
 use Rattle.lists.proofs.Named.{pairs_turn}

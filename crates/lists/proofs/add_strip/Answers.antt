@@ -1,5 +1,6 @@
 -- `lists::add_strip` meets its contract. The loop: the first i bytes are those of the sum.
-use Rattle.words.specs.Words.{◌≡◌, arith, ◌+◌, length, get_or}
+use Rattle.std.specs.Prelude.{◌≡◌, ◌+◌}
+use Rattle.words.specs.Words.{arith, length, get_or}
 use Rattle.field.proofs.Laws.{product-one}
 use Rattle.memory.specs.Part.{part}
 use Rattle.memory.proofs.Parts.{length_part, get_or-part}

@@ -1,5 +1,5 @@
 -- `lists::add_strip` meets its contract. The loop: the first i bytes are those of the sum.
-use Rattle.words.specs.Words.{◌≤◌, ◌-◌}
+use Rattle.std.specs.Prelude.{◌≤◌, ◌-◌}
 use Rattle.memory.specs.Part.{part}
 use Rattle.memory.proofs.Loop.{Turned}
 use Rattle.rows.specs.Rows.{add_scaled}

@@ -1,5 +1,5 @@
 -- `lists::double_strip` meets its contract. The loop: the first i elements are those of the result.
-use Rattle.words.specs.Words.{◌≤◌, ◌-◌}
+use Rattle.std.specs.Prelude.{◌≤◌, ◌-◌}
 use Rattle.memory.proofs.Loop.{Turned}
 use Rattle.rows.specs.Rows.{scaled}
 use Rattle.lists.proofs.double_strip.Given as goal

@@ -1,5 +1,6 @@
 -- `lists::list_pairs` meets its contract. The loop: the first t lists are made.
-use Rattle.words.specs.Words.{◌≡◌, ◌∙◌, ap, arith, ◌*◌, length}
+use Rattle.std.specs.Prelude.{◌≡◌, ◌*◌}
+use Rattle.words.specs.Words.{◌∙◌, ap, arith, length}
 use Rattle.memory.proofs.Parts.{cut, put, length_part}
 use Rattle.lists.proofs.Named.{listed-first, listed_pair}
 use Rattle.lists.proofs.list_pairs.Goals as goal

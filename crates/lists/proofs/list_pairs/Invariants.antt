@@ -1,5 +1,5 @@
 -- `lists::list_pairs` meets its contract. The loop: the first t lists are made.
-use Rattle.words.specs.Words.{◌≤◌, ◌-◌}
+use Rattle.std.specs.Prelude.{◌≤◌, ◌-◌}
 use Rattle.lists.proofs.Named.{ListedFirst}
 use Rattle.lists.proofs.list_pairs.Given as goal
 

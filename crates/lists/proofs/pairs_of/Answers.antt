@@ -1,5 +1,6 @@
 -- `lists::pairs_of` meets its contract. The loop: the first k coefficients are below 4.
-use Rattle.words.specs.Words.{arith, ℕ, ◌≤◌, ◌<◌, get_or, ⊎_elim, sym, subst}
+use Rattle.std.specs.Prelude.{◌≤◌, ◌<◌}
+use Rattle.words.specs.Words.{arith, ℕ, get_or, ⊎_elim, sym, subst}
 use native.Mathlib.Nat.{eq-or-lt_of_le}
 use Rattle.lists.proofs.Digits.{above_four, above_one}
 use Rattle.lists.proofs.pairs_of.Goals as goal

@@ -1,5 +1,6 @@
 -- `lists::pairs_of` meets its contract. The loop: the first k coefficients are below 4.
-use Rattle.words.specs.Words.{ℕ, ◌≤◌, ◌<◌, ◌-◌, length, get_or}
+use Rattle.std.specs.Prelude.{◌≤◌, ◌<◌, ◌-◌}
+use Rattle.words.specs.Words.{ℕ, length, get_or}
 use Rattle.lists.proofs.pairs_of.Given as goal
 
 abbrev pub invariant-loop-k : goal.invariant-loop-k

@@ -1,5 +1,6 @@
 -- `lists::rows_with` meets its contract. The loop: of the first k rows those with the pair of digits are listed.
-use Rattle.words.specs.Words.{◌≡◌, arith, length, rules, sym}
+use Rattle.std.specs.Prelude.{◌≡◌}
+use Rattle.words.specs.Words.{arith, length, rules, sym}
 use Rattle.lists.specs.Digits.{pair_is}
 use Rattle.lists.proofs.Digits.{pair_bit}
 use Rattle.lists.proofs.Named.{listed-none, listed_turn}

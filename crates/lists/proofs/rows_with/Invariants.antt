@@ -1,5 +1,6 @@
 -- `lists::rows_with` meets its contract. The loop: of the first k rows those with the pair of digits are listed.
-use Rattle.words.specs.Words.{◌≡◌, ◌≤◌, ◌-◌, length}
+use Rattle.std.specs.Prelude.{◌≡◌, ◌≤◌, ◌-◌}
+use Rattle.words.specs.Words.{length}
 use Rattle.lists.specs.Digits.{pair_is}
 use Rattle.lists.specs.Named.{Listed}
 use Rattle.lists.proofs.rows_with.Given as goal

@@ -1,5 +1,6 @@
 -- `marks::drop_first` meets its contract.
-use Rattle.words.specs.Words.{◌≡◌, arith, rules}
+use Rattle.std.specs.Prelude.{◌≡◌}
+use Rattle.words.specs.Words.{arith, rules}
 use Rattle.marks.proofs.Only.{only_fits}
 use Rattle.marks.proofs.Marking.{dropped_none, dropped_more, dropped_to}
 use Rattle.marks.proofs.drop_first.Goals as goal

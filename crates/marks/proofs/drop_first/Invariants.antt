@@ -1,5 +1,5 @@
 -- `marks::drop_first` meets its contract.
-use Rattle.words.specs.Words.{◌≤◌, ◌-◌}
+use Rattle.std.specs.Prelude.{◌≤◌, ◌-◌}
 use Rattle.marks.specs.MarkSteps.{Dropped}
 use Rattle.marks.proofs.drop_first.Given as goal
 

@@ -1,5 +1,5 @@
 -- `marks::known_among` meets its contract.
-use Rattle.words.specs.Words.{◌≤◌, ◌-◌}
+use Rattle.std.specs.Prelude.{◌≤◌, ◌-◌}
 use Rattle.marks.specs.MarkSteps.{Tallied}
 use Rattle.marks.proofs.known_among.Given as goal
 

@@ -1,5 +1,6 @@
 -- `marks::mark_at` meets its contract.
-use Rattle.words.specs.Words.{arith, ◌+◌, ◌∙◌, ap}
+use Rattle.std.specs.Prelude.{◌+◌}
+use Rattle.words.specs.Words.{arith, ◌∙◌, ap}
 use Rattle.table.proofs.Offsets.{header-long}
 use Rattle.marks.proofs.Only.{flag-inside, mark_row, mark_past}
 use Rattle.marks.proofs.mark_at.Goals as goal

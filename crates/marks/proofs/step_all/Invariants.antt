@@ -1,5 +1,5 @@
 -- `marks::step_all` meets its contract.
-use Rattle.words.specs.Words.{◌≤◌, ◌-◌}
+use Rattle.std.specs.Prelude.{◌≤◌, ◌-◌}
 use Rattle.marks.proofs.Passing.{Passing}
 use Rattle.marks.proofs.step_all.Given as goal
 

@@ -1,5 +1,6 @@
 -- `marks::update` meets its contract.
-use Rattle.words.specs.Words.{◌<◌, sym, subst, mod-lt}
+use Rattle.std.specs.Prelude.{◌<◌}
+use Rattle.words.specs.Words.{sym, subst, mod-lt}
 use Rattle.marks.proofs.Only.{only_fits, only_trans}
 use Rattle.marks.proofs.Passing.{updated}
 use Rattle.marks.proofs.update.Goals as goal

@@ -1,5 +1,5 @@
 -- `marks::walk` meets its contract.
-use Rattle.words.specs.Words.{◌-◌}
+use Rattle.std.specs.Prelude.{◌-◌}
 use Rattle.marks.proofs.Passing.{Walking}
 use Rattle.marks.proofs.walk.Given as goal
 

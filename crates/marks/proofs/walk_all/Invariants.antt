@@ -1,5 +1,5 @@
 -- `marks::walk_all` meets its contract.
-use Rattle.words.specs.Words.{◌≤◌, ◌+◌, ◌<◌, ◌-◌}
+use Rattle.std.specs.Prelude.{◌≤◌, ◌+◌, ◌<◌, ◌-◌}
 use Rattle.marks.specs.MarkSteps.{Followed}
 use Rattle.marks.proofs.walk_all.Given as goal
 

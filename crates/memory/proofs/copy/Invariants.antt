@@ -1,5 +1,5 @@
 -- `memory::copy` meets its contract. The loop: the first i elements are those of the result.
-use Rattle.words.specs.Words.{◌-◌}
+use Rattle.std.specs.Prelude.{◌-◌}
 use Rattle.memory.proofs.Loop.{Turned}
 use Rattle.memory.proofs.copy.Given as goal
 

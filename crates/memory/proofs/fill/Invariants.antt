@@ -1,5 +1,6 @@
 -- `memory::fill` meets its contract. The loop: the first i elements are those of the result.
-use Rattle.words.specs.Words.{length, ◌-◌, replicate}
+use Rattle.std.specs.Prelude.{◌-◌}
+use Rattle.words.specs.Words.{length, replicate}
 use Rattle.memory.proofs.Loop.{Turned}
 use Rattle.memory.proofs.fill.Given as goal
 

@@ -1,5 +1,6 @@
 -- `memory::load_u16` meets its contract.
-use Rattle.words.specs.Words.{arith, ◌+◌, ap}
+use Rattle.std.specs.Prelude.{◌+◌}
+use Rattle.words.specs.Words.{arith, ap}
 use Rattle.memory.specs.Number.{number}
 use Rattle.memory.proofs.Parts.{part-two}
 use Rattle.memory.proofs.load_u16.Goals as goal

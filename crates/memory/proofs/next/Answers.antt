@@ -1,5 +1,6 @@
 -- `memory::next` meets its contract.
-use Rattle.words.specs.Words.{arith, ◌∙◌, sym, ap, ◌%◌, mod-eq_of_lt}
+use Rattle.std.specs.Prelude.{◌%◌}
+use Rattle.words.specs.Words.{arith, ◌∙◌, sym, ap, mod-eq_of_lt}
 use native.Mathlib.Nat.{mod_self}
 use Rattle.memory.proofs.next.Goals as goal
 

@@ -1,5 +1,6 @@
 -- `memory::store_u16` meets its contract.
-use Rattle.words.specs.Words.{◌≡◌, arith, ◌%◌, ◌^◌, ◌/◌, add-one, length-set}
+use Rattle.std.specs.Prelude.{◌≡◌, ◌%◌, ◌^◌, ◌/◌}
+use Rattle.words.specs.Words.{arith, add-one, length-set}
 use Rattle.memory.specs.Number.{bytes}
 use Rattle.memory.proofs.Parts.{sets_splice}
 use Rattle.memory.proofs.store_u16.Goals as goal

@@ -1,5 +1,6 @@
 -- `memory::store_u32` meets its contract.
-use Rattle.words.specs.Words.{◌≡◌, arith, ◌%◌, ◌^◌, ◌/◌}
+use Rattle.std.specs.Prelude.{◌≡◌, ◌%◌, ◌^◌, ◌/◌}
+use Rattle.words.specs.Words.{arith}
 use Rattle.memory.specs.Number.{bytes}
 use Rattle.memory.proofs.Parts.{splice_next}
 use Rattle.memory.proofs.store_u32.Goals as goal

@@ -1,5 +1,5 @@
 -- `origins::fill` meets its contract.
-use Rattle.words.specs.Words.{◌≤◌, ◌-◌}
+use Rattle.std.specs.Prelude.{◌≤◌, ◌-◌}
 use Rattle.origins.specs.Steps.{Filled}
 use Rattle.origins.proofs.fill.Given as goal
 

@@ -1,5 +1,6 @@
 -- `origins::is_heard` meets its contract.
-use Rattle.words.specs.Words.{◌+◌, ap, get_or, ltb}
+use Rattle.std.specs.Prelude.{◌+◌}
+use Rattle.words.specs.Words.{ap, get_or, ltb}
 use Rattle.origins.proofs.is_heard.Goals as goal
 
 pub returns : goal.returns

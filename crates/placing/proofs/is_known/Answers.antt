@@ -1,5 +1,6 @@
 -- `placing::is_known` meets its contract.
-use Rattle.words.specs.Words.{arith, ◌+◌, ◌∙◌, sym, ap, get_or, eqb}
+use Rattle.std.specs.Prelude.{◌+◌}
+use Rattle.words.specs.Words.{arith, ◌∙◌, sym, ap, get_or, eqb}
 use Rattle.table.proofs.Flags.{flag_at}
 use Rattle.placing.proofs.Showing.{flag-known}
 use Rattle.table.proofs.Offsets.{row_end}

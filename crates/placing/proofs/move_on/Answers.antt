@@ -1,5 +1,6 @@
 -- `placing::move_on` meets its contract. The loop: the window has moved on by i, and oldest is the row of its oldest position.
-use Rattle.words.specs.Words.{◌≡◌, arith, rules}
+use Rattle.std.specs.Prelude.{◌≡◌}
+use Rattle.words.specs.Words.{arith, rules}
 use Rattle.table.proofs.Rows.{fits_kept}
 use Rattle.placing.proofs.Moving.{leaving_none, leaving_more, moved_to, moved-past}
 use Rattle.placing.proofs.move_on.Goals as goal

@@ -1,5 +1,5 @@
 -- `placing::move_on` meets its contract. The loop: the window has moved on by i, and oldest is the row of its oldest position.
-use Rattle.words.specs.Words.{◌≤◌, ◌-◌}
+use Rattle.std.specs.Prelude.{◌≤◌, ◌-◌}
 use Rattle.placing.proofs.Moving.{Leaving}
 use Rattle.placing.proofs.move_on.Given as goal
 

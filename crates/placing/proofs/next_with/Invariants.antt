@@ -1,5 +1,5 @@
 -- `placing::next_with` meets its contract. The loop: the rows from `from` on and before q have no coefficient in the column.
-use Rattle.words.specs.Words.{◌-◌}
+use Rattle.std.specs.Prelude.{◌-◌}
 use Rattle.placing.proofs.Placing.{Passed}
 use Rattle.placing.proofs.next_with.Given as goal
 

@@ -1,6 +1,7 @@
 -- `placing::place` meets its contract. The loop: the column is clear in the rows before q, of which count have become known, and the
 -- row q has a coefficient there.
-use Rattle.words.specs.Words.{◌≤◌, ◌+◌, ◌<◌, ◌-◌, get_or, ◌≢◌}
+use Rattle.std.specs.Prelude.{◌≤◌, ◌+◌, ◌<◌, ◌-◌, ◌≢◌}
+use Rattle.words.specs.Words.{get_or}
 use Rattle.table.specs.Window.{row_offset}
 use Rattle.placing.proofs.Placing.{Cleared}
 use Rattle.placing.proofs.place.Given as goal

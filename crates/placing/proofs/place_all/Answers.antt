@@ -1,5 +1,6 @@
 -- `placing::place_all` meets its contract. The loop: the rows before k have joined the system, and total positions have become known.
-use Rattle.words.specs.Words.{◌≡◌, arith, rules}
+use Rattle.std.specs.Prelude.{◌≡◌}
+use Rattle.words.specs.Words.{arith, rules}
 use Rattle.table.proofs.Rows.{fits_kept}
 use Rattle.placing.proofs.Joining.{joined-none, joined-more, joined_all}
 use Rattle.placing.proofs.place_all.Goals as goal

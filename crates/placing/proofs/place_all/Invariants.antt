@@ -1,5 +1,5 @@
 -- `placing::place_all` meets its contract. The loop: the rows before k have joined the system, and total positions have become known.
-use Rattle.words.specs.Words.{◌≤◌, ◌-◌}
+use Rattle.std.specs.Prelude.{◌≤◌, ◌-◌}
 use Rattle.placing.specs.PlaceSteps.{RowsPlaced}
 use Rattle.placing.proofs.place_all.Given as goal
 

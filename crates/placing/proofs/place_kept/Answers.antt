@@ -1,4 +1,5 @@
-use Rattle.words.specs.Words.{arith, ◌+◌, length, ◌<◌, ◌∙◌, sym, ap, get_or, subst}
+use Rattle.std.specs.Prelude.{◌+◌, ◌<◌}
+use Rattle.words.specs.Words.{arith, length, ◌∙◌, sym, ap, get_or, subst}
 use Rattle.memory.proofs.Parts.{length_part}
 use Rattle.table.specs.Window.{row}
 use Rattle.placing.specs.PlaceSteps.{RowPlaced}

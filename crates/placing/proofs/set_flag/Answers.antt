@@ -1,5 +1,6 @@
 -- `placing::set_flag` meets its contract.
-use Rattle.words.specs.Words.{arith, ◌+◌, ◌∙◌, ap, [], ◌∷◌}
+use Rattle.std.specs.Prelude.{◌+◌, ◌∷◌}
+use Rattle.words.specs.Words.{arith, ◌∙◌, ap, []}
 use Rattle.memory.specs.Part.{splice}
 use Rattle.table.proofs.Offsets.{row_end}
 use Rattle.table.proofs.Rows.{set-splice}

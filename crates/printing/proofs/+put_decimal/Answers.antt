@@ -1,5 +1,6 @@
 -- `printing::put_decimal` meets its contract. The measure is the number, of which each call of itself loses the last digit.
-use Rattle.words.specs.Words.{arith, ◌+◌, rules, ◌%◌}
+use Rattle.std.specs.Prelude.{◌+◌, ◌%◌}
+use Rattle.words.specs.Words.{arith, rules}
 use Rattle.text.proofs.Decimals.{decimal_small, decimal-more, decimal_positive, length_more}
 use Rattle.printing.proofs.Laws.{put_then, put_byte}
 use Rattle.printing.proofs.+put_decimal.Goals as goal

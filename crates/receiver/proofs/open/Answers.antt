@@ -1,5 +1,6 @@
 -- `receiver::open` meets its contract.
-use Rattle.words.specs.Words.{arith, ◌≤◌, length, ◌∙◌, ap}
+use Rattle.std.specs.Prelude.{◌≤◌}
+use Rattle.words.specs.Words.{arith, length, ◌∙◌, ap}
 use Rattle.memory.specs.Part.{splice}
 use Rattle.history.specs.History.{memory_size}
 use Rattle.wire.proofs.Settings.{setting-names, setting_good, setting_bad}

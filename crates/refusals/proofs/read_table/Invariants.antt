@@ -1,5 +1,5 @@
 -- `refusals::read_table` is safe and ends: each turn reads some bytes.
-use Rattle.words.specs.Words.{◌-◌, ◌≤◌}
+use Rattle.std.specs.Prelude.{◌-◌, ◌≤◌}
 use Rattle.refusals.proofs.read_table.Given as goal
 
 abbrev pub invariant-loop-n : goal.invariant-loop-n

@@ -1,5 +1,6 @@
 -- `replay::feed_lines` meets its contract. The invariant: the capture has come from where the piece began to where the loop stands.
-use Rattle.words.specs.Words.{◌≡◌, length, ◌-◌}
+use Rattle.std.specs.Prelude.{◌≡◌, ◌-◌}
+use Rattle.words.specs.Words.{length}
 use Rattle.replay.proofs.Feeding.{Running}
 use Rattle.replay.proofs.feed_lines.Given as goal
 

@@ -1,5 +1,6 @@
 -- `replay::goes_on` meets its contract: each way out rewrites with the tests before it.
-use Rattle.words.specs.Words.{arith, ◌≤◌, ◌<◌, le-leb, lt-leb, lt-ltb, le-ltb}
+use Rattle.std.specs.Prelude.{◌≤◌, ◌<◌}
+use Rattle.words.specs.Words.{arith, le-leb, lt-leb, lt-ltb, le-ltb}
 use Rattle.replay.proofs.goes_on.Goals as goal
 
 pub returns-then-taken-all : goal.returns-then-taken-all

@@ -1,5 +1,6 @@
 -- `rows::add_part_or` meets its contract.
-use Rattle.words.specs.Words.{◌≡◌, arith, length, ◌∙◌, ap}
+use Rattle.std.specs.Prelude.{◌≡◌}
+use Rattle.words.specs.Words.{arith, length, ◌∙◌, ap}
 use Rattle.memory.proofs.Parts.{put, cut, length_part}
 use Rattle.rows.proofs.Turns.{zero_put}
 use Rattle.rows.proofs.add_part_or.Goals as goal

@@ -1,5 +1,6 @@
 -- `rows::add_scaled` meets its contract. The loop: the first i elements are those of the result.
-use Rattle.words.specs.Words.{◌≡◌, arith, sym}
+use Rattle.std.specs.Prelude.{◌≡◌}
+use Rattle.words.specs.Words.{arith, sym}
 use Rattle.memory.proofs.Loop.{turned_all}
 use Rattle.rows.proofs.Sums.{length_add_scaled, add_scaled_zero}
 use Rattle.rows.proofs.Turns.{sum_more}

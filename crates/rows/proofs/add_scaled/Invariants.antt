@@ -1,5 +1,5 @@
 -- `rows::add_scaled` meets its contract. The loop: the first i elements are those of the result.
-use Rattle.words.specs.Words.{◌-◌}
+use Rattle.std.specs.Prelude.{◌-◌}
 use Rattle.memory.proofs.Loop.{Turned}
 use Rattle.rows.specs.Rows.{add_scaled}
 use Rattle.rows.proofs.add_scaled.Given as goal

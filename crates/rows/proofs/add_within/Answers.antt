@@ -1,5 +1,6 @@
 -- `rows::add_within` meets its contract. The loop: the first i bytes of the stretch are those of the sum.
-use Rattle.words.specs.Words.{◌≡◌, arith}
+use Rattle.std.specs.Prelude.{◌≡◌}
+use Rattle.words.specs.Words.{arith}
 use Rattle.rows.proofs.Turns.{within-zero, within_none, within_more, within_all}
 use Rattle.rows.proofs.add_within.Goals as goal
 

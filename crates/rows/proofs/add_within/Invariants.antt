@@ -1,5 +1,5 @@
 -- `rows::add_within` meets its contract. The loop: the first i bytes of the stretch are those of the sum.
-use Rattle.words.specs.Words.{◌-◌}
+use Rattle.std.specs.Prelude.{◌-◌}
 use Rattle.rows.proofs.Turns.{Within}
 use Rattle.rows.proofs.add_within.Given as goal
 

@@ -1,5 +1,6 @@
 -- `rows::scale` meets its contract. The loop: the first i elements are those of the result.
-use Rattle.words.specs.Words.{◌≡◌, arith, sym}
+use Rattle.std.specs.Prelude.{◌≡◌}
+use Rattle.words.specs.Words.{arith, sym}
 use Rattle.memory.proofs.Loop.{turned_all}
 use Rattle.rows.proofs.Sums.{length-scaled, scaled-one}
 use Rattle.rows.proofs.Turns.{scale_more}

@@ -1,5 +1,6 @@
 -- `rows::xor_within` meets its contract. The loop: the first i bytes of the stretch are those of the sum.
-use Rattle.words.specs.Words.{arith, ◌+◌, rules, get_or, ◌<◌}
+use Rattle.std.specs.Prelude.{◌+◌, ◌<◌}
+use Rattle.words.specs.Words.{arith, rules, get_or}
 use Rattle.field.proofs.Laws.{product-one}
 use Rattle.rows.proofs.Turns.{within_none, within_more, within_all}
 use Rattle.rows.proofs.xor_within.Goals as goal

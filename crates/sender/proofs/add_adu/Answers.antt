@@ -1,5 +1,6 @@
 -- `sender::add_adu` meets its contract.
-use Rattle.words.specs.Words.{◌≡◌, arith, ℕ, List, ◌∙◌, sym, ap, some, true}
+use Rattle.std.specs.Prelude.{◌≡◌}
+use Rattle.words.specs.Words.{arith, ℕ, List, ◌∙◌, sym, ap, some, true}
 use Rattle.wire.specs.Flows.{announced}
 use Rattle.wire.proofs.Reading.{source-length}
 use Rattle.sender.specs.declared.Header.{Header}

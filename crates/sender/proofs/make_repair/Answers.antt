@@ -1,5 +1,6 @@
 -- `sender::make_repair` meets its contract.
-use Rattle.words.specs.Words.{◌≡◌, arith, ℕ, List, ◌≤◌, ◌<◌, ◌∙◌, sym, some, true, false, ◌^◌, ltb, lt-ltb, le-ltb, ◌||◌, not}
+use Rattle.std.specs.Prelude.{◌≡◌, ◌≤◌, ◌<◌, ◌^◌, ◌||◌}
+use Rattle.words.specs.Words.{arith, ℕ, List, ◌∙◌, sym, some, true, false, ltb, lt-ltb, le-ltb, not}
 use Rattle.words.specs.Words.{mul-le-mul}
 use Rattle.wire.specs.Numbers.{within}
 use Rattle.wire.proofs.Settings.{within_bounds}

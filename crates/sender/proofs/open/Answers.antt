@@ -1,5 +1,6 @@
 -- `sender::open` meets its contract.
-use Rattle.words.specs.Words.{◌≡◌, arith, ℕ, ◌∙◌, ap, some}
+use Rattle.std.specs.Prelude.{◌≡◌}
+use Rattle.words.specs.Words.{arith, ℕ, ◌∙◌, ap, some}
 use Rattle.memory.specs.Part.{splice}
 use Rattle.wire.specs.declared.Setting.{Setting}
 use Rattle.wire.specs.declared.Checked.{Checked}

@@ -1,5 +1,6 @@
 -- `strips::add_rows` meets its contract. The loop: the first `at` bytes are those of the sum.
-use Rattle.words.specs.Words.{◌≡◌, refl, sym, ap, ap₂, ◌∙◌, ◌+◌, ◌-◌, arith, length, rules}
+use Rattle.std.specs.Prelude.{◌≡◌, ◌+◌, ◌-◌}
+use Rattle.words.specs.Words.{refl, sym, ap, ap₂, ◌∙◌, arith, length, rules}
 use Rattle.memory.specs.Part.{part}
 use Rattle.memory.proofs.Parts.{cut, put, length_part}
 use Rattle.rows.specs.Rows.{add_scaled}

@@ -1,5 +1,6 @@
 -- `strips::add_rows` meets its contract. The loop: the first `at` bytes are those of the sum.
-use Rattle.words.specs.Words.{◌≡◌, ◌≤◌, ◌-◌, length}
+use Rattle.std.specs.Prelude.{◌≡◌, ◌≤◌, ◌-◌}
+use Rattle.words.specs.Words.{length}
 use Rattle.rows.specs.Sums.{rows_added}
 use Rattle.strips.proofs.Cutting.{done}
 use Rattle.strips.proofs.add_rows.Given as goal

@@ -1,5 +1,6 @@
 -- `strips::add_strip` meets its contract.
-use Rattle.words.specs.Words.{◌≡◌, ap, ◌∙◌, sym, ℕ, ◌+◌, ◌*◌, arith, length, replicate}
+use Rattle.std.specs.Prelude.{◌≡◌, ◌+◌, ◌*◌}
+use Rattle.words.specs.Words.{ap, ◌∙◌, sym, ℕ, arith, length, replicate}
 use Rattle.memory.specs.Number.{Bytes}
 use Rattle.memory.proofs.Parts.{length_part}
 use Rattle.rows.specs.Rows.{add_scaled}

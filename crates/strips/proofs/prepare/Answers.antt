@@ -1,5 +1,6 @@
 -- `strips::prepare` meets its contract.
-use Rattle.words.specs.Words.{refl, subst, arith, ◌≤◌, length}
+use Rattle.std.specs.Prelude.{◌≤◌}
+use Rattle.words.specs.Words.{refl, subst, arith, length}
 use Rattle.buckets.specs.Buckets.{weights}
 use Rattle.strips.specs.Ways.{most_rows}
 use Rattle.strips.proofs.Ways.{most_few, prepared_lists, prepared_buckets, prepared_sorted}

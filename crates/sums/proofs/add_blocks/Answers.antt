@@ -1,5 +1,6 @@
 -- `sums::add_blocks` meets its contract. The loop: the first k rows have been added.
-use Rattle.words.specs.Words.{◌≡◌, refl, arith, length, rules}
+use Rattle.std.specs.Prelude.{◌≡◌}
+use Rattle.words.specs.Words.{refl, arith, length, rules}
 use Rattle.memory.proofs.Parts.{cut, length_part}
 use Rattle.rows.specs.Sums.{combined}
 use Rattle.rows.proofs.Combinations.{block-added, block_fits}

@@ -1,5 +1,6 @@
 -- `sums::add_blocks` meets its contract. The loop: the first k rows have been added.
-use Rattle.words.specs.Words.{◌≡◌, ◌≤◌, ◌-◌, length}
+use Rattle.std.specs.Prelude.{◌≡◌, ◌≤◌, ◌-◌}
+use Rattle.words.specs.Words.{length}
 use Rattle.rows.specs.Sums.{combined, row_at}
 use Rattle.rows.specs.Combination.{coefficient}
 use Rattle.sums.proofs.add_blocks.Given as goal

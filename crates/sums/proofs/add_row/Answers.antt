@@ -1,5 +1,6 @@
 -- `sums::add_row` meets its contract.
-use Rattle.words.specs.Words.{◌≡◌, sym, length, arith, ◌+◌, ◌*◌}
+use Rattle.std.specs.Prelude.{◌≡◌, ◌+◌, ◌*◌}
+use Rattle.words.specs.Words.{sym, length, arith}
 use Rattle.memory.proofs.Parts.{cut}
 use Rattle.rows.proofs.Sums.{add_scaled_zero}
 use Rattle.rows.specs.Sums.{row_at}

@@ -1,5 +1,6 @@
 -- `sums::add_rows` meets its contract. The loop: the first k rows have been added.
-use Rattle.words.specs.Words.{◌≡◌, arith, length, rules}
+use Rattle.std.specs.Prelude.{◌≡◌}
+use Rattle.words.specs.Words.{arith, length, rules}
 use Rattle.memory.proofs.Parts.{row_fits}
 use Rattle.rows.specs.Sums.{combined}
 use Rattle.rows.specs.Combination.{coefficient}

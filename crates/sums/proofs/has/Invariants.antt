@@ -1,5 +1,6 @@
 -- `sums::has` meets its contract. The loop: at most k are counted among the first k.
-use Rattle.words.specs.Words.{◌≤◌, ◌-◌, length}
+use Rattle.std.specs.Prelude.{◌≤◌, ◌-◌}
+use Rattle.words.specs.Words.{length}
 use Rattle.sums.proofs.has.Given as goal
 
 abbrev pub invariant-loop-k : goal.invariant-loop-k

@@ -1,5 +1,6 @@
 -- `sums::holds_strip` meets its contract.
-use Rattle.words.specs.Words.{arith, ◌-◌, leb-true}
+use Rattle.std.specs.Prelude.{◌-◌}
+use Rattle.words.specs.Words.{arith, leb-true}
 use Rattle.sums.proofs.holds_strip.Goals as goal
 
 pub returns : goal.returns

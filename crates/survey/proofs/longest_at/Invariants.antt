@@ -1,5 +1,5 @@
 -- `survey::longest_at` meets its contract. The loop's invariant: `longest` is the longest row of the keys below `key`.
-use Rattle.words.specs.Words.{◌≡◌, ◌≤◌, ◌-◌}
+use Rattle.std.specs.Prelude.{◌≡◌, ◌≤◌, ◌-◌}
 use Rattle.survey.specs.Survey.{longest_at}
 use Rattle.survey.proofs.longest_at.Given as goal
 

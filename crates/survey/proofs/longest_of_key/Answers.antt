@@ -1,6 +1,7 @@
 -- `survey::longest_of_key` meets its contract. The loop's invariant: `longest` is the longest row of the first i coefficients, and state are the words after
 -- them.
-use Rattle.words.specs.Words.{◌≡◌, arith}
+use Rattle.std.specs.Prelude.{◌≡◌}
+use Rattle.words.specs.Words.{arith}
 use Rattle.survey.proofs.Laws.{largest-none, largest-more, words_none, words_more}
 use Rattle.survey.proofs.longest_of_key.Goals as goal
 

@@ -1,6 +1,6 @@
 -- `survey::longest_of_key` meets its contract. The loop's invariant: `longest` is the longest row of the first i coefficients, and state are the words after
 -- them.
-use Rattle.words.specs.Words.{◌≡◌, ◌≤◌, ◌-◌}
+use Rattle.std.specs.Prelude.{◌≡◌, ◌≤◌, ◌-◌}
 use Rattle.survey.specs.Survey.{words_after, longest_of_key}
 use Rattle.survey.proofs.longest_of_key.Given as goal
 

@@ -1,5 +1,6 @@
 -- `survey::longest_zeros` meets its contract. The loop's invariant: `longest` is the longest row at the density thresholds below dt.
-use Rattle.words.specs.Words.{◌≡◌, arith}
+use Rattle.std.specs.Prelude.{◌≡◌}
+use Rattle.words.specs.Words.{arith}
 use Rattle.survey.proofs.Laws.{largest-none, largest-more}
 use Rattle.survey.proofs.longest_zeros.Goals as goal
 

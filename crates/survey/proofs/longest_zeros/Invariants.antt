@@ -1,5 +1,5 @@
 -- `survey::longest_zeros` meets its contract. The loop's invariant: `longest` is the longest row at the density thresholds below dt.
-use Rattle.words.specs.Words.{◌≡◌, ◌≤◌, ◌-◌}
+use Rattle.std.specs.Prelude.{◌≡◌, ◌≤◌, ◌-◌}
 use Rattle.survey.specs.Survey.{longest_within}
 use Rattle.survey.proofs.longest_zeros.Given as goal
 

@@ -1,5 +1,6 @@
 -- `survey::zeros_of` meets its contract: what is left of the draws are the zeros.
-use Rattle.words.specs.Words.{◌≡◌, arith, ℕ, ◌+◌, ◌-◌, List, ne_eqb, eq-eqb}
+use Rattle.std.specs.Prelude.{◌≡◌, ◌+◌, ◌-◌}
+use Rattle.words.specs.Words.{arith, ℕ, List, ne_eqb, eq-eqb}
 use Rattle.coefficients.specs.declared.Coefficient.{Coefficient}
 use Rattle.coefficients.specs.Coefficients.{byte_of}
 use Rattle.survey.specs.Survey.{zeros_of}

@@ -1,5 +1,5 @@
 -- `table::or_all` meets its contract. The loop: x is zero just where every byte before i is.
-use Rattle.words.specs.Words.{◌≡◌, ◌≤◌, ◌-◌, ◌↔◌}
+use Rattle.std.specs.Prelude.{◌≡◌, ◌≤◌, ◌-◌, ◌↔◌}
 use Rattle.table.specs.RowSteps.{ZeroFrom}
 use Rattle.table.proofs.or_all.Given as goal
 

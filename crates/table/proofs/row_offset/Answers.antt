@@ -1,5 +1,6 @@
 -- `table::row_offset` meets its contract.
-use Rattle.words.specs.Words.{◌≡◌, arith, ℕ, ◌≤◌, ◌+◌, ap, ◌*◌}
+use Rattle.std.specs.Prelude.{◌≡◌, ◌≤◌, ◌+◌, ◌*◌}
+use Rattle.words.specs.Words.{arith, ℕ, ap}
 use Rattle.memory.proofs.Parts.{row_fits}
 use Rattle.table.specs.declared.Shape.{Shape}
 use Rattle.table.specs.Window.{stride, row_offset}

@@ -1,5 +1,6 @@
 -- `tinymt::mix` meets its contract: the code computes the definition's own expression, and a word XOR itself shifted is a word, so the product fits 64 bits.
-use Rattle.words.specs.Words.{arith, ◌<◌, refl, ◌^◌, ◌/◌, bit_xor, xor_lt}
+use Rattle.std.specs.Prelude.{◌<◌, ◌^◌, ◌/◌}
+use Rattle.words.specs.Words.{arith, refl, bit_xor, xor_lt}
 use Rattle.std.proofs.Common.{lt_of_le_of_lt}
 use lib.Pow.{shr_le}
 use Rattle.tinymt.specs.Generator.{mixed}

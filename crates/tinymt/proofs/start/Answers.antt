@@ -1,5 +1,6 @@
 -- `tinymt::start` meets its contract. The first loop's invariant: the state is that after the rounds before i; the second's: that after k steps.
-use Rattle.words.specs.Words.{◌≡◌, arith, refl}
+use Rattle.std.specs.Prelude.{◌≡◌}
+use Rattle.words.specs.Words.{arith, refl}
 use Rattle.tinymt.proofs.Laws.{seeded-more, steps-more}
 use Rattle.tinymt.specs.Generator.{steps, seeded, start_of}
 use Rattle.tinymt.proofs.start.Goals as goal

@@ -1,5 +1,5 @@
 -- `tinymt::start` meets its contract. The first loop's invariant: the state is that after the rounds before i; the second's: that after k steps.
-use Rattle.words.specs.Words.{◌≡◌, ◌≤◌, ◌-◌}
+use Rattle.std.specs.Prelude.{◌≡◌, ◌≤◌, ◌-◌}
 use Rattle.tinymt.specs.Generator.{steps, seeded}
 use Rattle.tinymt.proofs.start.Given as goal
 

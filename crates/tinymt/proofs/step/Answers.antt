@@ -1,5 +1,6 @@
 -- `tinymt::step` meets its contract: the code computes the definition's own expressions.
-use Rattle.words.specs.Words.{ℕ, [], ◌∷◌, get_or, ap₂}
+use Rattle.std.specs.Prelude.{◌∷◌}
+use Rattle.words.specs.Words.{ℕ, [], get_or, ap₂}
 use Rattle.tinymt.specs.Generator.{step_q, step_y, step_of}
 use Rattle.tinymt.proofs.step.Goals as goal
 

@@ -1,5 +1,6 @@
 -- `wire::is_announced` meets its contract.
-use Rattle.words.specs.Words.{rules, arith, ◌<◌, ◌/◌}
+use Rattle.std.specs.Prelude.{◌<◌, ◌/◌}
+use Rattle.words.specs.Words.{rules, arith}
 use Rattle.memory.proofs.Parts.{get_or-part}
 use Rattle.wire.specs.Flows.{announced, flows_in}
 use Rattle.wire.proofs.is_announced.Goals as goal

@@ -1,5 +1,6 @@
 -- `wire::read_repair` meets its contract.
-use Rattle.words.specs.Words.{◌≡◌, arith, length, ◌∙◌, sym, ◌-◌}
+use Rattle.std.specs.Prelude.{◌≡◌, ◌-◌}
+use Rattle.words.specs.Words.{arith, length, ◌∙◌, sym}
 use native.Mathlib.Nat.{zero-div, div-zero}
 use Rattle.wire.specs.Packets.{repair_count, repair_key, density_threshold, protected_count, first_esi}
 use Rattle.wire.proofs.Headers.{no_repair, no_count, no_symbols, uneven, even_read}

@@ -1,5 +1,6 @@
 -- `wire::write_flows` meets its contract.
-use Rattle.words.specs.Words.{◌≡◌, arith, length}
+use Rattle.std.specs.Prelude.{◌≡◌}
+use Rattle.words.specs.Words.{arith, length}
 use Rattle.memory.proofs.Parts.{whole}
 use Rattle.wire.proofs.write_flows.Goals as goal
 

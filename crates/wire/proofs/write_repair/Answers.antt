@@ -1,5 +1,6 @@
 -- `wire::write_repair` meets its contract.
-use Rattle.words.specs.Words.{◌+◌, refl, ◌*◌, ◌++◌}
+use Rattle.std.specs.Prelude.{◌+◌, ◌*◌, ◌++◌}
+use Rattle.words.specs.Words.{refl}
 use Rattle.memory.specs.Number.{bytes}
 use Rattle.wire.specs.Packets.{repair_header}
 use Rattle.wire.proofs.Adui.{front_next}

@@ -1,5 +1,6 @@
 -- `wire::write_setting` meets its contract.
-use Rattle.words.specs.Words.{refl, ◌++◌}
+use Rattle.std.specs.Prelude.{◌++◌}
+use Rattle.words.specs.Words.{refl}
 use Rattle.memory.specs.Number.{bytes}
 use Rattle.wire.specs.Settings.{scheme_number}
 use Rattle.wire.specs.Stored.{setting_bytes}

@@ -1,5 +1,6 @@
 -- `admission::packet::accept` meets its contract.
-use Rattle.words.specs.Words.{arith, ◌+◌, ◌∙◌, subst, eqb-true, not-false, eqb, not}
+use Rattle.std.specs.Prelude.{◌+◌}
+use Rattle.words.specs.Words.{arith, ◌∙◌, subst, eqb-true, not-false, eqb, not}
 use Rattle.table.specs.declared.Shape.{Shape}
 use Rattle.marks.specs.MarkSteps.{Tallied}
 use Rattle.history.proofs.Sides.{limits}

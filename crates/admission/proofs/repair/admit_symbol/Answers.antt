@@ -1,5 +1,6 @@
 -- `admission::repair::admit_symbol` meets its contract.
-use Rattle.words.specs.Words.{◌≡◌, arith, ◌+◌}
+use Rattle.std.specs.Prelude.{◌≡◌, ◌+◌}
+use Rattle.words.specs.Words.{arith}
 use Rattle.memory.specs.Part.{splice}
 use Rattle.memory.proofs.Parts.{whole}
 use Rattle.table.specs.Window.{row_offset}

@@ -1,5 +1,6 @@
 -- `admission::repair::gather_repair` meets its contract. The loop: working memory keeps `kept` rows of the first i equations.
-use Rattle.words.specs.Words.{arith, ℕ, List, ◌<◌, ◌≤◌, length, ◌+◌, ◌*◌}
+use Rattle.std.specs.Prelude.{◌<◌, ◌≤◌, ◌+◌, ◌*◌}
+use Rattle.words.specs.Words.{arith, ℕ, List, length}
 use Rattle.memory.proofs.Parts.{cut, length_part, row_fits}
 use Rattle.admission.specs.Steps.{Admits}
 use Rattle.admission.specs.RepairSteps.{equation_at}

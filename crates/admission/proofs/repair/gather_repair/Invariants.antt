@@ -1,5 +1,5 @@
 -- `admission::repair::gather_repair` meets its contract. The loop: working memory keeps `kept` rows of the first i equations.
-use Rattle.words.specs.Words.{◌≤◌, ◌-◌}
+use Rattle.std.specs.Prelude.{◌≤◌, ◌-◌}
 use Rattle.admission.specs.declared.packet.Gathered.TheVariants.{All}
 use Rattle.admission.specs.Steps.{Gathers}
 use Rattle.admission.specs.RepairSteps.{equation_at}

@@ -1,5 +1,6 @@
 -- `admission::repair::read_repair` meets its contract.
-use Rattle.words.specs.Words.{◌≡◌, arith, ℕ, ◌≤◌, ◌∙◌, sym, ap, true, ap₂}
+use Rattle.std.specs.Prelude.{◌≡◌, ◌≤◌}
+use Rattle.words.specs.Words.{arith, ℕ, ◌∙◌, sym, ap, true, ap₂}
 use Rattle.wire.specs.declared.RepairFields.{RepairFields}
 use Rattle.wire.specs.declared.RepairHeader.TheVariants.{Repair}
 use Rattle.wire.specs.Numbers.{within}

@@ -1,5 +1,6 @@
 -- `admission::source::gather_source` meets its contract.
-use Rattle.words.specs.Words.{◌≤◌, length, ◌-◌}
+use Rattle.std.specs.Prelude.{◌≤◌, ◌-◌}
+use Rattle.words.specs.Words.{length}
 use Rattle.wire.specs.Packets.{symbol_count}
 use Rattle.admission.specs.declared.packet.Gathered.TheVariants.{All}
 use Rattle.admission.specs.Steps.{Gathers}

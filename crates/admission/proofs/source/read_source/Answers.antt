@@ -1,5 +1,6 @@
 -- `admission::source::read_source` meets its contract.
-use Rattle.words.specs.Words.{◌≡◌, arith, ℕ, ◌≤◌, ◌∙◌, sym, ap, some, ap₂}
+use Rattle.std.specs.Prelude.{◌≡◌, ◌≤◌}
+use Rattle.words.specs.Words.{arith, ℕ, ◌∙◌, sym, ap, some, ap₂}
 use Rattle.table.proofs.Offsets.{header-long}
 use Rattle.wire.specs.Packets.{source_esi}
 use Rattle.holding.specs.declared.Header.{Header}

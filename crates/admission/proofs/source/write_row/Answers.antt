@@ -1,5 +1,6 @@
 -- `admission::source::write_row` meets its contract.
-use Rattle.words.specs.Words.{◌≡◌, arith, ℕ, ◌≤◌, length, ◌+◌, rules, List, ◌∙◌, ap, ◌-◌, drop, take}
+use Rattle.std.specs.Prelude.{◌≡◌, ◌≤◌, ◌+◌, ◌-◌}
+use Rattle.words.specs.Words.{arith, ℕ, length, rules, List, ◌∙◌, ap, drop, take}
 use Rattle.memory.specs.Part.{splice}
 use Rattle.memory.proofs.Parts.{cut, put, length_part}
 use Rattle.wire.specs.Packets.{symbol_at}

@@ -1,5 +1,5 @@
 -- `blocks::identifier::read` meets its contract.
-use Rattle.words.specs.Words.{◌%◌, ◌/◌}
+use Rattle.std.specs.Prelude.{◌%◌, ◌/◌}
 use Rattle.blocks.proofs.identifier.read.Goals as goal
 
 pub returns : goal.returns

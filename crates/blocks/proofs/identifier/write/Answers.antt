@@ -1,5 +1,6 @@
 -- `blocks::identifier::write` meets its contract.
-use Rattle.words.specs.Words.{arith, ◌+◌, List, ℕ, ◌∙◌, ap}
+use Rattle.std.specs.Prelude.{◌+◌}
+use Rattle.words.specs.Words.{arith, List, ℕ, ◌∙◌, ap}
 use Rattle.memory.specs.Part.{splice}
 use Rattle.memory.specs.Number.{bytes}
 use Rattle.blocks.proofs.Identifiers.{written}

@@ -1,5 +1,6 @@
 -- `field::Gf256::double` meets its contract: x times the polynomial, less the modulus if that reaches degree 8.
-use Rattle.words.specs.Words.{◌∙◌, ap, ◌%◌, ◌*◌, bit_xor, rules}
+use Rattle.std.specs.Prelude.{◌%◌, ◌*◌}
+use Rattle.words.specs.Words.{◌∙◌, ap, bit_xor, rules}
 use Rattle.field.proofs.Linear.{twice}
 use Rattle.field.proofs.Gf256.double.Goals as goal
 

@@ -1,5 +1,6 @@
 -- `field::tables::logarithm` meets its contract, by the rule of the table.
-use Rattle.words.specs.Words.{arith, ℕ, List, ◌-◌, get_or}
+use Rattle.std.specs.Prelude.{◌-◌}
+use Rattle.words.specs.Words.{arith, ℕ, List, get_or}
 use mathlib.Core.Path.{subst⁻¹}
 use Rattle.field.specs.Logarithm.{IsLogarithm}
 use Rattle.field.proofs.Laws.{logarithms_at}

@@ -1,5 +1,6 @@
 -- `field::tables::power` meets its contract, by the rule of the table.
-use Rattle.words.specs.Words.{arith, ℕ, List, ◌∙◌, ◌%◌, get_or, ap₂}
+use Rattle.std.specs.Prelude.{◌%◌}
+use Rattle.words.specs.Words.{arith, ℕ, List, ◌∙◌, get_or, ap₂}
 use Rattle.field.proofs.Laws.{doublings_at, power_reduced}
 use Rattle.field.proofs.tables.power.Goals as goal
 

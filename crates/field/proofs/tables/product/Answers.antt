@@ -1,5 +1,6 @@
 -- `field::tables::product` meets its contract: 2^e times 2^f is 2^(e + f).
-use Rattle.words.specs.Words.{◌≡◌, arith, ℕ, rules, ◌∙◌, sym, ap, eqb-false}
+use Rattle.std.specs.Prelude.{◌≡◌}
+use Rattle.words.specs.Words.{arith, ℕ, rules, ◌∙◌, sym, ap, eqb-false}
 use Rattle.field.specs.Gf256.{product}
 use Rattle.field.proofs.Laws.{product_by_logarithms, product-zero, product_comm}
 use Rattle.field.proofs.tables.product.Goals as goal

@@ -1,5 +1,6 @@
 -- `holding::front::read_header` meets its contract.
-use Rattle.words.specs.Words.{◌≡◌, ℕ, List, some}
+use Rattle.std.specs.Prelude.{◌≡◌}
+use Rattle.words.specs.Words.{ℕ, List, some}
 use Rattle.wire.specs.declared.Setting.{Setting}
 use Rattle.wire.specs.Settings.{Valid}
 use Rattle.wire.specs.Stored.{setting_in}

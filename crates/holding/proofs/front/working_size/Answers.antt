@@ -1,5 +1,6 @@
 -- `holding::front::working_size` meets its contract: one row more than a receiver needs, and a byte for it.
-use Rattle.words.specs.Words.{arith, ℕ, ◌+◌, ◌*◌, ◌≡◌, suc-mul, add-one}
+use Rattle.std.specs.Prelude.{◌+◌, ◌*◌, ◌≡◌}
+use Rattle.words.specs.Words.{arith, ℕ, suc-mul, add-one}
 use Rattle.wire.specs.declared.Setting.{Setting}
 use Rattle.history.specs.History.{memory_size, working_size}
 use Rattle.table.specs.Window.{stride}

@@ -1,5 +1,6 @@
 -- `holding::front::write_fresh` meets its contract.
-use Rattle.words.specs.Words.{ℕ, List, ◌∙◌, ◌-◌, ap₂}
+use Rattle.std.specs.Prelude.{◌-◌}
+use Rattle.words.specs.Words.{ℕ, List, ◌∙◌, ap₂}
 use Rattle.memory.specs.Part.{splice}
 use Rattle.wire.specs.Packets.{zeros}
 use Rattle.holding.specs.Inner.{fresh_memory}

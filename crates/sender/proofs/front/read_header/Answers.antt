@@ -1,5 +1,6 @@
 -- `sender::front::read_header` meets its contract.
-use Rattle.words.specs.Words.{◌≡◌, arith, ℕ, List, some}
+use Rattle.std.specs.Prelude.{◌≡◌}
+use Rattle.words.specs.Words.{arith, ℕ, List, some}
 use Rattle.wire.specs.declared.Setting.{Setting}
 use Rattle.wire.specs.declared.Checked.{Checked}
 use Rattle.wire.specs.declared.Checked.TheVariants.{Good}

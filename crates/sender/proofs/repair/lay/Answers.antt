@@ -1,5 +1,6 @@
 -- `sender::repair::lay` meets its contract.
-use Rattle.words.specs.Words.{◌≡◌, arith, length, rules, refl, length-set}
+use Rattle.std.specs.Prelude.{◌≡◌}
+use Rattle.words.specs.Words.{arith, length, rules, refl, length-set}
 use Rattle.sender.proofs.Laying.{laying_none, laying_more, laying_done}
 use Rattle.sender.proofs.repair.lay.Goals as goal
 

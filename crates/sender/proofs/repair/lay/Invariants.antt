@@ -1,5 +1,6 @@
 -- `sender::repair::lay` meets its contract.
-use Rattle.words.specs.Words.{◌≡◌, ◌≤◌, length, ◌-◌}
+use Rattle.std.specs.Prelude.{◌≡◌, ◌≤◌, ◌-◌}
+use Rattle.words.specs.Words.{length}
 use Rattle.sender.proofs.Laying.{Laying}
 use Rattle.sender.proofs.repair.lay.Given as goal
 

@@ -1,5 +1,6 @@
 -- `sender::repair::repair_symbol` meets its contract.
-use Rattle.words.specs.Words.{◌≡◌, arith, ◌≤◌, length, ◌∙◌, sym, ◌++◌, drop, take, mod-lt, length-append, length-take-le, take_at}
+use Rattle.std.specs.Prelude.{◌≡◌, ◌≤◌, ◌++◌}
+use Rattle.words.specs.Words.{arith, length, ◌∙◌, sym, drop, take, mod-lt, length-append, length-take-le, take_at}
 use Rattle.sender.specs.State.{header_size}
 use Rattle.sender.specs.Inner.{Laid, first_slot}
 use Rattle.sender.proofs.Heads.{opened}

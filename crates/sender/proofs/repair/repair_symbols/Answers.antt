@@ -1,5 +1,6 @@
 -- `sender::repair::repair_symbols` meets its contract.
-use Rattle.words.specs.Words.{◌≡◌, arith, ℕ, ◌≤◌, ◌+◌, List, length, refl, ◌∙◌, sym, ap, [], ◌*◌, get_or}
+use Rattle.std.specs.Prelude.{◌≡◌, ◌≤◌, ◌+◌, ◌*◌}
+use Rattle.words.specs.Words.{arith, ℕ, List, length, refl, ◌∙◌, sym, ap, [], get_or}
 use Rattle.memory.specs.Part.{splice}
 use Rattle.memory.proofs.Parts.{cut, put, length_part, length-splice, row_fits}
 use Rattle.sender.specs.Inner.{window_in, symbols_from}

@@ -1,5 +1,6 @@
 -- `sender::repair::repair_symbols` meets its contract.
-use Rattle.words.specs.Words.{◌≡◌, ◌≤◌, length, ◌-◌}
+use Rattle.std.specs.Prelude.{◌≡◌, ◌≤◌, ◌-◌}
+use Rattle.words.specs.Words.{length}
 use Rattle.sender.specs.Inner.{symbols_from}
 use Rattle.sender.proofs.Combining.{Carried}
 use Rattle.sender.proofs.repair.repair_symbols.Given as goal

@@ -1,5 +1,6 @@
 -- `sender::repair::write_packet` meets its contract.
-use Rattle.words.specs.Words.{arith, ◌≤◌, ◌*◌, mul-le-mul}
+use Rattle.std.specs.Prelude.{◌≤◌, ◌*◌}
+use Rattle.words.specs.Words.{arith, mul-le-mul}
 use Rattle.coefficients.proofs.Fills.{lists_were_done, lists_were_refused}
 use Rattle.sender.proofs.Heads.{Opened, opened}
 use Rattle.sender.proofs.Combining.{packed_refused, packed_done}

@@ -1,5 +1,6 @@
 -- `sender::window::place_symbol` meets its contract.
-use Rattle.words.specs.Words.{◌≡◌, arith, ℕ, ◌+◌, List, length, rules, ◌∙◌, ap, ◌-◌, drop, take}
+use Rattle.std.specs.Prelude.{◌≡◌, ◌+◌, ◌-◌}
+use Rattle.words.specs.Words.{arith, ℕ, List, length, rules, ◌∙◌, ap, drop, take}
 use Rattle.memory.specs.Part.{splice}
 use Rattle.memory.proofs.Parts.{cut, put, length_part}
 use Rattle.sender.proofs.window.place_symbol.Goals as goal

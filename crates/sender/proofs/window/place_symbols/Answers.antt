@@ -1,5 +1,6 @@
 -- `sender::window::place_symbols` meets its contract.
-use Rattle.words.specs.Words.{◌≡◌, arith, ℕ, ◌≤◌, ◌+◌, List, length, ◌<◌, ◌∙◌, sym, ap, [], ◌*◌, get_or, take, add-one, take_all, mul-le-mul}
+use Rattle.std.specs.Prelude.{◌≡◌, ◌≤◌, ◌+◌, ◌<◌, ◌*◌}
+use Rattle.words.specs.Words.{arith, ℕ, List, length, ◌∙◌, sym, ap, [], get_or, take, add-one, take_all, mul-le-mul}
 use lib.Seq.{take-suc}
 use Rattle.wire.specs.declared.Setting.{Setting}
 use Rattle.wire.specs.Packets.{symbol_count, source_symbols}

@@ -1,5 +1,6 @@
 -- `sender::window::place_symbols` meets its contract.
-use Rattle.words.specs.Words.{◌≤◌, ◌-◌, take}
+use Rattle.std.specs.Prelude.{◌≤◌, ◌-◌}
+use Rattle.words.specs.Words.{take}
 use Rattle.wire.specs.Packets.{source_symbols}
 use Rattle.sender.specs.Inner.{Placed}
 use Rattle.sender.proofs.window.place_symbols.Given as goal
