@@ -1,7 +1,8 @@
 -- The ways out of the checks, and what a packet that passes is.
 -- Ways out: source_short, source_misnamed, source-long, source_good; repair_sized, repair_misnamed, repair_good. What passes: SourcePasses, source_passes;
 -- RepairPasses, repair_passes. What fails: source_bad, repair_bad.
-use Rattle.words.specs.Words.{◌≡◌, arith, ℕ, ◌≤◌, ◌≢◌, length, ◌+◌, List, ◌<◌, refl, ◌∙◌, sym, ap, ◌-◌, true, false, Bool, subst, cond, leb, ltb, eqb, leb-true, ltb-true, eqb-true}
+use Rattle.std.specs.Prelude.{◌≡◌, ◌≤◌, ◌≢◌, ◌+◌, ◌<◌, ◌-◌}
+use Rattle.words.specs.Words.{arith, ℕ, length, List, refl, ◌∙◌, sym, ap, true, false, Bool, subst, cond, leb, ltb, eqb, leb-true, ltb-true, eqb-true}
 use Rattle.wire.specs.declared.Refusal.{Refusal}
 use Rattle.wire.specs.Numbers.{number_of}
 use Rattle.wire.proofs.Settings.{both}

@@ -2,7 +2,8 @@
 -- Found: finds_unopened, finds_past, finds_unknown, finds_at. Promised: at_bounded, shown-found, shown_missing, part-found, part_missing, place_found,
 -- place_missing.
 use denote.Ref.{Bor}
-use Rattle.words.specs.Words.{◌≡◌, arith, ℕ, ◌≤◌, length, ◌+◌, List, ◌<◌, refl, ◌∙◌, sym, ap, [], some, none, ◌%◌, true, false, Bool, subst, Option}
+use Rattle.std.specs.Prelude.{◌≡◌, ◌≤◌, ◌+◌, ◌<◌, ◌%◌}
+use Rattle.words.specs.Words.{arith, ℕ, length, List, refl, ◌∙◌, sym, ap, [], some, none, true, false, Bool, subst, Option}
 use Rattle.words.specs.Words.{inl, inr, lt-ltb, le-ltb, zero-add, mod-eq_of_lt, some-injective, none-ne-some}
 use mathlib.Core.Path.{subst₂}
 use Rattle.memory.specs.Part.{part, LiesAt}

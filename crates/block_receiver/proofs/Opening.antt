@@ -1,6 +1,7 @@
 -- Opening: what it answers, and that the memory it leaves holds a block of which nothing was received.
 -- Laws: opening_bad, opening-refused, opening_done.
-use Rattle.words.specs.Words.{◌≡◌, arith, ℕ, ◌≤◌, length, List, refl, ◌∙◌, sym, ap, some, true, false, Bool, subst, cond, ltb, lt-leb, le-leb, ltb-true, ltb-false}
+use Rattle.std.specs.Prelude.{◌≡◌, ◌≤◌}
+use Rattle.words.specs.Words.{arith, ℕ, length, List, refl, ◌∙◌, sym, ap, some, true, false, Bool, subst, cond, ltb, lt-leb, le-leb, ltb-true, ltb-false}
 use Rattle.memory.specs.Part.{splice}
 use Rattle.memory.specs.Contained.{Contained}
 use Rattle.memory.proofs.Parts.{length-splice, past-splice, get_or-past}

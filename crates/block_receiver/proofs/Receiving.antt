@@ -1,7 +1,8 @@
 -- A packet call by how it ends: a check fails, or the packet was taken.
 -- Told apart: opened_good. A check fails: unchanged, not_opened, failed. Its own symbols: own_source, own_repair. The packet was taken: ready, took.
-use Rattle.words.specs.Words.{◌≡◌, arith, ℕ, ◌≤◌, length, ◌+◌, List, ◌<◌, refl, ◌∙◌, sym, ap, some, none, true, false, Bool, subst, Option, take, cond, leb}
-use Rattle.words.specs.Words.{le-leb, leb-true, lt-ltb, le-ltb, some-injective, none-ne-some, ◌≢◌, zero-add, inr}
+use Rattle.std.specs.Prelude.{◌≡◌, ◌≤◌, ◌+◌, ◌<◌, ◌≢◌}
+use Rattle.words.specs.Words.{arith, ℕ, length, List, refl, ◌∙◌, sym, ap, some, none, true, false, Bool, subst, Option, take, cond, leb}
+use Rattle.words.specs.Words.{le-leb, leb-true, lt-ltb, le-ltb, some-injective, none-ne-some, zero-add, inr}
 use lib.Seq.{take-take}
 use Rattle.memory.specs.Part.{part}
 use Rattle.memory.specs.Contained.{Contained}

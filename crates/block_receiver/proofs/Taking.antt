@@ -1,8 +1,9 @@
 -- A packet's equation laid in the first row of working memory, and what becomes of it.
 -- A row: lagranges-length, first-row, work_room; laid_only, laid_works, laid_row. What was admitted: admitted_as, inserted_kept, inserted_implied, inserted_contradicts.
 -- With the origins: took_news, took_contradicts, inserted_as, updated_as, took_as.
-use Rattle.words.specs.Words.{◌≡◌, arith, ℕ, ◌≤◌, length, ◌+◌, List, ◌<◌, refl, ◌∙◌, sym, ap, ap₂, [], some, none, ◌%◌, ◌∷◌, suc, zero, get_or, subst, Option}
-use Rattle.words.specs.Words.{◌-◌, drop, zero-mul, zero-add, add-zero, add-suc, suc-add, mod-eq_of_lt, get_or-drop}
+use Rattle.std.specs.Prelude.{◌≡◌, ◌≤◌, ◌+◌, ◌<◌, ◌%◌, ◌∷◌, ◌-◌}
+use Rattle.words.specs.Words.{arith, ℕ, length, List, refl, ◌∙◌, sym, ap, ap₂, [], some, none, suc, zero, get_or, subst, Option}
+use Rattle.words.specs.Words.{drop, zero-mul, zero-add, add-zero, add-suc, suc-add, mod-eq_of_lt, get_or-drop}
 use native.Mathlib.Nat.{zero-mod}
 use mathlib.Core.Path.{subst₂}
 use Rattle.memory.specs.Part.{splice}

@@ -1,6 +1,7 @@
 -- Computed from the definitions: what the checks before 11 make of packets, and what calls answer and show, of a block of two source symbols of 4 bytes and four
 -- symbols in all, with the number 0x010203. The ADUs 41 of flow 1 and 42 of flow 2; the repair symbols as RFC 5510's own matrices give them.
-use Rattle.words.specs.Words.{◌≡◌, ℕ, List, refl, [], ◌∷◌, ◌++◌, map, cond, replicate}
+use Rattle.std.specs.Prelude.{◌≡◌, ◌∷◌, ◌++◌}
+use Rattle.words.specs.Words.{ℕ, List, refl, [], map, cond, replicate}
 use Rattle.field.specs.Powers.{power}
 use Rattle.wire.specs.Answers.{Said, value, refusal}
 use Rattle.history.specs.Symbol.{bytes_of}

@@ -1,5 +1,6 @@
 -- Contracts of inner functions: a reader need not believe these.
-use Rattle.words.specs.Words.{◌≡◌, ℕ, ◌≤◌, length, ◌+◌, List, some, none, Option, take, ◌≢◌, cond, leb}
+use Rattle.std.specs.Prelude.{◌≡◌, ◌≤◌, ◌+◌, ◌≢◌}
+use Rattle.words.specs.Words.{ℕ, length, List, some, none, Option, take, cond, leb}
 use Rattle.memory.specs.Part.{part, splice}
 use Rattle.memory.specs.Contained.{Contained}
 use Rattle.wire.specs.Numbers.{number_of}

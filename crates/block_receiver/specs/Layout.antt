@@ -1,7 +1,8 @@
 -- How the memory of a block that is recovered holds a system: a header of 96 bytes, then the rows of the k positions (crate `table`), then a byte for each
 -- (crate `origins`), as a receiver of width k whose base is 0.
 -- The claims hold of every layout: a reader of them need not believe this one.
-use Rattle.words.specs.Words.{◌≡◌, ℕ, ◌+◌, List, some}
+use Rattle.std.specs.Prelude.{◌≡◌, ◌+◌}
+use Rattle.words.specs.Words.{ℕ, List, some}
 use Rattle.decoder.specs.Model.{Rref}
 use Rattle.table.specs.Window.{row_offset, Window}
 use Rattle.history.specs.Model.{Origins}

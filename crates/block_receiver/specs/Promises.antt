@@ -1,7 +1,8 @@
 -- What the public calls that recover a block promise, in whatever way `Layout` a memory holds a system.
 -- m and v are the memory and the working memory, m' and v' these afterwards; a is the answer.
 use Rattle.std.specs.Borrow.{Bor}
-use Rattle.words.specs.Words.{◌≡◌, ℕ, ◌≤◌, length, ◌+◌, List, [], some, none, Bool, ◌↔◌, ◌⊎◌, cond, leb}
+use Rattle.std.specs.Prelude.{◌≡◌, ◌≤◌, ◌+◌, ◌↔◌, ◌⊎◌}
+use Rattle.words.specs.Words.{ℕ, length, List, [], some, none, Bool, cond, leb}
 use Rattle.memory.specs.Part.{part, LiesAt}
 use Rattle.memory.specs.Contained.{Contained}
 use Rattle.wire.specs.Numbers.{number_of}

@@ -1,5 +1,6 @@
 -- The packets of a block that is recovered (document 02, No. 9): what stands before 11, in its order, and what a packet says that passes.
-use Rattle.words.specs.Words.{ℕ, ◌+◌, List, length, ◌-◌, Bool, cond, leb, ltb, eqb, ◌&&◌}
+use Rattle.std.specs.Prelude.{◌+◌, ◌-◌, ◌&&◌}
+use Rattle.words.specs.Words.{ℕ, List, length, Bool, cond, leb, ltb, eqb}
 use Rattle.memory.specs.Part.{part}
 use Rattle.wire.specs.Numbers.{number_of}
 use Rattle.wire.specs.Packets.{symbol_at}

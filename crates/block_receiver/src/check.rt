@@ -1,5 +1,6 @@
 // What stands before 11: whether the memory was opened, whether working memory is long enough, and the form of a packet.
-ghost use Rattle.words.specs.Words.{◌≡◌, ◌≤◌, eqb, leb, ltb, ◌&&◌};
+ghost use Rattle.std.specs.Prelude.{◌≡◌, ◌≤◌, ◌&&◌};
+ghost use Rattle.words.specs.Words.{eqb, leb, ltb};
 ghost use Rattle.blocks.specs.Stored.{block_in};
 ghost use Rattle.block_receiver.specs.Reading.{names, names_source, names_repair, source_check, repair_check};
 ghost use Rattle.block_receiver.specs.Inner.{opened_for};

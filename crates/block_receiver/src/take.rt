@@ -1,6 +1,7 @@
 // Taking a packet: its equation is laid in the first row of working memory, joins those of the memory unless it contradicts them, and a source symbol is
 // heard.
-ghost use Rattle.words.specs.Words.{◌≡◌, ◌≤◌, length, ◌+◌, ◌<◌};
+ghost use Rattle.std.specs.Prelude.{◌≡◌, ◌≤◌, ◌+◌, ◌<◌};
+ghost use Rattle.words.specs.Words.{length};
 ghost use Rattle.wire.specs.Packets.{symbol_at};
 ghost use Rattle.table.specs.Window.{Fits};
 ghost use Rattle.table.specs.Packet.{Works};

@@ -1,16 +1,8 @@
 -- `coefficients::fill_lists` meets its contract. The loop's invariant: the lists before i stand in the output (`Listed`).
-use Rattle.std.specs.Prelude.{◌≡◌, ◌≤◌, ◌+◌, ◌*◌}
-use Rattle.words.specs.Words.{arith, length}
-use Rattle.memory.proofs.Parts.{row_fits}
+use Rattle.std.specs.Prelude.{◌≡◌}
+use Rattle.words.specs.Words.{arith}
 use Rattle.coefficients.proofs.Fills.{listed-none, lent_length, listed_more, listed_draws, lists_refused, lists_done}
 use Rattle.coefficients.proofs.fill_lists.Goals as goal
-use Rattle.coefficients.proofs.fill_lists.Goals.{In-loop-i}
-
--- list i ends within the output
-in-room : (p : In-loop-i) → let a = p.args in p.loop-i.i * a.n + a.n ≤ length p.loop-i.out
-in-room p =
-    let a = p.args in
-    omega (arith, row_fits a.count a.n p.loop-i.i p.loop-i-test.true, p.loop-i.invariant.1.size, p.requires.0)
 
 pub loop-i-init : goal.loop-i-init
 loop-i-init c = (omega arith, listed-none _ _ _ _ _ _)

@@ -1,5 +1,6 @@
 -- `block_receiver::take::lay_repair` meets its contract.
-use Rattle.words.specs.Words.{arith, ℕ, ◌+◌, List, refl, ◌∙◌, ap₂}
+use Rattle.std.specs.Prelude.{◌+◌}
+use Rattle.words.specs.Words.{arith, ℕ, List, refl, ◌∙◌, ap₂}
 use Rattle.memory.specs.Part.{splice}
 use Rattle.memory.proofs.Parts.{whole}
 use Rattle.block_receiver.specs.Inner.{row_with}
