@@ -33,10 +33,6 @@ module _ (x : Piece) where
       ap (λ (l : List ℕ). take y.pass.taken y.input ++ l) (taken_more ys)
       ∙ sym (append_assoc (take y.pass.taken y.input) (taken ys) (take x.pass.taken x.input))
 
--- nothing has been handed over yet
-pub handed-none : (p : Progress) (line m input : List ℕ) → Handed p line m input p line m input
-handed-none p line m input = record { pieces = []; turns = tt; progress = refl; line-is = refl; memory_is = refl; input_is = refl }
-
 -- one call more, with what is left
 pub handed-more : (p : Progress) (line m input : List ℕ) (p' : Progress) (line' line'' m' m'' left out : List ℕ) (r : Pass)
     → Handed p line m input p' line' m' left → Fed p' line' line'' m' m'' left out r
@@ -73,22 +69,10 @@ next_moves n input h o f =
     let l : length (take (length input - n) (drop n input)) ≡ length input - n = ap length (left n input) ∙ length-drop n input in
     (f.moves o (omega arith), omega (arith, f.taken))
 
--- no more is wanted; something could not be printed; all was taken
+-- no more is wanted; all was taken
 pub went_over : (p : Progress) (line line' m m' input : List ℕ) (p' : Progress) (rest : List ℕ) → Handed p line m input p' line' m' rest → is_over p' ≡ true
     → Went p line line' m m' input (record { progress = p'; more = false; failed = false })
 went_over p line line' m m' input p' rest h o = record { more = λ _. ap not (sym o); left = rest; handed = λ _. h; all = λ _. inr o }
-
-pub went_failed : (p : Progress) (line line' m m' input : List ℕ) (p' : Progress)
-    → Went p line line' m m' input (record { progress = p'; more = false; failed = true })
-went_failed p line line' m m' input p' = record {
-  more = λ e. absurd (never e);
-  left = [];
-  handed = λ e. absurd (never e);
-  all = λ _. inl refl;
-}
-  where
-    never : true ≡ false → ⊥
-    never e = let z : ◌≡◌ {A = ℕ} 0 1 = cc in omega arith
 
 pub went_all : (p : Progress) (line line' m m' input : List ℕ) (p' : Progress) (n : ℕ) (b : Bool) → Handed p line m input p' line' m' (drop n input)
     → n ≤ length input → length input ≤ n → b ≡ not (is_over p') → Went p line line' m m' input (record { progress = p'; more = b; failed = false })

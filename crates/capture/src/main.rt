@@ -2,12 +2,12 @@
 // library `replay`.
 #![tactic(auto)]
 
-ghost use Rattle.std.specs.Prelude.{◌≡◌};
+ghost use Rattle.std.specs.Prelude.{◌≡◌, ◌≤◌};
 ghost use Rattle.words.specs.Words.{length};
 ghost use Rattle.capture.specs.Going.{Went};
 
-use libc::{STDERR_FILENO, STDIN_FILENO, STDOUT_FILENO};
 use records::Progress;
+use std::io::Read;
 
 // How far the capture has come, whether more of the input is to be read, and whether something could not be printed.
 #[derive(Clone, Copy)]
@@ -24,6 +24,20 @@ fn line_buffer() -> [u8; 8192]
     [0; 8192]
 }
 
+// Room for a packet.
+fn packet_buffer() -> [u8; 4096]
+    ensures { 4096 ≡ length result }
+{
+    [0; 4096]
+}
+
+// Room for the memory, for the working memory, for a piece of the input and for what is printed of it.
+fn large_buffer() -> [u8; 65536]
+    ensures { 65536 ≡ length result }
+{
+    [0; 65536]
+}
+
 // Room for the last lines that are printed.
 fn last_buffer() -> [u8; 256]
     ensures { 256 ≡ length result }
@@ -32,19 +46,17 @@ fn last_buffer() -> [u8; 256]
 }
 
 // Writes text, and says whether that was possible.
-fn print(text: &[u8]) -> bool {
-    if io::write_all(STDOUT_FILENO, text) {
+fn print(rt: &(impl Print + Eprint), text: &[u8]) -> bool {
+    if rt.write_all(text).is_ok() {
         return true;
     }
-    io::write_all(
-        STDERR_FILENO,
-        b"capture: standard output cannot be written\n",
-    );
+    let _ = eprintln!(rt; "capture: standard output cannot be written");
     false
 }
 
 // Works through what was read. It is handed to the library until all of it is taken or no more is wanted.
 fn work_through(
+    rt: &(impl Print + Eprint),
     progress: Progress,
     line: &mut [u8; 8192],
     mem: &mut [u8; 65536],
@@ -68,7 +80,7 @@ fn work_through(
         let pass = replay::feed(p, line, mem, work, packet, &input[at..], out);
         let next = pass.progress;
         p = next;
-        if !print(memory::part(out, 0, pass.written)) {
+        if !print(rt, memory::part(out, 0, pass.written)) {
             return Heard {
                 progress: p,
                 more: false,
@@ -85,8 +97,23 @@ fn work_through(
     }
 }
 
+// Reads bytes, and gives how many; none where the input ends, or cannot be read, which is said.
+fn read_some(rt: &impl Eprint, from: &mut impl Read, input: &mut [u8; 65536]) -> usize
+    ensures { result ≤ 65536 }
+{
+    match from.read(input) {
+        Ok(n) => n,
+        Err(_) => {
+            let _ = eprintln!(rt; "capture: standard input cannot be read");
+            0
+        }
+    }
+}
+
 // Reads a piece of the input and works through it. No more is to be read where the input ends or cannot be read.
 fn read_piece(
+    rt: &(impl Print + Eprint),
+    from: &mut impl Read,
     progress: Progress,
     line: &mut [u8; 8192],
     mem: &mut [u8; 65536],
@@ -95,11 +122,7 @@ fn read_piece(
     input: &mut [u8; 65536],
     out: &mut [u8; 65536],
 ) -> Heard {
-    let got = libc::read(STDIN_FILENO, input);
-    if got < 0 {
-        io::write_all(STDERR_FILENO, b"capture: standard input cannot be read\n");
-    }
-    let n = io::count(got, input);
+    let n = read_some(rt, from, input);
     if n == 0 {
         return Heard {
             progress,
@@ -108,6 +131,7 @@ fn read_piece(
         };
     }
     work_through(
+        rt,
         progress,
         line,
         mem,
@@ -120,6 +144,7 @@ fn read_piece(
 
 // Prints what the input's end asks for.
 fn print_last(
+    rt: &(impl Print + Eprint),
     progress: Progress,
     line: &[u8; 8192],
     mem: &mut [u8; 65536],
@@ -128,21 +153,24 @@ fn print_last(
 ) {
     let mut out = last_buffer();
     let n = replay::finish(progress, line, mem, work, packet, &mut out);
-    print(&out[..n]);
+    print(rt, &out[..n]);
 }
 
-fn main() {
+fn main(rt: HostRuntime) {
+    let mut from = rt.reader();
     let mut line = line_buffer();
-    let mut mem = io::large_buffer();
-    let mut work = io::large_buffer();
-    let mut packet = io::buffer();
-    let mut input = io::large_buffer();
-    let mut out = io::large_buffer();
+    let mut mem = large_buffer();
+    let mut work = large_buffer();
+    let mut packet = packet_buffer();
+    let mut input = large_buffer();
+    let mut out = large_buffer();
     let mut progress = replay::begin();
     // more turns than there will ever be: a loop has to end by its own account
     let mut turns: u64 = 18446744073709551615;
     while 0 < turns {
         let heard = read_piece(
+            &rt,
+            &mut from,
             progress,
             &mut line,
             &mut mem,
@@ -161,5 +189,5 @@ fn main() {
         }
         turns -= 1;
     }
-    print_last(progress, &line, &mut mem, &mut work, &mut packet);
+    print_last(&rt, progress, &line, &mut mem, &mut work, &mut packet);
 }

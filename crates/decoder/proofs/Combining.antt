@@ -8,8 +8,8 @@
 --   sweep_lines: the sweep over the `n` positions from `q` on adds the rows 0, 1, .. at once
 --   stays_lines: so the rows that stay when the window moves on by `d` reduce the equation by the system moved on
 --   eliminate_line, normal_line
-use Rattle.std.specs.Prelude.{◌≡◌, ◌≤◌, ◌<◌, ◌-◌, ◌%◌}
-use Rattle.words.specs.Words.{arith, ℕ, ◌+◌ as ◌+ₙ◌, refl, ◌∙◌, sym, ap, suc, true, zero, false, Bool, ℕ_discrete, zero-add}
+use Rattle.std.specs.Prelude.{◌≡◌, ◌≤◌, ◌<◌, ◌-◌, ◌%◌, ◌+◌ as ◌+ₙ◌}
+use Rattle.words.specs.Words.{arith, ℕ, refl, ◌∙◌, sym, ap, suc, true, zero, false, Bool, ℕ_discrete, zero-add}
 use Rattle.words.specs.Words.{true≢false}
 use Rattle.decoder.specs.Field.{Ops, Laws}
 use Rattle.decoder.specs.Model.{Reduced, Rref, axpy, scale, lead, at, reduce}

@@ -1,6 +1,6 @@
 -- How many positions become known when rows are placed, counted row by row.
-use Rattle.std.specs.Prelude.{◌≡◌, ◌≤◌, ◌<◌, ◌-◌, ◌%◌, ◌≢◌}
-use Rattle.words.specs.Words.{arith, ℕ, ◌+◌ as ◌+ₙ◌, refl, ◌∙◌, sym, ap, suc, true, zero, none, false, Bool, Option, ap₂, dec_lt}
+use Rattle.std.specs.Prelude.{◌≡◌, ◌≤◌, ◌<◌, ◌-◌, ◌%◌, ◌≢◌, ◌+◌ as ◌+ₙ◌}
+use Rattle.words.specs.Words.{arith, ℕ, refl, ◌∙◌, sym, ap, suc, true, zero, none, false, Bool, Option, ap₂, dec_lt}
 use Rattle.words.specs.Words.{zero-add}
 use Rattle.decoder.specs.Field.{Ops, Laws}
 use Rattle.decoder.specs.Model.{Row, State, Reduced, Rref, place, known}

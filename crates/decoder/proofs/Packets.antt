@@ -1,6 +1,6 @@
 -- A source packet is satisfied when its positions hold its symbols, a repair packet when each repair symbol is its combination.
-use Rattle.std.specs.Prelude.{◌≡◌, ◌≤◌, ◌<◌, ◌∷◌, ◌↔◌}
-use Rattle.words.specs.Words.{arith, ℕ, ◌+◌ as ◌+ₙ◌, List, refl, ◌∙◌, sym, ap, [], suc, zero, ap₂, ℕ_discrete}
+use Rattle.std.specs.Prelude.{◌≡◌, ◌≤◌, ◌<◌, ◌∷◌, ◌↔◌, ◌+◌ as ◌+ₙ◌}
+use Rattle.words.specs.Words.{arith, ℕ, List, refl, ◌∙◌, sym, ap, [], suc, zero, ap₂, ℕ_discrete}
 use mathlib.Core.Logic.Iff
 use Rattle.decoder.specs.Field.{Ops, Laws}
 use Rattle.decoder.specs.Model.{tail, Filling, eval, symbol}

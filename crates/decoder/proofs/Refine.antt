@@ -5,8 +5,8 @@
 --   sweep_reduce, lead_read, lead_none, at_read
 --   add_line-zero: to add nothing changes nothing, so such rows may be passed over
 --   view_place, view_advance
-use Rattle.std.specs.Prelude.{◌≡◌, ◌≤◌, ◌<◌, ◌≢◌}
-use Rattle.words.specs.Words.{arith, ℕ, ◌+◌ as ◌+ₙ◌, refl, ◌∙◌, sym, ap, suc, true, zero, false, Bool, subst, ap₂, ℕ_discrete, true≢false}
+use Rattle.std.specs.Prelude.{◌≡◌, ◌≤◌, ◌<◌, ◌≢◌, ◌+◌ as ◌+ₙ◌}
+use Rattle.words.specs.Words.{arith, ℕ, refl, ◌∙◌, sym, ap, suc, true, zero, false, Bool, subst, ap₂, ℕ_discrete, true≢false}
 use Rattle.decoder.specs.Field.{Ops, Laws}
 use Rattle.decoder.specs.Model.{Row, State, end, free, pivot, axpy, scale, lead, at, push, reduce, place, place_free, extend, advance}
 use Rattle.decoder.specs.Table.{Line, Table, read, slot, view, Echelon}

@@ -1,6 +1,6 @@
 -- The rows that stay when the window moves on, read where they stand: the system moved on, though no row has been dropped yet.
-use Rattle.std.specs.Prelude.{◌≡◌, ◌≤◌, ◌<◌, ◌-◌}
-use Rattle.words.specs.Words.{arith, ℕ, ◌+◌ as ◌+ₙ◌, refl, ◌∙◌, sym, ap, suc, zero, false, Bool, subst, ap₂, add-zero, dec_lt}
+use Rattle.std.specs.Prelude.{◌≡◌, ◌≤◌, ◌<◌, ◌-◌, ◌+◌ as ◌+ₙ◌}
+use Rattle.words.specs.Words.{arith, ℕ, refl, ◌∙◌, sym, ap, suc, zero, false, Bool, subst, ap₂, add-zero, dec_lt}
 use Rattle.decoder.specs.Field.{Ops, Laws}
 use Rattle.decoder.specs.Model.{reduce, advance}
 use Rattle.decoder.specs.Receiver.{advance_by}

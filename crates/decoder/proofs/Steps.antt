@@ -1,6 +1,6 @@
 -- What each step of the receiver does to the table, as a whole: place a row, move the base on, look a symbol up.
-use Rattle.std.specs.Prelude.{◌≡◌, ◌≤◌, ◌<◌, ◌≢◌}
-use Rattle.words.specs.Words.{arith, ℕ, ◌+◌ as ◌+ₙ◌, refl, ◌∙◌, sym, ap, some, suc, true, zero, none, false, Bool, ap₂, ℕ_discrete}
+use Rattle.std.specs.Prelude.{◌≡◌, ◌≤◌, ◌<◌, ◌≢◌, ◌+◌ as ◌+ₙ◌}
+use Rattle.words.specs.Words.{arith, ℕ, refl, ◌∙◌, sym, ap, some, suc, true, zero, none, false, Bool, ap₂, ℕ_discrete}
 use Rattle.words.specs.Words.{add-zero, dec_lt, true≢false}
 use Rattle.decoder.specs.Field.{Ops, Laws}
 use Rattle.decoder.specs.Model.{Row, State, lead, symbol, known}

@@ -1,7 +1,7 @@
 -- The receiver's memory as a table by position: which rows there are, and the coefficient that each has at each position.
 -- Row and column of a position are its remainder by the width, so all that the table says is so for every position, and no row moves.
-use Rattle.std.specs.Prelude.{◌≡◌, ◌≤◌, ◌<◌}
-use Rattle.words.specs.Words.{ℕ, ◌+◌ as ◌+ₙ◌, suc, true, zero, false, Bool}
+use Rattle.std.specs.Prelude.{◌≡◌, ◌≤◌, ◌<◌, ◌+◌ as ◌+ₙ◌}
+use Rattle.words.specs.Words.{ℕ, suc, true, zero, false, Bool}
 use Rattle.decoder.specs.Field.{Ops}
 use Rattle.decoder.specs.Model.{Row, State, end, free, pivot}
 

@@ -1,7 +1,7 @@
 -- Contracts of inner functions: a reader need not believe these.
 -- Steps on the table by position: row operations, the loop that reduces, a new row, a row that leaves.
-use Rattle.std.specs.Prelude.{◌≡◌, ◌≤◌, ◌<◌, ◌≢◌}
-use Rattle.words.specs.Words.{ℕ, ◌+◌ as ◌+ₙ◌, suc, true, zero, false, Bool}
+use Rattle.std.specs.Prelude.{◌≡◌, ◌≤◌, ◌<◌, ◌≢◌, ◌+◌ as ◌+ₙ◌}
+use Rattle.words.specs.Words.{ℕ, suc, true, zero, false, Bool}
 use Rattle.decoder.specs.Field.{Ops}
 use Rattle.decoder.specs.Table.{Line, Table}
 

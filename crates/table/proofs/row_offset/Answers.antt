@@ -29,9 +29,12 @@ pub overflow_add-result : goal.overflow_add-result
 overflow_add-result c = omega (arith, product (goal.at.overflow_add-result c).After-stride, bound (goal.at.overflow_add-result c).After-stride)
 
 pub returns : goal.returns
-returns c = record {
-  start = omega (arith, product (goal.at.returns c).After-stride);
-  end = omega (arith, product (goal.at.returns c).After-stride, row_fits ((s (goal.at.returns c).After-stride).width + 1) (stride (s (goal.at.returns c).After-stride).width (s (goal.at.returns c).After-stride).size) (r (goal.at.returns c).After-stride) (omega arith));
-  wide = flags_fit _ _;
-  small = omega (arith, product (goal.at.returns c).After-stride, bound (goal.at.returns c).After-stride);
-}
+returns c =
+    let p = (goal.at.returns c).After-stride in
+    let f = row_fits ((s p).width + 1) (stride (s p).width (s p).size) (r p) (omega arith) in
+    record {
+      start = omega (arith, product p);
+      end = omega (arith, product p, f);
+      wide = flags_fit _ _;
+      small = omega (arith, product p, bound p);
+    }

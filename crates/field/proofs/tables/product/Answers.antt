@@ -1,6 +1,6 @@
 -- `field::tables::product` meets its contract: 2^e times 2^f is 2^(e + f).
 use Rattle.std.specs.Prelude.{◌≡◌}
-use Rattle.words.specs.Words.{arith, ℕ, rules, ◌∙◌, sym, ap, eqb-false}
+use Rattle.words.specs.Words.{ℕ, ◌∙◌, sym, ap}
 use Rattle.field.specs.Gf256.{product}
 use Rattle.field.proofs.Laws.{product_by_logarithms, product-zero, product_comm}
 use Rattle.field.proofs.tables.product.Goals as goal
@@ -17,9 +17,6 @@ returns-then-a-eq0 c = elim c.then-a-eq0.branch [
   | then-a-eq0-via-then-a-eq0 w ↦ zero_left _ _ w.if-a-eq0.true
   | then-a-eq0-via-else-a-eq0+then-b-eq0 w ↦ zero_right _ _ w.if-b-eq0.true
 ]
-
-pub logarithm-requires-2 : goal.logarithm-requires-2
-logarithm-requires-2 c = (search rules, omega (arith, eqb-false))
 
 pub returns : goal.returns
 returns c = c.power.ensures ∙ product_by_logarithms _ _ _ _ c.logarithm.ensures c.logarithm-2.ensures
