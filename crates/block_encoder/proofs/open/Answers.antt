@@ -33,7 +33,8 @@ write_block-requires c =
     let b = c.in-Good.block in
     let has = sym c.block_of.ensures ∙ c.in-Good.is in
     let valid = (good_names _ _ _ _ b has).1 in
-    let room : memory_size (setting_for b) ≤ length c.args.mem.now = rw (c.memory_size.ensures, c.setting_for.ensures) at c.if-mem-memory_size.false in
+    let room : memory_size (setting_for b) ≤ length c.args.mem.now =
+    rw (c.memory_size.ensures, c.setting_for.ensures) at c.if-mem-memory_size.false in
     (omega (arith, room), valid)
 
 pub returns : goal.returns
@@ -42,6 +43,7 @@ returns c =
     let b = c.in-Good.block in
     let has = sym c.block_of.ensures ∙ c.in-Good.is in
     let valid = (good_names _ _ _ _ b has).1 in
-    let room : memory_size (setting_for b) ≤ length c.args.mem.now = rw (c.memory_size.ensures, c.setting_for.ensures) at c.if-mem-memory_size.false in
+    let room : memory_size (setting_for b) ≤ length c.args.mem.now =
+    rw (c.memory_size.ensures, c.setting_for.ensures) at c.if-mem-memory_size.false in
     rw (opening_done a.size a.k a.total a.number a.mem.now b has room, c.write_block.ensures)
     (opens b a.mem.now valid room)

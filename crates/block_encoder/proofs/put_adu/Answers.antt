@@ -18,7 +18,12 @@ sized s = lent (at s) s.args.size s.args.mem.now s.requires.3
 pub write_symbol-requires : goal.write_symbol-requires
 write_symbol-requires c =
     let n = c.requires.4 in
-    rw (sized (goal.at.write_symbol-requires c).Start) (c.requires.0, c.requires.1, omega (arith, n, c.requires.1), omega (arith, one_symbol c.args.size (length c.args.adu.now) n))
+    rw (sized (goal.at.write_symbol-requires c).Start) (
+      c.requires.0,
+      c.requires.1,
+      omega (arith, n, c.requires.1),
+      omega (arith, one_symbol c.args.size (length c.args.adu.now) n),
+    )
 
 pub returns : goal.returns
 returns c =

@@ -1,7 +1,8 @@
 -- `block_receiver::symbol_part` meets its contract.
 use Rattle.words.specs.Words.{◌∙◌}
 use Rattle.memory.proofs.Parts.{part_none}
-use Rattle.block_receiver.proofs.Finding.{at_bounded, part-found, part_missing}
+use Rattle.block_receiver.proofs.Finding.{at_bounded}
+use Rattle.block_receiver.proofs.Finding.{part-found, part_missing}
 use Rattle.block_receiver.proofs.symbol_part.Goals as goal
 
 pub part-requires : goal.part-requires

@@ -1,26 +1,14 @@
 -- `lists::add_listed` meets its contract. The loop: the rows of the first j elements of the list have been added.
-use Rattle.std.specs.Prelude.{◌≡◌, ◌*◌}
-use Rattle.words.specs.Words.{refl, arith, get_or, rules}
+use Rattle.std.specs.Prelude.{◌*◌}
+use Rattle.words.specs.Words.{refl, arith, rules}
 use Rattle.memory.proofs.Parts.{get_or-part}
 use Rattle.lists.specs.Named.{added, list_of}
 use Rattle.lists.proofs.Named.{added_turn}
 use Rattle.lists.proofs.add_listed.Goals as goal
 
-pub bounds-counts-t : goal.bounds-counts-t
-bounds-counts-t c = omega (arith, c.requires.2.twelve)
-
 pub loop-j-init : goal.loop-j-init
 unfolding added
 loop-j-init c = (omega arith, refl, c.requires.0)
-
-pub overflow_add-r : goal.overflow_add-r
-overflow_add-r c =
-    omega (arith, c.requires.2.few c.args.t (omega arith))
-
-pub bounds-lists-at : goal.bounds-lists-at
-bounds-lists-at c =
-    let r = c.requires.2 in
-    omega (arith, r.all, r.few c.args.t (omega arith))
 
 pub overflow_mul-r : goal.overflow_mul-r
 overflow_mul-r c =
@@ -56,9 +44,3 @@ loop-j-preserved c =
           (rw row c.add_strip.ensures),
       search rules,
     )
-
-pub returns : goal.returns
-returns c =
-    let a = c.args in
-    let e : c.loop-j.j ≡ get_or a.counts.now a.t 0 = omega arith in
-    rw e at c.loop-j.invariant.1

@@ -1,5 +1,4 @@
 -- `lists::add_pairs` meets its contract. The loop: the j highest of the pairs have been added.
-use Rattle.std.specs.Prelude.{◌≡◌}
 use Rattle.words.specs.Words.{refl, arith, rules}
 use Rattle.rows.specs.Sums.{row_at}
 use Rattle.lists.specs.Named.{pairs_added}
@@ -10,9 +9,6 @@ pub loop-j-init : goal.loop-j-init
 unfolding pairs_added
 loop-j-init c = (omega arith, refl, c.requires.0)
 
-pub add_pair-requires : goal.add_pair-requires
-add_pair-requires c = (c.loop-j.invariant.2, omega arith, c.requires.2)
-
 pub loop-j-preserved : goal.loop-j-preserved
 loop-j-preserved c =
     let a = c.args in
@@ -22,8 +18,3 @@ loop-j-preserved c =
           c.add_pair.ensures,
       search rules,
     )
-
-pub returns : goal.returns
-returns c =
-    let e : c.loop-j.j ≡ c.args.pairs = omega arith in
-    rw e at c.loop-j.invariant.1

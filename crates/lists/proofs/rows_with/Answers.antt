@@ -1,6 +1,5 @@
 -- `lists::rows_with` meets its contract. The loop: of the first k rows those with the pair of digits are listed.
-use Rattle.std.specs.Prelude.{◌≡◌}
-use Rattle.words.specs.Words.{arith, length, rules, sym}
+use Rattle.words.specs.Words.{arith, rules, sym}
 use Rattle.lists.specs.Digits.{pair_is}
 use Rattle.lists.proofs.Digits.{pair_bit}
 use Rattle.lists.proofs.Named.{listed-none, listed_turn}
@@ -8,16 +7,6 @@ use Rattle.lists.proofs.rows_with.Goals as goal
 
 pub loop-k-init : goal.loop-k-init
 loop-k-init c = (search rules, listed-none _ _, search rules)
-
-pub bounds-list-n : goal.bounds-list-n
-bounds-list-n c = omega (arith, c.loop-k.invariant.1.few)
-
-pub overflow_add-n : goal.overflow_add-n
-unfolding pair_is
-overflow_add-n c =
-    let t = c.loop-k in
-    let a = c.args in
-    omega (arith, t.invariant.1.few, c.is_pair-n.ensures, pair_bit a.cs.now a.e a.v t.k)
 
 pub loop-k-preserved : goal.loop-k-preserved
 unfolding pair_is
@@ -29,10 +18,3 @@ loop-k-preserved c =
           (omega (arith, c.is_pair-n.ensures, pair_bit a.cs.now a.e a.v t.k)) (omega (arith, t.invariant.1.few)),
       search rules,
     )
-
-pub returns : goal.returns
-returns c =
-    let a = c.args in
-    let t = c.loop-k in
-    let e : t.k ≡ length a.cs.now = omega arith in
-    rw e at t.invariant.1

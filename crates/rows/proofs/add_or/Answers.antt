@@ -1,13 +1,10 @@
 -- `rows::add_or` meets its contract. The loop: the first i elements are those of the result, and any is zero only where these are.
-use Rattle.words.specs.Words.{arith, rules}
+use Rattle.words.specs.Words.{arith}
 use Rattle.memory.proofs.Loop.{turned_more, turned_all}
 use Rattle.rows.specs.Rows.{add_scaled}
 use Rattle.rows.proofs.Sums.{length_add_scaled}
 use Rattle.rows.proofs.Turns.{sum_here, zero_more}
 use Rattle.rows.proofs.add_or.Goals as goal
-
-pub loop-i-init : goal.loop-i-init
-loop-i-init c = (search rules, λ e j h. absurd (omega arith))
 
 pub loop-i-preserved : goal.loop-i-preserved
 loop-i-preserved c =

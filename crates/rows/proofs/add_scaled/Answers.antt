@@ -12,11 +12,6 @@ returns-then-c-eq0 c =
     let e : a.c.0 ≡ 0 = omega arith in
     rw e (sym (add_scaled_zero a.dst.now a.src.now))
 
-pub returns-then-c-eq1 : goal.returns-then-c-eq1
-returns-then-c-eq1 c =
-    let e : c.args.c.0 ≡ 1 = omega arith in
-    rw e c.add.ensures
-
 pub loop-i-preserved : goal.loop-i-preserved
 loop-i-preserved c =
     let t = c.loop-i in

@@ -10,11 +10,6 @@ returns-then-c-eq0 c =
     let e : a.c.0 ≡ 0 = omega arith in
     rw e (within-zero a.a a.b a.n a.mem.now (omega arith))
 
-pub returns-then-c-eq1 : goal.returns-then-c-eq1
-returns-then-c-eq1 c =
-    let e : c.args.c.0 ≡ 1 = omega arith in
-    rw e c.xor_within.ensures
-
 pub loop-i-init : goal.loop-i-init
 loop-i-init c = within_none _ _ _ _ _ (omega arith)
 

@@ -57,10 +57,12 @@ pub slice_bounds-admit_symbol-end : goal.slice_bounds-admit_symbol-end
 slice_bounds-admit_symbol-end c = omega (arith, within c.loop-i.i c.args.count c.args.n c.args.lists.now c.loop-i-test.true c.requires.5)
 
 pub overflow_add-at-in-loop-i : goal.overflow_add-at-in-loop-i
-overflow_add-at-in-loop-i c = omega (arith, inside c.loop-i.i c.args.count c.args.location.shape.size c.args.packet.now c.loop-i-test.true c.requires.6)
+overflow_add-at-in-loop-i c =
+    omega (arith, inside c.loop-i.i c.args.count c.args.location.shape.size c.args.packet.now c.loop-i-test.true c.requires.6)
 
 pub slice_bounds-admit_symbol-end-in-loop-i : goal.slice_bounds-admit_symbol-end-in-loop-i
-slice_bounds-admit_symbol-end-in-loop-i c = omega (arith, inside c.loop-i.i c.args.count c.args.location.shape.size c.args.packet.now c.loop-i-test.true c.requires.6)
+slice_bounds-admit_symbol-end-in-loop-i c =
+    omega (arith, inside c.loop-i.i c.args.count c.args.location.shape.size c.args.packet.now c.loop-i-test.true c.requires.6)
 
 pub admit_symbol-requires : goal.admit_symbol-requires
 admit_symbol-requires c =

@@ -7,7 +7,8 @@ use Rattle.admission.proofs.repair.gather_repair.Given as goal
 
 abbrev pub invariant-loop-i : goal.invariant-loop-i
 invariant-loop-i l =
-    (l.i ≤ l.count) × Gathers l.location l.n (equation_at l.location.shape.width l.location.shape.size l.n l.lists l.packet) l.i (All l.kept) l.mem l.initial.work l.work
+    (l.i ≤ l.count) × Gathers l.location l.n
+    (equation_at l.location.shape.width l.location.shape.size l.n l.lists l.packet) l.i (All l.kept) l.mem l.initial.work l.work
 
 abbrev pub decreases-loop-i : goal.decreases-loop-i
 decreases-loop-i l = l.count - l.i

@@ -1,6 +1,17 @@
 -- `block_receiver::take::insert` meets its contract.
-use Rattle.block_receiver.proofs.Taking.{admitted_as, committed_as, inserted_kept, inserted_implied, inserted_contradicts}
+use Rattle.words.specs.Words.{arith}
+use Rattle.block_receiver.proofs.Taking.{admitted_as, works_as, committed_as, inserted_kept, inserted_implied, inserted_contradicts}
 use Rattle.block_receiver.proofs.take.insert.Goals as goal
+
+pub admit-verdict-requires : goal.admit-verdict-requires
+admit-verdict-requires c =
+    let (f, w, o) = c.requires in
+    (f, w, omega (arith, o, f.some_width), f.some_width, omega arith)
+
+pub commit-requires : goal.commit-requires
+commit-requires c =
+    let (f, w, o) = c.requires in
+    (f, omega (arith, o, f.some_width), works_as c.in-Kept.is c.admit-verdict.ensures.works)
 
 pub returns-in-Kept : goal.returns-in-Kept
 returns-in-Kept c =

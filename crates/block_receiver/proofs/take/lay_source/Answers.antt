@@ -3,7 +3,6 @@ use Rattle.std.specs.Prelude.{◌≡◌, ◌≤◌, ◌+◌, ◌-◌}
 use Rattle.words.specs.Words.{arith, ℕ, List, length, ◌∙◌, ap, drop, take}
 use Rattle.memory.specs.Part.{splice}
 use Rattle.memory.proofs.Parts.{cut, put, length_part}
-use Rattle.table.specs.Packet.{Works}
 use Rattle.block_receiver.specs.Inner.{row_with}
 use Rattle.block_receiver.proofs.Taking.{work_room}
 use Rattle.blocks.proofs.Symbols.{one_symbol}
@@ -13,29 +12,33 @@ pub fill_part-requires : goal.fill_part-requires
 fill_part-requires c = let w = c.requires.1 in (omega (arith, work_room _ _ _ w), w.some_width, w.wide, c.requires.2)
 
 -- The coefficients are laid, and the symbol has room after them.
-room : (k E : ℕ) (v half : List ℕ) → Works k E 0 v → length half ≡ length v → 96 + k + E ≤ length half
-room k E v half w e = omega (arith, work_room k E v w, e)
-
-lent : (k E : ℕ) (half : List ℕ) → 96 + k + E ≤ length half → length (take (96 + k + E - (96 + k)) (drop (96 + k) half)) ≡ E
-lent k E half r = rw (cut (96 + k) E half) (length_part (96 + k) E half r)
+lent : (k size : ℕ) (half : List ℕ) → 96 + k + size ≤ length half → length (take (96 + k + size - (96 + k)) (drop (96 + k) half)) ≡ size
+lent k size half room = rw (cut (96 + k) size half) (length_part (96 + k) size half room)
 
 pub slice_bounds-write_symbol-end : goal.slice_bounds-write_symbol-end
-slice_bounds-write_symbol-end c = room _ _ _ _ c.requires.1 c.fill_part.auto.mem
+slice_bounds-write_symbol-end c =
+    let b = c.args.block in
+    let half = c.fill_part.new.mem in
+    let room : 96 + b.k + b.size ≤ length half = omega (arith, work_room _ _ _ c.requires.1, c.fill_part.auto.mem) in
+    room
 
 pub write_symbol-requires : goal.write_symbol-requires
 write_symbol-requires c =
-    let v = c.requires.0 in
     let b = c.args.block in
-    rw (lent b.k b.size c.fill_part.new.mem (room b.k b.size c.args.work.now c.fill_part.new.mem c.requires.1 c.fill_part.auto.mem))
-    (v.size_least, v.size_most, omega (arith, v.size_most, c.requires.3), omega (arith, one_symbol _ _ c.requires.3))
+    let half = c.fill_part.new.mem in
+    let room : 96 + b.k + b.size ≤ length half = omega (arith, work_room _ _ _ c.requires.1, c.fill_part.auto.mem) in
+    let lent = lent b.k b.size half room in
+    let v = c.requires.0 in
+    rw lent (v.size_least, v.size_most, omega (arith, v.size_most, c.requires.3), omega (arith, one_symbol _ _ c.requires.3))
 
 pub returns : goal.returns
 unfolding row_with
 returns c =
     let b = c.args.block in
-    let x = c.write_symbol in
     let half = c.fill_part.new.mem in
-    let r = room b.k b.size c.args.work.now half c.requires.1 c.fill_part.auto.mem in
-    put (96 + b.k) b.size x.new.dst half r x.auto.dst
-    ∙ ap (λ (y : List ℕ). splice (96 + b.k) y half) (rw (lent b.k b.size half r) at x.ensures)
+    let room : 96 + b.k + b.size ≤ length half = omega (arith, work_room _ _ _ c.requires.1, c.fill_part.auto.mem) in
+    let lent = lent b.k b.size half room in
+    let x = c.write_symbol in
+    put (96 + b.k) b.size x.new.dst half room x.auto.dst
+    ∙ ap (λ (y : List ℕ). splice (96 + b.k) y half) (rw lent at x.ensures)
     ∙ ap (splice (96 + b.k) _) c.fill_part.ensures

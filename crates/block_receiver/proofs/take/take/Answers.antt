@@ -6,6 +6,9 @@ use Rattle.blocks.specs.Block.{setting_for}
 use Rattle.block_receiver.proofs.Taking.{inserted_as, updated_as, took_news, took_contradicts}
 use Rattle.block_receiver.proofs.take.take.Goals as goal
 
+pub insert-requires : goal.insert-requires
+insert-requires c = let g = c.requires.0 in rw c.shape_of-shape.ensures (g.fits, g.works, refl)
+
 pub update-requires : goal.update-requires
 update-requires c =
     let g = c.requires.0 in
