@@ -1,8 +1,6 @@
 -- `bench::add_by_tables` meets its contract. The loop: the first i elements are those of the result.
-use Rattle.std.specs.Prelude.{◌≡◌, ◌≤◌, ◌-◌}
-use Rattle.words.specs.Words.{arith, length, rules}
-use Rattle.field.specs.Tables.{power_table, logarithm_table}
-use Rattle.rows.proofs.Turns.{summed, summed_turn, summed_end}
+use Rattle.words.specs.Words.{arith, rules}
+use Rattle.rows.proofs.Turns.{summed_turn, summed_end}
 use Rattle.bench.proofs.add_by_tables.Goals as goal
 
 pub loop-i-preserved : goal.loop-i-preserved

@@ -1,8 +1,8 @@
 -- `bench::add_by_tables` meets its contract. The loop: the first i elements are those of the result.
 use Rattle.std.specs.Prelude.{◌≡◌, ◌≤◌, ◌-◌}
-use Rattle.words.specs.Words.{arith, length, rules}
+use Rattle.words.specs.Words.{length}
 use Rattle.field.specs.Tables.{power_table, logarithm_table}
-use Rattle.rows.proofs.Turns.{summed, summed_turn, summed_end}
+use Rattle.rows.proofs.Turns.{summed}
 use Rattle.bench.proofs.add_by_tables.Given as goal
 
 abbrev pub invariant-loop-i : goal.invariant-loop-i
