@@ -19,8 +19,8 @@ fn main() {
     if !library.is_file() {
         eprintln!("rlc8681: {} is not there.", library.display());
         eprintln!(
-            "Write it with `rt staticlib capi` at the root of the repository, or set RLC8681_LIB_DIR to the absolute path of the folder that \
-             holds libcapi.a."
+            "Run `rt lib` in crates/capi and copy out/libcapi.a there, or set RLC8681_LIB_DIR to the absolute path of the folder that holds \
+             libcapi.a."
         );
         exit(1);
     }
