@@ -10,7 +10,7 @@ use std::sync::atomic::{AtomicBool, Ordering};
 use std::time::Duration;
 use std::{env, thread};
 
-/// The program's file: RLC8681_CAPTURE where that is set, else the one that `rt check capture` writes.
+/// The program's file: RLC8681_CAPTURE where that is set, else a copy of the one that `rt run` in crates/capture writes.
 fn file() -> PathBuf {
     let file = match env::var_os("RLC8681_CAPTURE") {
         Some(file) => PathBuf::from(file),
@@ -19,7 +19,7 @@ fn file() -> PathBuf {
     assert!(file.is_absolute(), "RLC8681_CAPTURE is {}; it must be an absolute path", file.display());
     assert!(
         file.is_file(),
-        "{} is not there: write it with `rt check capture` at the root of the repository, or set RLC8681_CAPTURE to the program's file",
+        "{} is not there: copy out/capture there after `rt run` in crates/capture, as tests/run does, or set RLC8681_CAPTURE to the program's file",
         file.display()
     );
     file
