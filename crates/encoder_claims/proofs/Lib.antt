@@ -1,5 +1,6 @@
 -- The modules of the proofs.
 pub mod Running
+pub mod Adding
 pub mod Judging
 pub mod Choice
 pub mod Runs

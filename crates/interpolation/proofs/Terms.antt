@@ -13,6 +13,7 @@ use Rattle.rows.specs.Combination.{dot}
 use Rattle.interpolation.specs.Polynomial.{value}
 use Rattle.interpolation.specs.Lagrange.{others, term}
 use Rattle.interpolation.proofs.Points.{product_left_comm, apart_positive, Points}
+use Rattle.interpolation.proofs.Factor.{factor}
 use Rattle.interpolation.proofs.Roots.{bytes-more, adds, adds_value, adds_length, adds_bytes}
 
 -- ---- functions that are polynomials
@@ -136,17 +137,13 @@ module _ (i : ℕ) (g : ℕ → ℕ) where
       go false q = refl
 
 module _ (x : ℕ → ℕ) (i : ℕ) where
-  -- what point m gives at y
-  abbrev pub factor : (y m : ℕ) → ℕ
-  factor y m = product (bit_xor y (x m)) (inverse (bit_xor (x i) (x m)))
-
   term_own : (n y : ℕ) → n ≡ i → term x (suc n) i y ≡ term x n i y
   unfolding term
-  term_own n y e = others_own i (factor y) n e
+  term_own n y e = others_own i (factor x i y) n e
 
-  term-more : (n y : ℕ) → n ≢ i → term x (suc n) i y ≡ product (term x n i y) (factor y n)
+  term-more : (n y : ℕ) → n ≢ i → term x (suc n) i y ≡ product (term x n i y) (factor x i y n)
   unfolding term
-  term-more n y d = others-more i (factor y) n d
+  term-more n y d = others-more i (factor x i y) n d
 
   times_factor : (n m : ℕ) → m ≢ i → Polynomial n (term x m i) → Polynomial (suc n) (term x (suc m) i)
   times_factor n m d p =
@@ -202,7 +199,7 @@ module _ (x : ℕ → ℕ) (i : ℕ) where
 
           last : Dec (n ≡ i) → term x (suc n) i (x m) ≡ 0
           last (yes q) = term_own n (x m) q ∙ z
-          last (no q) = term-more n (x m) q ∙ ap (λ (t : ℕ). product t (factor (x m) n)) z ∙ product-zero (factor (x m) n)
+          last (no q) = term-more n (x m) q ∙ ap (λ (t : ℕ). product t (factor x i (x m) n)) z ∙ product-zero (factor x i (x m) n)
 
 -- ---- the sum of the terms
 

@@ -25,11 +25,11 @@ division_only {n} {d} {q} {r} h =
 
 pub bounds : (budget bitrate E : ℕ) → allowed budget bitrate E ≡ true → Bounds budget bitrate E
 bounds budget bitrate E a =
-    let (b, rest) = both (within 1 10000000 budget) _ a in
+    let (b, rest) = both (within 1 _ budget) _ a in
     let (c, e) = both (within 1 10000000000 bitrate) (within 4 1500 E) rest in
     let size = within_bounds 4 1500 E e in
     record {
-      dividend_most = mul-le-mul (within_bounds 1 10000000 budget b).1 (within_bounds 1 10000000000 bitrate c).1;
+      dividend_most = mul-le-mul (within_bounds 1 _ budget b).1 (within_bounds 1 10000000000 bitrate c).1;
       size_least = size.0;
       size_most = size.1;
     }
