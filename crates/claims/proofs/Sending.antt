@@ -24,7 +24,8 @@ use Rattle.sender.specs.Claims.{given, OfBytes}
 use Rattle.sender.proofs.Repairing.{written_small}
 use Rattle.sender.proofs.Ring.{below}
 use Rattle.sender.proofs.Running.{impossible, symbols-append, ran, run_holds, run_valid}
-use Rattle.sender.proofs.Judging.{key_is, sender_judged, announced-only}
+use Rattle.sender.proofs.Saying.{key_is}
+use Rattle.sender.proofs.Judging.{sender_judged, announced-only}
 use Rattle.claims.specs.Written.{Packet, repair, packets_of, Wrote, wrote_source, wrote_repair}
 use Rattle.claims.specs.SentAdus.{Begins, Sent, sent-source, sent-repair, AllSent, SenderSends}
 
