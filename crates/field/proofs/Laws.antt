@@ -4,18 +4,19 @@
 --   the tables: doublings_at, logarithms_at
 --   inverses: inverse_unique, inverse-lt, inverse-is, inverse-power, product-inverse
 --   the operations by logarithms: product_by_logarithms, inverse_by_logarithm, inverse-zero
-use Rattle.std.specs.Prelude.{◌≡◌, ◌≤◌, ◌+◌, ◌<◌, ◌-◌, ◌%◌, ◌*◌, ◌/◌}
+use Rattle.std.specs.Prelude.{◌≡◌, ◌≤◌, ◌+◌, ◌<◌, ◌-◌, ◌%◌, ◌*◌, ◌/◌, ◌&&◌}
 use Rattle.words.specs.Words.{arith, ℕ, List, length, refl, ◌∙◌, sym, ap, suc, true, zero, get_or, false, Bool, ap₂, ltb, eqb}
 use Rattle.words.specs.Words.{add-zero, bit_xor, not-suc-le-zero, zero-add, le_of_suc-le-suc, zero-mul, eqb-true, add-suc, eqb-false, suc-add}
 use native.Mathlib.Nat.{div-add-mod'}
 use lib.Arith.{lt_of_le-ne}
 use lib.Dec.{T, eqb→eq, ltb→lt}
+use lib.Ieee.Fits.{and_l, and_r}
 use Rattle.field.specs.Gf256.{product, times, remainder}
 use Rattle.field.specs.Powers.{power, inverse_below, inverse}
 use Rattle.field.specs.Tables.{doublings, logarithm_table}
 use Rattle.field.specs.Logarithm.{IsLogarithm}
 use Rattle.field.proofs.Polynomial.{times_comm, times_assoc, times-one, times-xor_left, remainder-xor, remainder-times, remainder_id, remainder-lt}
-use Rattle.field.proofs.Table.{both, both_left, both_right, every, at}
+use Rattle.field.proofs.Table.{every, at}
 
 -- ---- the product
 
@@ -90,7 +91,7 @@ doublings_at n k h = go n 0 k h ∙ ap power (add-zero k)
 
 -- l is the logarithm of i + 1, where ps has the powers from 1 on
 right : List ℕ → ℕ → ℕ → Bool
-right ps i l = both (ltb l 255) (eqb (get_or ps l 0) (suc i))
+right ps i l = ltb l 255 && eqb (get_or ps l 0) (suc i)
 
 all_right : T (every (right (doublings 255 1)) 0 logarithm_table)
 unfolding logarithm_table right
@@ -102,9 +103,9 @@ logarithms_at a p h =
     let e : ℕ = get_or logarithm_table (a - 1) 0 in
     let n : length logarithm_table ≡ 255 = unfold logarithm_table in refl in
     let r = at (right (doublings 255 1)) logarithm_table all_right (a - 1) (omega arith) in
-    let l : e < 255 = ltb→lt e 255 (both_left (ltb e 255) _ r) in
+    let l : e < 255 = ltb→lt e 255 (and_l (ltb e 255) _ r) in
     let s : suc (a - 1) ≡ a = omega arith in
-    record { small = l; power-is = sym (doublings_at 255 e l) ∙ eqb→eq _ _ (both_right (ltb e 255) _ r) ∙ s }
+    record { small = l; power-is = sym (doublings_at 255 e l) ∙ eqb→eq _ _ (and_r (ltb e 255) _ r) ∙ s }
 
 -- ---- inverses
 

@@ -1,13 +1,14 @@
 -- A product in GF(2^8) is the sum of the multiples of one factor that the binary digits of the other choose.
 use Rattle.std.specs.Prelude.{◌≡◌, ◌≤◌, ◌+◌, ◌<◌, ◌-◌, ◌%◌, ◌∷◌, ◌*◌, ◌^◌, ◌/◌}
 use Rattle.words.specs.Words.{arith, ℕ, List, refl, ◌∙◌, sym, ap, [], suc, zero, ap₂, bit_xor, zero-mul}
-use Rattle.words.specs.Words.{xor_zero_r, one-mul, xor_comm, dec_lt}
+use Rattle.words.specs.Words.{xor_zero_r, one-mul, xor_comm, dec_lt, add-one, drop, drop-cons, get_or, length}
+use Rattle.std.proofs.lemmas.List.{drop_all}
 use native.Mathlib.Nat.{pow-suc}
 use lib.Bits.{xor_shifted}
 use Rattle.field.specs.Gf256.{product, times, remainder}
 use Rattle.field.specs.Powers.{power}
 use Rattle.field.specs.Tables.{doublings}
-use Rattle.field.proofs.Xor.{split_digit}
+use Rattle.field.proofs.Xor.{split_digit, xor_assoc}
 use Rattle.field.proofs.Polynomial.{remainder-times, remainder_id, remainder-xor}
 use Rattle.field.proofs.Binary.{product_selects}
 use Rattle.field.proofs.Laws.{product_lt, product_comm, product_assoc, product-sum, product-zero_right}
@@ -39,6 +40,19 @@ unfolding chosen doublings
 chosen_product zero c s h l = let z : s ≡ 0 = omega arith in rw z (sym (product-zero_right c))
 chosen_product (suc n) c s h l =
     ap (bit_xor (s % 2 * c)) (chosen_product n (product 2 c) (s / 2) (product_lt 2 c) (omega (arith, pow-suc 2 n))) ∙ sym (product-digit c s h)
+
+-- one digit taken: what is summed, and what the other digits choose
+pub chosen_more : (l : List ℕ) (i sum s : ℕ) → i < length l
+    → bit_xor (bit_xor sum (s % 2 * get_or l i 0)) (chosen (drop (i + 1) l) (s / 2)) ≡ bit_xor sum (chosen (drop i l) s)
+unfolding chosen
+chosen_more l i sum s h =
+    let e : drop i l ≡ get_or l i 0 ∷ drop (i + 1) l = rw add-one (drop-cons l i 0 h) in
+    rw e (xor_assoc sum (s % 2 * get_or l i 0) (chosen (drop (i + 1) l) (s / 2)))
+
+-- all digits taken
+pub chosen_all : (l : List ℕ) (i sum s : ℕ) → length l ≤ i → sum ≡ bit_xor sum (chosen (drop i l) s)
+unfolding chosen
+chosen_all l i sum s h = rw (drop_all i l h) (sym (xor_zero_r sum))
 
 -- the powers from e + k on, one by one
 doublings-power : (n e k : ℕ) → doublings (suc n) (power (e + k)) ≡ power (e + k) ∷ doublings n (power (e + (k + 1)))

@@ -2,8 +2,8 @@
 use Rattle.std.specs.Prelude.{◌≡◌, ◌+◌, ◌<◌, ◌%◌, ◌*◌, ◌/◌}
 use Rattle.words.specs.Words.{ℕ, refl, ◌∙◌, sym, ap, suc, zero, ap₂, mod-lt, add-zero, bit_xor, not-suc-le-zero, le_of_suc-le-suc}
 use Rattle.words.specs.Words.{zero-mul, xor_zero_r, one-mul, xor_comm}
+pub use Rattle.std.specs.Int.Bits.{xor_assoc}
 use native.Mathlib.Nat.{div-add-mod', zero-lt-suc}
-use lib.Arith.{bin_ind}
 use lib.Bits.{differ, xor_shr, xor_mod, xor_self, xor_block, xor_shifted}
 
 -- what holds of 0 and of 1 holds of a number below 2
@@ -27,15 +27,6 @@ pub xor_odd : (a b : ℕ) → bit_xor a b % 2 ≡ differ (a % 2) (b % 2)
 xor_odd a b =
     xor_mod a b 1
     ∙ digit (λ x. bit_xor x (b % 2) ≡ differ x (b % 2)) refl (digit (λ y. bit_xor 1 y ≡ differ 1 y) refl refl b) a
-
-pub xor_assoc : (a b c : ℕ) → bit_xor (bit_xor a b) c ≡ bit_xor a (bit_xor b c)
-xor_assoc =
-    bin_ind (λ (n : ℕ). (b c : ℕ) → bit_xor (bit_xor n b) c ≡ bit_xor n (bit_xor b c)) (λ b c. refl)
-    (λ n ih b c. same_digits (simp xor_half (ih (b / 2) (c / 2)))
-    (simp xor_odd
-    (digit (λ x. differ (differ x (b % 2)) (c % 2) ≡ differ x (differ (b % 2) (c % 2))) refl
-    (digit (λ y. differ (differ 1 y) (c % 2) ≡ differ 1 (differ y (c % 2))) refl
-    (digit (λ z. differ 0 z ≡ differ 1 (differ 1 z)) refl refl c) b) n)))
 
 -- (a + b) + (c + d) = (a + c) + (b + d)
 pub xor_swap : (a b c d : ℕ) → bit_xor (bit_xor a b) (bit_xor c d) ≡ bit_xor (bit_xor a c) (bit_xor b d)

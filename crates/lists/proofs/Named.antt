@@ -1,19 +1,18 @@
 -- Laws of rows that a list names.
-use Rattle.std.specs.Prelude.{◌≡◌, ◌%◌, ◌*◌, ◌+◌, ◌-◌, ◌/◌, ◌<◌, ◌≤◌}
-use Rattle.words.specs.Words.{refl, ◌∙◌, sym, ap, ap₂, arith, List, add-one, add-zero, bit_xor, dec_lt}
+use Rattle.std.specs.Prelude.{◌≡◌, ◌⊎◌, ◌%◌, ◌*◌, ◌+◌, ◌-◌, ◌/◌, ◌<◌, ◌≤◌}
+use Rattle.words.specs.Words.{refl, ◌∙◌, sym, ap, arith, inl, inr, List, [], add-one, add-zero, bit_xor, dec_lt}
 use Rattle.words.specs.Words.{get_or, length, length-replicate, length-set, replicate, set, suc, zero, ℕ, ⊎_elim}
 use native.Mathlib.Nat.{eq-or-lt_of_le}
 use lib.Seq.{get_or-set_same, get_or-set_other}
 use borrow.Author.Rules.{read_below}
-use Rattle.memory.proofs.Parts.{part-before, part-splice, length-splice}
-use Rattle.memory.specs.Part.{part, splice}
+use Rattle.memory.specs.Part.{part}
 use Rattle.rows.specs.Combination.{coefficient}
 use Rattle.rows.specs.Rows.{add_scaled, scaled}
 use Rattle.rows.specs.Sums.{combined, row_at}
 use Rattle.rows.proofs.Combinations.{length-combined, sum_onto, combined_both}
 use Rattle.rows.proofs.Sums.{add_scaled_zero, scaled-zeros, length-scaled}
 use Rattle.lists.specs.Digits.{shifted, digit, pair_is}
-use Rattle.lists.specs.Named.{added, Listed, list_of, Room, list_added, pairs_added, ListedPairs, pair_added}
+use Rattle.lists.specs.Named.{added, Listed, list_of, IsNaming, list_added, pairs_added, ListedPairs, pair_added}
 use Rattle.lists.proofs.Digits.{combined-shifted, combined_end, higher_digit, lower_digit, pair_bit, combined-none}
 
 get_or-zeros : (n i : ℕ) → get_or {A = ℕ} (replicate n 0) i 0 ≡ 0
@@ -76,13 +75,13 @@ added_turn m a s w l n d₀ d r p e = rw (e, p, add-one)
 -- ---- the lists of the pairs
 
 -- the first t lists are made, and the others have no rows
-pub record ListedFirst (cs lists counts : List ℕ) (t : ℕ) : Type 0 where
+pub record ListedFirst (cs : List ℕ) (lists : List (List ℕ)) (counts : List ℕ) (t : ℕ) : Type 0 where
   pub listed : (i : ℕ) → i < t → Listed (pair_is cs (i / 3 * 2) (i % 3 + 1)) (length cs) (get_or counts i 0) (list_of lists i)
   pub others : (i : ℕ) → t ≤ i → get_or counts i 0 ≡ 0
-  pub all : length lists ≡ 768
+  pub all : length lists ≡ 12
   pub twelve : length counts ≡ 12
 
-pub listed-first : (cs lists counts : List ℕ) → length lists ≡ 768 → counts ≡ replicate 12 0 → ListedFirst cs lists counts 0
+pub listed-first : (cs : List ℕ) (lists : List (List ℕ)) (counts : List ℕ) → length lists ≡ 12 → counts ≡ replicate 12 0 → ListedFirst cs lists counts 0
 listed-first cs lists counts l e =
     record {
       listed = λ i h. absurd (omega arith);
@@ -92,57 +91,44 @@ listed-first cs lists counts l e =
     }
 
 -- one more list
-pub listed_pair : (cs lists counts new : List ℕ) (t n : ℕ) → t < 12 → length new ≡ 64 → ListedFirst cs lists counts t
-    → Listed (pair_is cs (t / 3 * 2) (t % 3 + 1)) (length cs) n new → ListedFirst cs (splice (t * 64) new lists) (set counts t n) (t + 1)
-listed_pair cs lists counts new t n lt ln old h =
-    let ll = old.all in
-    let lc = old.twelve in
+pub listed_pair : (cs : List ℕ) (lists : List (List ℕ)) (counts new : List ℕ) (t n : ℕ) → t < 12 → ListedFirst cs lists counts t
+    → Listed (pair_is cs (t / 3 * 2) (t % 3 + 1)) (length cs) n new → ListedFirst cs (set lists t new) (set counts t n) (t + 1)
+listed_pair cs lists counts new t n lt old h =
     record {
-      listed = λ i g.
-          ⊎_elim
-          (λ f.
-          let p : get_or (set counts t n) i 0 ≡ n = ap (λ (x : ℕ). get_or (set counts t n) x 0) f ∙ get_or-set_same counts t n 0 (omega arith) in
-          let q : part (i * 64) 64 (splice (t * 64) new lists) ≡ new =
-          ap₂ (λ (x y : ℕ). part (x * 64) y (splice (t * 64) new lists)) f (sym ln) ∙ part-splice (t * 64) new lists (omega arith) in
-          rw (p, q, f) h)
-          (λ f.
-          let p : get_or (set counts t n) i 0 ≡ get_or counts i 0 = get_or-set_other counts t i n 0 (λ q. omega arith) in
-          let q : part (i * 64) 64 (splice (t * 64) new lists) ≡ part (i * 64) 64 lists =
-          part-before (i * 64) 64 (t * 64) new lists (omega arith) (omega arith) in
-          rw (p, q) (old.listed i f))
-          (let le : i ≤ t = omega arith in eq-or-lt_of_le le);
+      listed = λ i g. go i (let le : i ≤ t = omega arith in eq-or-lt_of_le le);
       others = λ i g. get_or-set_other counts t i n 0 (λ q. omega arith) ∙ old.others i (omega arith);
-      all = length-splice (t * 64) new lists (omega arith) ∙ ll;
-      twelve = length-set counts t n ∙ lc;
-    }
-
--- every row that is listed has room
-pub listed-room : (cs lists counts : List ℕ) (n a s size : ℕ) → ListedPairs cs lists counts n → length cs ≤ 64 → length lists ≡ 768 → length counts ≡ 12
-    → ((k : ℕ) → k < length cs → a + k * s + 64 ≤ size) → Room lists counts a s size
-listed-room cs lists counts n a s size h l ll lc fits =
-    record {
-      all = ll;
-      twelve = lc;
-      few = λ t g. go t (dec_lt t (3 * n));
-      fits = λ t j g q. at t j q (dec_lt t (3 * n));
+      all = length-set lists t new ∙ old.all;
+      twelve = length-set counts t n ∙ old.twelve;
     }
   where
-    go : (t : ℕ) → Dec (t < 3 * n) → get_or counts t 0 ≤ 64
-    go t (yes g) = omega (arith, (h.listed t g).few)
-    go t (no g) = omega (arith, h.others t (omega arith))
+    go : (i : ℕ) → (i ≡ t) ⊎ (i < t)
+        → Listed (pair_is cs (i / 3 * 2) (i % 3 + 1)) (length cs) (get_or (set counts t n) i 0) (list_of (set lists t new) i)
+    go i (inl f) = rw (f, get_or-set_same counts t n 0 (omega (arith, old.twelve)), get_or-set_same lists t new [] (omega (arith, old.all))) h
+    go i (inr f) =
+        rw (get_or-set_other counts t i n 0 (λ q. omega arith), get_or-set_other lists t i new [] (λ q. omega arith)) (old.listed i f)
 
-    at : (t j : ℕ) → j < get_or counts t 0 → Dec (t < 3 * n) → a + get_or (list_of lists t) j 0 * s + 64 ≤ size
-    at t j q (yes g) = fits (get_or (list_of lists t) j 0) ((h.listed t g).below j q)
-    at t j q (no g) = absurd (omega (arith, h.others t (omega arith)))
+-- what is listed are rows
+pub listed_naming : (cs : List ℕ) (lists : List (List ℕ)) (counts : List ℕ) (n : ℕ) → ListedPairs cs lists counts n → length cs ≤ 64
+    → IsNaming lists counts (length cs)
+listed_naming cs lists counts n h l =
+    record { few = λ t g. few t (dec_lt t (3 * n)); below = λ t j g q. below t j q (dec_lt t (3 * n)) }
+  where
+    few : (t : ℕ) → Dec (t < 3 * n) → get_or counts t 0 ≤ 64
+    few t (yes g) = omega (arith, (h.listed t g).few)
+    few t (no g) = omega (arith, h.others t (omega arith))
+
+    below : (t j : ℕ) → j < get_or counts t 0 → Dec (t < 3 * n) → get_or (list_of lists t) j 0 < length cs
+    below t j q (yes g) = (h.listed t g).below j q
+    below t j q (no g) = absurd (omega (arith, h.others t (omega arith)))
 
 -- a pair more is added
-pub pairs_turn : (row : ℕ → List ℕ) (lists counts : List ℕ) (n j : ℕ) (d₀ d r : List ℕ) → d ≡ pairs_added row lists counts n j d₀
+pub pairs_turn : (row : ℕ → List ℕ) (lists : List (List ℕ)) (counts : List ℕ) (n j : ℕ) (d₀ d r : List ℕ) → d ≡ pairs_added row lists counts n j d₀
     → r ≡ pair_added row lists counts (n - 1 - j) d → r ≡ pairs_added row lists counts n (j + 1) d₀
 unfolding pairs_added
 pairs_turn row lists counts n j d₀ d r p e = rw (e, p, add-one)
 
 -- from no row on, the lists of the pairs sum up to the combination
-module _ (row : ℕ → List ℕ) (cs lists counts : List ℕ) (m : ℕ) (long : (k : ℕ) → k < length cs → 64 ≤ length (row k))
+module _ (row : ℕ → List ℕ) (cs : List ℕ) (lists : List (List ℕ)) (counts : List ℕ) (m : ℕ) (long : (k : ℕ) → k < length cs → 64 ≤ length (row k))
     (pairs : ListedPairs cs lists counts m) where
   -- the rows of the list of one digit of pair p alone, added to those with both, are the rows with that digit
   digit-added : (t u e : ℕ) → t < 3 * m → u < 3 * m

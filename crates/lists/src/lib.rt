@@ -5,11 +5,11 @@
 
 ghost use Rattle.std.specs.Prelude.{◌≡◌, ◌≤◌, ◌+◌, ◌-◌, ◌*◌, ◌<◌};
 ghost use Rattle.words.specs.Words.{ℕ, length, replicate, get_or};
-ghost use Rattle.memory.specs.Part.{part};
+ghost use Rattle.memory.specs.Number.{Bytes};
 ghost use Rattle.rows.specs.Rows.{add_scaled, scaled};
 ghost use Rattle.rows.specs.Sums.{row_at};
 ghost use Rattle.lists.specs.Digits.{shifted, is, pair_of, pair_is};
-ghost use Rattle.lists.specs.Named.{added, Listed, list_of, ListedPairs, Room, digit_added, pair_added, pairs_added};
+ghost use Rattle.lists.specs.Named.{added, Listed, list_of, ListedPairs, IsNaming, digit_added, pair_added, pairs_added};
 
 use field::Gf256;
 
@@ -22,14 +22,14 @@ fn is_pair(c: u8, e: u32, v: u8) -> usize
 }
 
 // Lists the rows whose coefficients have v as their pair of binary digits from e on. Gives how many.
-fn rows_with(list: &mut [u8], cs: &[u8], e: u32, v: u8) -> usize
-    requires { (length cs.now ≤ length list.old) × (length cs.now ≤ 255) × (e < 8) }
+fn rows_with(list: &mut [u8; 64], cs: &[u8], e: u32, v: u8) -> usize
+    requires { (length cs.now ≤ 64) × (e < 8) }
     ensures { Listed (pair_is cs.now e v) (length cs.now) result list.new }
 {
     let mut n: usize = 0;
-    for k in 0..cs.len() {
+    for (k, c) in cs.iter().enumerate() {
         list[n] = k as u8;
-        n += is_pair(cs[k], e, v);
+        n += is_pair(*c, e, v);
     }
     n
 }
@@ -38,150 +38,152 @@ fn rows_with(list: &mut [u8], cs: &[u8], e: u32, v: u8) -> usize
 fn pairs_of(cs: &[u8]) -> usize
     ensures { (result ≤ 4) × ((k : ℕ) → shifted cs.now (2 * result) k ≡ 0) }
 {
-    for k in 0..cs.len() {
-        if 4 <= cs[k] {
-            return 4;
+    if cs.iter().any(|c| 4 <= *c) { 4 } else { 1 }
+}
+
+// The lists of the pairs, how many rows each has, and how many pairs there are.
+#[derive(Drop)]
+pub struct Lists {
+    pub names: [[u8; 64]; 12],
+    pub counts: [usize; 12],
+    pub pairs: usize,
+}
+
+impl Lists {
+    // No list has a row.
+    pub fn empty() -> Lists
+        ensures { result.counts ≡ replicate 12 0 }
+    {
+        Lists {
+            names: [[0; 64]; 12],
+            counts: [0; 12],
+            pairs: 0,
         }
     }
-    1
-}
 
-// The lists of the pairs, 64 elements each, and how many rows each has: none at first. Gives how many pairs there are.
-pub fn list_pairs(lists: &mut [u8], counts: &mut [usize], cs: &[u8]) -> usize
-    requires { (length lists.old ≡ 768) × (counts.old ≡ replicate 12 0) × (length cs.now ≤ 64) }
-    ensures { ListedPairs cs.now lists.new counts.new result }
-{
-    let pairs = pairs_of(cs);
-    for t in 0..3 * pairs {
-        let at = t * 64;
-        let n = rows_with(
-            &mut lists[at..at + 64],
-            cs,
-            (t / 3 * 2) as u32,
-            (t % 3 + 1) as u8,
-        );
-        counts[t] = n;
-    }
-    pairs
-}
-
-// acc, of 64 bytes, becomes 2 * acc.
-fn double_strip(acc: &mut [u8])
-    requires { length acc.old ≡ 64 }
-    ensures { acc.new ≡ scaled 2 acc.old }
-{
-    for i in 0..64 {
-        acc[i] = Gf256(acc[i]).double().0;
+    // Lists the rows by the pairs of their coefficients. No list has a row at first.
+    pub fn list(&mut self, cs: &[u8])
+        requires { (self.old.counts ≡ replicate 12 0) × (length cs.now ≤ 64) }
+        ensures { ListedPairs cs.now self.new.names self.new.counts self.new.pairs }
+    {
+        let pairs = pairs_of(cs);
+        for t in 0..3 * pairs {
+            self.counts[t] = rows_with(
+                &mut self.names[t],
+                cs,
+                (t / 3 * 2) as u32,
+                (t % 3 + 1) as u8,
+            );
+        }
+        self.pairs = pairs;
     }
 }
 
-// acc becomes acc + the 64 bytes of mem from `at` on.
-pub fn add_strip(acc: &mut [u8], mem: &[u8], at: usize)
-    requires { (length acc.old ≡ 64) × (at + 64 ≤ length mem.now) }
-    ensures { acc.new ≡ add_scaled 1 acc.old (part at 64 mem.now) }
-{
-    for i in 0..64 {
-        acc[i] = acc[i] ^ mem[at + i];
+// Rows in lent memory, or their parts from some byte on: the first from `first` on, one every `stride` bytes. Each has room for a strip.
+#[derive(Clone, Copy)]
+pub struct SpacedRows<'a> {
+    pub mem: &'a [u8],
+    pub first: usize,
+    pub stride: usize,
+    pub count: usize,
+    ghost fits: { (k : ℕ) → k < count → first + k * stride + 64 ≤ length mem.now },
+    ghost bytes: { Bytes mem.now },
+}
+
+impl<'a> SpacedRows<'a> {
+    // The first 64 bytes of row k.
+    // Kept: a slice, since `first_chunk`, which gives an array, tests its length when it runs, and each sum of rows took up to 1.3 times as long.
+    pub fn strip(&self, k: usize) -> &'a [u8]
+        requires { k < self.now.count }
+        ensures { (result.now ≡ row_at self.now.mem.now self.now.first self.now.stride 64 k) × (length result.now ≡ 64) }
+    {
+        let mem = self.mem;
+        let at = self.first + k * self.stride;
+        &mem[at..at + 64]
     }
 }
 
-// acc becomes acc + the rows of list t: 64 bytes of mem each, the first row's from a on, one every s bytes.
-fn add_listed(
-    acc: &mut [u8],
-    lists: &[u8],
-    counts: &[usize],
-    t: usize,
-    mem: &[u8],
-    a: usize,
-    s: usize,
-)
-    requires { (length acc.old ≡ 64) × (t < 12) × Room lists.now counts.now a s (length mem.now) }
-    ensures { acc.new
-        ≡ added (row_at mem.now a s 64) (list_of lists.now t) (get_or counts.now t 0) acc.old }
+// strip becomes 2 * strip.
+fn double_strip(strip: &mut [u8; 64])
+    ensures { strip.new ≡ scaled 2 strip.old }
 {
-    let n = counts[t];
-    let at = t * 64;
-    for j in 0..n {
-        let r = lists[at + j] as usize;
-        add_strip(acc, mem, a + r * s);
+    for x in strip.iter_mut() {
+        *x = Gf256(*x).double().0;
     }
 }
 
-// acc becomes 2 * acc + both + the rows of list t.
-fn add_digit(
-    acc: &mut [u8],
-    both: &[u8],
-    lists: &[u8],
-    counts: &[usize],
-    t: usize,
-    mem: &[u8],
-    a: usize,
-    s: usize,
-)
-    requires { (length acc.old ≡ 64) × (length both.now ≡ 64) × (t < 12) × Room lists.now counts.now a s (length mem.now) }
-    ensures { acc.new
-        ≡ digit_added (row_at mem.now a s 64) lists.now counts.now t both.now acc.old }
+// acc becomes acc + strip. The sum is made in registers, so that it does not matter to the compiler whether they overlap.
+pub fn add_strip(acc: &mut [u8; 64], strip: &[u8])
+    requires { length strip.now ≡ 64 }
+    ensures { acc.new ≡ add_scaled 1 acc.old strip.now }
 {
-    double_strip(acc);
-    add_strip(acc, both, 0);
-    add_listed(acc, lists, counts, t, mem, a, s);
-}
-
-// acc becomes 4 * acc + the rows that pair p chooses. Those with both digits are summed once and added twice.
-fn add_pair(
-    acc: &mut [u8],
-    lists: &[u8],
-    counts: &[usize],
-    p: usize,
-    mem: &[u8],
-    a: usize,
-    s: usize,
-)
-    requires { (length acc.old ≡ 64) × (p < 4) × Room lists.now counts.now a s (length mem.now) }
-    ensures { acc.new
-        ≡ pair_added (row_at mem.now a s 64) lists.now counts.now p acc.old }
-{
-    let mut both = [0u8; 64];
-    add_listed(&mut both, lists, counts, 3 * p + 2, mem, a, s);
-    add_digit(acc, &both, lists, counts, 3 * p + 1, mem, a, s);
-    add_digit(acc, &both, lists, counts, 3 * p, mem, a, s);
-}
-
-// From the highest of the pairs to the lowest.
-fn add_pairs(
-    acc: &mut [u8],
-    lists: &[u8],
-    counts: &[usize],
-    pairs: usize,
-    mem: &[u8],
-    a: usize,
-    s: usize,
-)
-    requires { (length acc.old ≡ 64) × (pairs ≤ 4) × Room lists.now counts.now a s (length mem.now) }
-    ensures { acc.new
-        ≡ pairs_added (row_at mem.now a s 64) lists.now counts.now pairs pairs acc.old }
-{
-    for j in 0..pairs {
-        add_pair(acc, lists, counts, pairs - 1 - j, mem, a, s);
+    let mut sum = *acc;
+    for (i, x) in sum.iter_mut().enumerate() {
+        *x ^= strip[i];
     }
+    *acc = sum;
 }
 
-// Adds to dst, of 64 bytes, what the lists sum up to: 64 bytes of each row, the first row's from a on.
-pub fn add_sum(
-    dst: &mut [u8],
-    lists: &[u8],
-    counts: &[usize],
-    pairs: usize,
-    mem: &[u8],
-    a: usize,
-    s: usize,
-)
-    requires { (length dst.old ≡ 64) × (pairs ≤ 4) × Room lists.now counts.now a s (length mem.now) }
-    ensures { dst.new
-        ≡ add_scaled 1 dst.old
-        (pairs_added (row_at mem.now a s 64) lists.now counts.now pairs pairs (replicate 64 0)) }
-{
-    let mut acc = [0u8; 64];
-    add_pairs(&mut acc, lists, counts, pairs, mem, a, s);
-    add_strip(dst, &acc, 0);
+// Lists and the rows that they name.
+#[derive(Clone, Copy)]
+pub struct ListedRows<'a, 'b> {
+    pub lists: &'a Lists,
+    pub rows: SpacedRows<'b>,
+    ghost most: { lists.now.pairs ≤ 4 },
+    ghost named: { IsNaming lists.now.names lists.now.counts rows.count },
+}
+
+impl ListedRows<'_, '_> {
+    // acc becomes acc + the rows of list t.
+    fn add_list(&self, acc: &mut [u8; 64], t: usize)
+        requires { t < 12 }
+        ensures { let rows = self.now.rows in
+            let lists = self.now.lists.now in
+            acc.new ≡ added (row_at rows.mem.now rows.first rows.stride 64) (list_of lists.names t) (get_or lists.counts t 0) acc.old }
+    {
+        let list = &self.lists.names[t];
+        let n = self.lists.counts[t];
+        let rows = self.rows;
+        for k in &list[..n] {
+            add_strip(acc, rows.strip(*k as usize));
+        }
+    }
+
+    // acc becomes 2 * acc + both + the rows of list t.
+    fn add_digit(&self, acc: &mut [u8; 64], both: &[u8; 64], t: usize)
+        requires { t < 12 }
+        ensures { let rows = self.now.rows in
+            let lists = self.now.lists.now in
+            acc.new ≡ digit_added (row_at rows.mem.now rows.first rows.stride 64) lists.names lists.counts t both.now acc.old }
+    {
+        double_strip(acc);
+        add_strip(acc, both);
+        self.add_list(acc, t);
+    }
+
+    // acc becomes 4 * acc + the rows that pair p chooses. Those with both digits are summed once and added twice.
+    fn add_pair(&self, acc: &mut [u8; 64], p: usize)
+        requires { p < 4 }
+        ensures { let rows = self.now.rows in
+            let lists = self.now.lists.now in
+            acc.new ≡ pair_added (row_at rows.mem.now rows.first rows.stride 64) lists.names lists.counts p acc.old }
+    {
+        let mut both = [0u8; 64];
+        self.add_list(&mut both, 3 * p + 2);
+        self.add_digit(acc, &both, 3 * p + 1);
+        self.add_digit(acc, &both, 3 * p);
+    }
+
+    // The sum of the strips that the lists choose, from the highest of the pairs to the lowest.
+    pub fn sum(&self) -> [u8; 64]
+        ensures { let rows = self.now.rows in
+            let lists = self.now.lists.now in
+            result ≡ pairs_added (row_at rows.mem.now rows.first rows.stride 64) lists.names lists.counts lists.pairs lists.pairs (replicate 64 0) }
+    {
+        let mut acc = [0u8; 64];
+        for p in (0..self.lists.pairs).rev() {
+            self.add_pair(&mut acc, p);
+        }
+        acc
+    }
 }

@@ -5,7 +5,7 @@
 --   a part of a splice: part-within, part-before, part-past
 --   a byte of a splice, and a store of one: get_or-past, get_or-before, get_or_apart, get_or-within, set-splice
 --   parts of parts, and stores on stores: whole, get_or-part, part-part, part-drop, part-splice, splice-part, splice_next, splice-append, splice-within
---   bytes one by one: part_none, part-cons, part-two, part-add, sets_splice
+--   bytes one by one: part_none, part-cons, part-two, part-four, part-add, sets_splice
 --   rows of s bytes: row_fits
 use Rattle.std.specs.Prelude.{◌≡◌, ◌≤◌, ◌+◌, ◌<◌, ◌-◌, ◌∷◌, ◌*◌, ◌++◌}
 use Rattle.words.specs.Words.{arith, ℕ, List, length, refl, ◌∙◌, ap, [], suc, zero, get_or, drop, take, add-zero}
@@ -195,6 +195,13 @@ part-cons a n m h = rw (add-one, drop-cons m a 0 h)
 
 pub part-two : (a : ℕ) (m : List ℕ) → a + 2 ≤ length m → part a 2 m ≡ get_or m a 0 ∷ get_or m (a + 1) 0 ∷ []
 part-two a m h = cc (part-cons a 1 m (omega arith), part-cons (a + 1) 0 m (omega arith), part_none (a + 1 + 1) m)
+
+pub part-four : (a : ℕ) (m : List ℕ) → a + 4 ≤ length m
+    → part a 4 m ≡ get_or m a 0 ∷ get_or m (a + 1) 0 ∷ get_or m (a + 2) 0 ∷ get_or m (a + 3) 0 ∷ []
+part-four a m h =
+    let e : a + 1 + 1 ≡ a + 2 = omega arith in
+    let f : a + 2 + 1 ≡ a + 3 = omega arith in
+    cc (part-cons a 3 m (omega arith), part-cons (a + 1) 2 m (omega arith), part-two (a + 2) m (omega arith))
 
 -- a part of two pieces
 pub part-add : (a n k : ℕ) (m : List ℕ) → part a (n + k) m ≡ part a n m ++ part (a + n) k m

@@ -2,10 +2,15 @@
 #![tactic(auto)]
 
 ghost use Rattle.std.specs.Prelude.{◌≡◌, ◌≤◌, ◌+◌, ◌*◌};
+ghost use Rattle.std.specs.List.{flat_map};
 ghost use Rattle.words.specs.Words.{length, replicate};
-ghost use Rattle.rows.specs.Sums.{rows_added};
-ghost use Rattle.buckets.specs.Buckets.{Filled};
-ghost use Rattle.strips.specs.Ways.{in_buckets, most_rows, Prepared, Placed, Ready};
+ghost use Rattle.rows.specs.Sums.{row_at, rows_added};
+ghost use Rattle.lists.specs.Named.{ListedPairs, pairs_added};
+ghost use Rattle.buckets.specs.Buckets.{Strips, weights};
+ghost use Rattle.strips.specs.Ways.{most_rows, Ready};
+
+use buckets::sorted::Orders;
+use lists::{ListedRows, Lists, SpacedRows};
 
 // How a strip is summed: by lists of the rows' pairs of digits; in buckets that are filled row by row; or in buckets that are filled from sorted
 // rows.
@@ -16,89 +21,83 @@ pub enum Way {
     SortedBuckets,
 }
 
-// Whether the rows go into buckets.
-fn in_buckets(way: Way) -> bool
-    ensures { result ≡ in_buckets way }
-{
-    match way {
-        Way::Lists => false,
-        Way::Buckets => true,
-        Way::SortedBuckets => true,
-    }
-}
-
-// Lists the pairs of digits of the coefficients or, where rows go into buckets, of the buckets' weights; and sorts the rows where that is needed.
-// Gives how many pairs are listed.
-fn prepare(
-    lists: &mut [u8],
-    counts: &mut [usize],
-    order: &mut [u8],
-    ends: &mut [u8],
-    cs: &[u8],
-    way: Way,
-) -> usize
-    requires { (length lists.old ≡ 768) × (counts.old ≡ replicate 12 0) × (length order.old ≡ 510) × (length ends.old ≡ 32)
-        × (length cs.now ≤ most_rows way) }
-    ensures { Prepared way cs.now lists.new counts.new order.new ends.new result }
-{
-    let weights = buckets::WEIGHTS;
-    match way {
-        Way::Lists => lists::list_pairs(lists, counts, cs),
-        Way::Buckets => lists::list_pairs(lists, counts, &weights),
-        Way::SortedBuckets => {
-            let mut classes = [0u8; 255];
-            buckets::sorted::sort(order, ends, &mut classes, cs);
-            lists::list_pairs(lists, counts, &weights)
+impl Way {
+    // How many rows are summed at a time.
+    pub fn most_rows(self) -> usize
+        ensures { result ≡ most_rows self }
+    {
+        match self {
+            Way::Lists => 64,
+            Way::Buckets | Way::SortedBuckets => 255,
         }
     }
 }
 
-// Fills the buckets, which are empty, with 64 bytes of each row, the first row's from a on.
-fn fill(
-    buckets: &mut [u8],
-    way: Way,
-    order: &[u8],
-    ends: &[u8],
-    cs: &[u8],
-    mem: &[u8],
-    a: usize,
-    s: usize,
-)
-    requires { (buckets.old ≡ replicate 2048 0) × Placed way cs.now order.now ends.now a s (length mem.now) }
-    ensures { (length buckets.new ≡ 2048)
-        × Filled cs.now (length cs.now) mem.now a s buckets.new }
+// The sum of the buckets, each times its weight, whose pairs of digits are listed.
+fn sum_buckets(lists: &Lists, buckets: &[[u8; 64]; 32]) -> [u8; 64]
+    requires { ListedPairs weights lists.now.names lists.now.counts lists.now.pairs × Strips 32 buckets.now }
+    ensures { result
+        ≡ pairs_added (row_at (flat_map (λ x. x) buckets.now) 0 64 64) lists.now.names lists.now.counts lists.now.pairs lists.now.pairs (replicate 64 0) }
 {
-    if let Way::SortedBuckets = way {
-        buckets::sorted::fill(buckets, order, ends, mem, a, s);
-        return;
-    }
-    buckets::fill(buckets, cs, mem, a, s);
+    let mem = buckets.as_flattened();
+    let rows = SpacedRows {
+        mem,
+        first: 0,
+        stride: 64,
+        count: 32,
+    };
+    ListedRows { lists, rows }.sum()
 }
 
-// Adds to dst, of 64 bytes, the sum of the rows: 64 bytes of each, the first row's from a on.
-fn add_strip(
-    dst: &mut [u8],
+// What strips are summed with: the coefficients, lists of the pairs of their digits or of those of the buckets' weights, and the orders of the rows,
+// where they are sorted.
+#[derive(Clone, Copy)]
+struct Plan<'a> {
     way: Way,
-    lists: &[u8],
-    counts: &[usize],
-    pairs: usize,
-    order: &[u8],
-    ends: &[u8],
-    cs: &[u8],
-    mem: &[u8],
-    a: usize,
-    s: usize,
-)
-    requires { (length dst.old ≡ 64) × Ready way cs.now lists.now counts.now order.now ends.now pairs a s (length mem.now) }
-    ensures { dst.new ≡ rows_added cs.now mem.now a s 64 dst.old }
-{
-    if !in_buckets(way) {
-        lists::add_sum(dst, lists, counts, pairs, mem, a, s);
-        return;
+    cs: &'a [u8],
+    lists: &'a Lists,
+    orders: &'a Orders,
+}
+
+impl Plan<'_> {
+    // The sum of the strips of the rows, each times its coefficient.
+    fn sum(&self, rows: SpacedRows) -> [u8; 64]
+        requires { Ready self.now.way self.now.cs.now self.now.lists.now self.now.orders.now × (rows.count ≡ length self.now.cs.now) }
+        ensures { result ≡ rows_added self.now.cs.now rows.entry.mem.now rows.entry.first rows.entry.stride 64 (replicate 64 0) }
+    {
+        match self.way {
+            Way::Lists => ListedRows {
+                lists: self.lists,
+                rows,
+            }
+            .sum(),
+            Way::Buckets => {
+                let mut buckets = [[0u8; 64]; 32];
+                buckets::fill(&mut buckets, self.cs, rows);
+                sum_buckets(self.lists, &buckets)
+            }
+            Way::SortedBuckets => {
+                let mut buckets = [[0u8; 64]; 32];
+                self.orders.fill(&mut buckets, rows);
+                sum_buckets(self.lists, &buckets)
+            }
+        }
     }
-    let mut buckets = [0u8; 2048];
-    fill(&mut buckets, way, order, ends, cs, mem, a, s);
-    lists::add_sum(dst, lists, counts, pairs, &buckets, 0, 64);
+}
+
+// Lists the pairs of digits of the coefficients or, where rows go into buckets, of the buckets' weights; and sorts the rows where that is needed.
+fn prepare(lists: &mut Lists, orders: &mut Orders, cs: &[u8], way: Way)
+    requires { (lists.old.counts ≡ replicate 12 0) × (length cs.now ≤ most_rows way) }
+    ensures { Ready way cs.now lists.new orders.new }
+{
+    match way {
+        Way::Lists => lists.list(cs),
+        Way::Buckets => lists.list(&buckets::WEIGHTS),
+        Way::SortedBuckets => {
+            orders.sort(cs);
+            lists.list(&buckets::WEIGHTS);
+        }
+    }
 }
 
 // Adds to dst the rows of mem, row k times cs[k], in strips. The last one starts early enough to be whole, before the row if need be, and of it only
@@ -109,47 +108,38 @@ pub fn add_rows(dst: &mut [u8], cs: &[u8], mem: &[u8], a: usize, s: usize, way: 
     ensures { dst.new
         ≡ rows_added cs.now mem.now a s (length dst.old) dst.old }
 {
-    let mut lists = [0u8; 768];
-    let mut counts = [0usize; 12];
-    let mut order = [0u8; 510];
-    let mut ends = [0u8; 32];
+    let mut lists = Lists::empty();
+    let mut orders = Orders::empty();
+    prepare(&mut lists, &mut orders, cs, way);
+    let plan = Plan {
+        way,
+        cs,
+        lists: &lists,
+        orders: &orders,
+    };
+    let count = cs.len();
     let end = dst.len();
-    let pairs = prepare(&mut lists, &mut counts, &mut order, &mut ends, cs, way);
-    let mut at: usize = 0;
-    while 64 <= end - at {
-        add_strip(
-            &mut dst[at..at + 64],
-            way,
-            &lists,
-            &counts,
-            pairs,
-            &order,
-            &ends,
-            cs,
+    for i in 0..end / 64 {
+        let at = i * 64;
+        let sum = plan.sum(SpacedRows {
             mem,
-            a + at,
-            s,
-        );
-        at += 64;
+            first: a + at,
+            stride: s,
+            count,
+        });
+        rows::add(&mut dst[at..at + 64], &sum);
     }
-    let rest = end - at;
+    let rest = end % 64;
     if rest == 0 {
         return;
     }
+    let at = end - rest;
     let skip = 64 - rest;
-    let mut last = [0u8; 64];
-    add_strip(
-        &mut last,
-        way,
-        &lists,
-        &counts,
-        pairs,
-        &order,
-        &ends,
-        cs,
+    let last = plan.sum(SpacedRows {
         mem,
-        a + at - skip,
-        s,
-    );
+        first: a + at - skip,
+        stride: s,
+        count,
+    });
     rows::add(&mut dst[at..at + rest], &last[skip..skip + rest]);
 }

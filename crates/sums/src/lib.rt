@@ -48,23 +48,14 @@ fn add_rows(dst: &mut [u8], cs: &[u8], mem: &[u8], a: usize, s: usize)
     ensures { dst.new
         ≡ rows_added cs.now mem.now a s (length dst.old) dst.old }
 {
-    for k in 0..cs.len() {
-        add_row(dst, mem, a, s, k, Gf256(cs[k]));
+    for (k, c) in cs.iter().enumerate() {
+        add_row(dst, mem, a, s, k, Gf256(*c));
     }
 }
 
 // Whether at least `enough` coefficients are at least `least`. Only the time depends on it.
 fn has(cs: &[u8], least: u8, enough: usize) -> bool {
-    let mut count: usize = 0;
-    for k in 0..cs.len() {
-        if count == enough {
-            return true;
-        }
-        if least <= cs[k] {
-            count += 1;
-        }
-    }
-    count == enough
+    cs.iter().filter(|c| least <= **c).take(enough).count() == enough
 }
 
 // Whether strips are faster, for rows of n bytes. Only the time depends on it.
@@ -106,11 +97,7 @@ fn block(left: usize, way: Way) -> usize
     requires { 0 < left }
     ensures { (0 < result) × (result ≤ left) × (result ≤ most_rows way) }
 {
-    match way {
-        Way::Lists => memory::least(left, 64),
-        Way::Buckets => memory::least(left, 255),
-        Way::SortedBuckets => memory::least(left, 255),
-    }
+    left.min(way.most_rows())
 }
 
 // Adds to dst the rows of mem, row k times cs[k], in strips, so many rows at a time as the way takes.
@@ -150,6 +137,6 @@ pub fn combine(dst: &mut [u8], cs: &[u8], mem: &[u8], a: usize, s: usize)
     ensures { dst.new
         ≡ rows_added cs.now mem.now a s (length dst.old) (replicate (length dst.old) 0) }
 {
-    memory::fill(dst, 0);
+    dst.fill(0);
     add_combination(dst, cs, mem, a, s);
 }

@@ -8,6 +8,7 @@ pub use Rattle.std.proofs.lemmas.Nat.{xor_lt, xor_comm}
 pub use Rattle.std.proofs.Math.ListN.{get_or-append}
 pub use Rattle.std.proofs.lemmas.List.{length-replicate}
 pub use Rattle.std.proofs.Math.Seq.{take-append_seam, drop-length}
-pub use Rattle.std.proofs.Math.Option.{some, none, Option, some-injective, none-ne-some}
+pub use Rattle.std.specs.Prelude.{Option, Some, None}
+pub use Rattle.words.specs.Options.{some-injective, none-ne-some, some-ne-none}
 pub use Rattle.std.proofs.Math.Decide.{ℕ_discrete, dec_lt}
 pub use Rattle.std.proofs.Math.Nat.{mod-add-mod, add-mod_right}

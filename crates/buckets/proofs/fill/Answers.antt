@@ -1,55 +1,44 @@
 -- `buckets::fill` meets its contract. The loop: the first k rows are in the buckets.
-use Rattle.std.specs.Prelude.{◌≡◌, ◌<◌}
-use Rattle.words.specs.Words.{ap, ◌∙◌, mod-lt, ℕ, arith, length, length-replicate, rules}
+use Rattle.std.specs.Prelude.{◌≡◌, ◌%◌, ◌/◌, ◌+◌, ◌<◌}
+use Rattle.words.specs.Words.{ap, arith, ◌∙◌, length, mod-lt, set}
+use Rattle.memory.proofs.Parts.{length_part}
+use Rattle.memory.proofs.Number.{bytes-part}
+use Rattle.memory.specs.Number.{Bytes}
 use Rattle.rows.specs.Combination.{coefficient}
-use Rattle.buckets.proofs.Filling.{filled_none, filled_turn}
+use Rattle.rows.specs.Sums.{row_at}
+use Rattle.rows.proofs.Sums.{length_add_scaled}
+use Rattle.buckets.proofs.Filling.{filled_none, filled_turn, strips_none, strips_set}
 use Rattle.buckets.proofs.fill.Goals as goal
 
 pub loop-k-init : goal.loop-k-init
 loop-k-init c =
     let a = c.args in
-    (omega arith, ap length c.requires.0 ∙ length-replicate {A = ℕ} 2048 0, filled_none a.cs.now a.mem.now a.a a.s a.buckets.now c.requires.0)
-
-pub overflow_mul-at : goal.overflow_mul-at
-overflow_mul-at c = omega (arith, c.requires.1 c.loop-k.k (omega arith))
-
-pub overflow_add-at : goal.overflow_add-at
-overflow_add-at c = omega (arith, c.requires.1 c.loop-k.k (omega arith))
-
-pub add_to-requires : goal.add_to-requires
-add_to-requires c =
-    let t = c.loop-k in
-    let b = (c.type_inv.cs t.k).fits in
-    let room = c.requires.1 t.k (omega arith) in
-    (t.invariant.1, omega (arith, mod-lt (coefficient c.args.cs.now t.k) (let z : 0 < 16 = omega arith in z)), room)
-
-pub overflow_add-c : goal.overflow_add-c
-overflow_add-c c =
-    let b = (c.type_inv.cs c.loop-k.k).fits in
-    omega arith
-
-pub add_to-requires-in-loop-k : goal.add_to-requires-in-loop-k
-add_to-requires-in-loop-k c =
-    let t = c.loop-k in
-    let b = (c.type_inv.cs t.k).fits in
-    let room = c.requires.1 t.k (omega arith) in
-    (c.add_to.auto.buckets ∙ t.invariant.1, omega arith, room)
+    let r = a.rows in
+    let h = c.requires.0 in
+    (strips_none h, filled_none a.cs.now r.mem.now r.first r.stride a.buckets.now h)
 
 pub loop-k-preserved : goal.loop-k-preserved
+unfolding row_at
 loop-k-preserved c =
     let a = c.args in
+    let r = a.rows in
     let t = c.loop-k in
-    let x = c.add_to in
-    let y = c.add_to-in-loop-k in (
-      search rules,
-      y.auto.buckets ∙ x.auto.buckets ∙ t.invariant.1,
-      filled_turn a.cs.now a.mem.now a.a a.s t.k t.buckets x.new.buckets y.new.buckets (λ i. (c.type_inv.cs i).fits)
-          (λ i. (c.type_inv.mem i).fits) t.invariant.1 (x.auto.buckets ∙ t.invariant.1) (c.requires.1 t.k (omega arith)) t.invariant.2 x.ensures
-          y.ensures,
+    let old = t.invariant.0 in
+    let strip = c.strip-strip.result.now in
+    let n = coefficient a.cs.now t.k in
+    let byte = (c.type_inv.cs t.k).fits in
+    let low : n % 16 < 32 = omega (arith, mod-lt n (let z : 0 < 16 = omega arith in z)) in
+    let high : 16 + n / 16 < 32 = omega arith in
+    let fits = r.fits t.k (omega (arith, c.requires.1)) in
+    let size : length strip ≡ 64 = ap length c.strip-strip.ensures.0 ∙ length_part _ 64 r.mem.now fits in
+    let bytes : Bytes strip = λ i. rw c.strip-strip.ensures.0 (bytes-part _ 64 r.mem.now r.bytes i) in
+    let mid = strips_set (n % 16) c.add_strip.new.acc old low (ap length c.add_strip.ensures ∙ length_add_scaled _ _ _ ∙ old.size (n % 16) low) in
+    let new = strips_set (16 + n / 16) c.add_strip-in-loop-k.new.acc mid high
+    (ap length c.add_strip-in-loop-k.ensures ∙ length_add_scaled _ _ _ ∙ mid.size (16 + n / 16) high) in (
+      new,
+      filled_turn a.cs.now r.mem.now r.first r.stride t.k strip (λ i. (c.type_inv.cs i).fits) bytes size old mid c.strip-strip.ensures.0 t.invariant.1
+          (ap (set t.buckets (n % 16)) c.add_strip.ensures) (ap (set _ (16 + n / 16)) c.add_strip-in-loop-k.ensures),
     )
 
 pub returns : goal.returns
-returns c =
-    let t = c.loop-k in
-    let e : t.k ≡ length c.args.cs.now = omega arith in
-    (t.invariant.1, rw e at t.invariant.2)
+returns c = let e : c.loop-k.k ≡ length c.args.cs.now = omega arith in (c.loop-k.invariant.0, rw e at c.loop-k.invariant.1)

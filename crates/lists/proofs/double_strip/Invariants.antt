@@ -1,11 +1,7 @@
--- `lists::double_strip` meets its contract. The loop: the first i elements are those of the result.
-use Rattle.std.specs.Prelude.{◌≤◌, ◌-◌}
+-- `lists::double_strip` meets its contract. The loop: the first elements are those of the result.
 use Rattle.memory.proofs.Loop.{Turned}
 use Rattle.rows.specs.Rows.{scaled}
 use Rattle.lists.proofs.double_strip.Given as goal
 
-abbrev pub invariant-loop-i : goal.invariant-loop-i
-invariant-loop-i l = (l.i ≤ 64) × Turned l.initial.acc (scaled 2 l.initial.acc) l.i l.acc
-
-abbrev pub decreases-loop-i : goal.decreases-loop-i
-decreases-loop-i l = 64 - l.i
+abbrev pub invariant-loop-x : goal.invariant-loop-x
+invariant-loop-x l = Turned l.initial.strip (scaled 2 l.initial.strip) l.x-index l.strip

@@ -6,15 +6,14 @@ use Rattle.lists.proofs.Named.{listed-none, listed_turn}
 use Rattle.lists.proofs.rows_with.Goals as goal
 
 pub loop-k-init : goal.loop-k-init
-loop-k-init c = (search rules, listed-none _ _, search rules)
+loop-k-init c = (listed-none _ _, search rules)
 
 pub loop-k-preserved : goal.loop-k-preserved
 unfolding pair_is
 loop-k-preserved c =
     let a = c.args in
     let t = c.loop-k in (
-      search rules,
-      listed_turn (pair_is a.cs.now a.e a.v) t.k t.n c.is_pair-n.result t.list t.invariant.1 (sym c.is_pair-n.ensures)
-          (omega (arith, c.is_pair-n.ensures, pair_bit a.cs.now a.e a.v t.k)) (omega (arith, t.invariant.1.few)),
+      listed_turn (pair_is a.cs.now a.e a.v) t.k t.n c.is_pair-n.result t.list t.invariant.0 (sym c.is_pair-n.ensures)
+          (omega (arith, c.is_pair-n.ensures, pair_bit a.cs.now a.e a.v t.k)) (omega (arith, t.invariant.0.few)),
       search rules,
     )

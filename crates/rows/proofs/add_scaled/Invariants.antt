@@ -1,11 +1,7 @@
 -- `rows::add_scaled` meets its contract. The loop: the first i elements are those of the result.
-use Rattle.std.specs.Prelude.{◌-◌}
 use Rattle.memory.proofs.Loop.{Turned}
 use Rattle.rows.specs.Rows.{add_scaled}
 use Rattle.rows.proofs.add_scaled.Given as goal
 
 abbrev pub invariant-loop-i : goal.invariant-loop-i
-invariant-loop-i l = Turned l.initial.dst (add_scaled l.m.0 l.initial.dst l.src) l.i l.dst
-
-abbrev pub decreases-loop-i : goal.decreases-loop-i
-decreases-loop-i l = l.i-end - l.i
+invariant-loop-i l = Turned l.initial.dst (add_scaled l.m l.initial.dst l.src) l.i l.dst

@@ -1,23 +1,16 @@
--- `rows::add_within` meets its contract. The loop: the first i bytes of the stretch are those of the sum.
-use Rattle.std.specs.Prelude.{◌≡◌}
+-- `rows::add_within` meets its contract: one side of the cut has the stretch that is changed, and the other the one that is added.
 use Rattle.words.specs.Words.{arith}
-use Rattle.rows.proofs.Turns.{within-zero, within_none, within_more, within_all}
+use Rattle.rows.proofs.Turns.{changed_before, changed_after}
 use Rattle.rows.proofs.add_within.Goals as goal
 
-pub returns-then-c-eq0 : goal.returns-then-c-eq0
-returns-then-c-eq0 c =
+pub returns-then-a-b : goal.returns-then-a-b
+returns-then-a-b c =
     let a = c.args in
-    let e : a.c.0 ≡ 0 = omega arith in
-    rw e (within-zero a.a a.b a.n a.mem.now (omega arith))
+    let cut = c.split_at_mut-low.ensures in
+    changed_before a.c.0 a.a a.b a.n a.mem.now (omega arith) (omega arith) cut.front cut.back c.add_part.ensures
 
-pub loop-i-init : goal.loop-i-init
-loop-i-init c = within_none _ _ _ _ _ (omega arith)
-
-pub loop-i-preserved : goal.loop-i-preserved
-loop-i-preserved c =
-    let t = c.loop-i in
-    rw (c.sum.ensures, c.times.ensures) (within_more _ _ _ _ _ (omega arith) (omega arith) c.requires.2 (omega arith) t.invariant)
-
-pub returns : goal.returns
-returns c =
-    rw c.multiples-m.ensures.0 at (within_all _ _ _ _ _ (omega arith) (omega arith) c.loop-i.invariant)
+pub returns-else-a-b : goal.returns-else-a-b
+returns-else-a-b c =
+    let a = c.args in
+    let cut = c.split_at_mut-low-else-a-b.ensures in
+    changed_after a.c.0 a.a a.b a.n a.mem.now (omega arith) cut.front cut.back c.add_part-else-a-b.ensures

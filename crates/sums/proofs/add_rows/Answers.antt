@@ -22,12 +22,11 @@ loop-k-preserved c =
     let a = c.args in
     let t = c.loop-k in
     let row = c.add_row in (
-      search rules,
-      row-added (coefficient a.cs.now) a.mem.now a.a a.s t.k a.dst.now t.dst _ t.invariant.1 t.invariant.2 row.ensures,
+      row-added (coefficient a.cs.now) a.mem.now a.a a.s t.k a.dst.now t.dst _ t.invariant.0 t.invariant.1 row.ensures,
       search rules,
     )
 
 pub returns : goal.returns
 returns c =
     let e : c.loop-k.k ≡ length c.args.cs.now = omega arith in
-    rw e at c.loop-k.invariant.1
+    rw e at c.loop-k.invariant.0

@@ -2,4 +2,4 @@
 use Rattle.sums.proofs.combine.Goals as goal
 
 pub returns : goal.returns
-returns c = rw (c.fill.auto.dst, c.fill.ensures) at c.add_combination.ensures
+returns c = rw (c.fill.auto.self, c.fill.ensures.after (λ y e. e)) at c.add_combination.ensures

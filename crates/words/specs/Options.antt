@@ -1,0 +1,11 @@
+-- What an `Option` that is one thing is not.
+use Rattle.std.specs.Prelude.{◌≡◌, Option, Some, None}
+
+pub some-injective : {A : Type 0} (x y : A) → Some x ≡ Some y → x ≡ y
+some-injective x y e = cc
+
+pub none-ne-some : {A : Type 0} (x : A) → None ≡ Some x → ⊥
+none-ne-some x e = cc
+
+pub some-ne-none : {A : Type 0} (x : A) → Some x ≡ None → ⊥
+some-ne-none x e = cc
