@@ -13,7 +13,7 @@
 --   coefficient_draws_most: one coefficient takes at most 17
 --   list_draws_most, packet_draws_most
 --   written_draws: a packet takes the draws of the lists that its symbols were made with
-use Rattle.std.specs.Prelude.{◌≡◌, ◌≤◌, ◌+◌, ◌<◌, ◌%◌, ◌∷◌, ◌*◌, ◌++◌, ◌^◌}
+use Rattle.std.specs.Prelude.{◌≡◌, ◌≤◌, ◌+◌, ◌<◌, ◌%◌, ◌∷◌, ◌*◌, ◌++◌, ◌^◌, Option, Some, None, is_some, option_to_list}
 use Rattle.words.specs.Words.{arith, ℕ, List, length, refl, ◌∙◌, ap, [], suc, true, zero, get_or, false, Bool, cond}
 use Rattle.words.specs.Words.{leb, eqb, add-one, length-append, not-suc-le-zero, le_of_suc-le-suc, lit<, replicate}
 use native.Mathlib.Decide.{le_ind}
@@ -25,14 +25,13 @@ use Rattle.wire.specs.Packets.{Sized, repair_packet}
 use Rattle.wire.proofs.Reading.{repair-symbols, repair_key_lem, density_threshold_lem, protected_count_lem}
 use Rattle.wire.specs.declared.Scheme.{Scheme}
 use Rattle.wire.specs.declared.Scheme.TheVariants.{Gf2, Gf256}
-use Rattle.coefficients.specs.declared.Coefficient.{Coefficient}
-use Rattle.coefficients.specs.Coefficients.{last_zero, nonzero_from, bit_of, byte_of, coefficient_of, Coefficients, extend, coefficients_of, keys, all_ok}
-use Rattle.coefficients.specs.Coefficients.{draws_of, packet_draws}
+use Rattle.coefficients.specs.Coefficients.{last_zero, nonzero_from, bit_of, byte_of, coefficient_of, Coefficient, Coefficients, extend, coefficients_of, keys}
+use Rattle.coefficients.specs.Coefficients.{all_ok, draws_of, packet_draws}
 
 -- one coefficient more after a list that was not refused, and after one that was
 module _ (scheme : Scheme) (dt : ℕ) (l : Coefficients) where
   pub extend_ok : l.ok ≡ true → {c : Coefficient} → c ≡ coefficient_of scheme dt l.state
-      → extend scheme dt l ≡ record { list = l.list ++ cond c.ok (c.value ∷ []) []; ok = c.ok; draws = l.draws + c.draws; state = c.state }
+      → extend scheme dt l ≡ record { list = l.list ++ option_to_list c.value; ok = is_some c.value; draws = l.draws + c.draws; state = c.state }
   unfolding extend
   extend_ok e ec = rw (e, ← ec)
 
@@ -59,6 +58,10 @@ module _ (scheme : Scheme) (key dt : ℕ) where
       go true f = f
       go false f = cc (extend-refused scheme dt (coefficients_of scheme key dt n) f)
 
+  one_value : (o : Option ℕ) → is_some o ≡ true → length (option_to_list o) ≡ 1
+  one_value None e = cc
+  one_value (Some v) e = refl
+
   -- a list that was not refused has as many coefficients as were asked
   pub list_length : (n : ℕ) → (coefficients_of scheme key dt n).ok ≡ true → length (coefficients_of scheme key dt n).list ≡ n
   unfolding coefficients_of
@@ -66,7 +69,7 @@ module _ (scheme : Scheme) (key dt : ℕ) where
   list_length (suc n) e =
       let f = ok_before n e in
       let l = extend_ok scheme dt (coefficients_of scheme key dt n) f {c = coefficient_of scheme dt (coefficients_of scheme key dt n).state} refl in
-      rw (l, rw l at e, length-append, list_length n f, add-one)
+      rw (l, length-append, list_length n f, one_value _ (rw l at e), add-one)
 
 -- at the density threshold 15 GF(2) has all ones, for any key
 pub ones : (key n : ℕ) → coefficients_of Gf2 key 15 n ≡ record { list = replicate n 1; ok = true; draws = 0; state = start_of key }
@@ -92,28 +95,33 @@ cond_both : {A : Type 0} (P : A → Type 0) (b : Bool) {x y : A} → P x → P y
 cond_both P true p q = p
 cond_both P false p q = q
 
-nonzero_byte_lt : (n k : ℕ) (s : List ℕ) → (nonzero_from n k s).value < 256
+-- a value that is there is below b
+abbrev ValueBelow : ℕ → Option ℕ → Type 0
+ValueBelow b None = Unit {0}
+ValueBelow b (Some v) = v < b
+
+nonzero_byte_lt : (n k : ℕ) (s : List ℕ) → ValueBelow 256 (nonzero_from n k s).value
 unfolding nonzero_from
-nonzero_byte_lt zero k s = lit< tt
+nonzero_byte_lt zero k s = tt
 nonzero_byte_lt (suc n) k s =
-    cond_both (λ (c : Coefficient). c.value < 256) (eqb (low8 (draw_of s).value) 0) (nonzero_byte_lt n (k + 1) (draw_of s).state) (omega arith)
+    cond_both (λ (c : Coefficient). ValueBelow 256 c.value) (eqb (low8 (draw_of s).value) 0) (nonzero_byte_lt n (k + 1) (draw_of s).state) (omega arith)
 
-bit_small : (dt : ℕ) (s : List ℕ) → (bit_of dt s).value < 2
+bit_small : (b dt : ℕ) (s : List ℕ) → 2 ≤ b → ValueBelow b (bit_of dt s).value
 unfolding bit_of
-bit_small dt s =
-    cond_both (λ (c : Coefficient). c.value < 2) (eqb dt 15) (lit< tt)
-    (cond_both (λ (v : ℕ). v < 2) (leb (low4 (draw_of s).value) dt) (lit< tt) (lit< tt))
+bit_small b dt s h =
+    cond_both (λ (c : Coefficient). ValueBelow b c.value) (eqb dt 15) (omega arith)
+    (cond_both (λ (v : ℕ). v < b) (leb (low4 (draw_of s).value) dt) (omega arith) (omega arith))
 
-bit_ok : (dt : ℕ) (s : List ℕ) → (bit_of dt s).ok ≡ true
+bit_ok : (dt : ℕ) (s : List ℕ) → is_some (bit_of dt s).value ≡ true
 unfolding bit_of
-bit_ok dt s = cond_both (λ (c : Coefficient). c.ok ≡ true) (eqb dt 15) refl refl
+bit_ok dt s = cond_both (λ (c : Coefficient). is_some c.value ≡ true) (eqb dt 15) refl refl
 
-value-lt : (scheme : Scheme) (dt : ℕ) (s : List ℕ) → (coefficient_of scheme dt s).value < 256
+value-lt : (scheme : Scheme) (dt : ℕ) (s : List ℕ) → ValueBelow 256 (coefficient_of scheme dt s).value
 unfolding byte_of
-value-lt Gf2 dt s = omega (arith, bit_small dt s)
+value-lt Gf2 dt s = bit_small 256 dt s (omega arith)
 value-lt Gf256 dt s =
-    cond_both (λ (c : Coefficient). c.value < 256) (eqb dt 15) (nonzero_byte_lt last_zero 0 s)
-    (cond_both (λ (c : Coefficient). c.value < 256) (leb (low4 (draw_of s).value) dt) (nonzero_byte_lt last_zero 1 (draw_of s).state) (lit< tt))
+    cond_both (λ (c : Coefficient). ValueBelow 256 c.value) (eqb dt 15) (nonzero_byte_lt last_zero 0 s)
+    (cond_both (λ (c : Coefficient). ValueBelow 256 c.value) (leb (low4 (draw_of s).value) dt) (nonzero_byte_lt last_zero 1 (draw_of s).state) (lit< tt))
 
 -- every element is below b
 abbrev pub Below : ℕ → List ℕ → Type 0
@@ -124,12 +132,12 @@ below_append b z [] k h g i = g i
 below_append b z (x ∷ l) k h g zero = h 0
 below_append b z (x ∷ l) k h g (suc i) = below_append b z l k (λ j. h (suc j)) g i
 
-below_one : (b v : ℕ) → 0 < b → v < b → Below b (v ∷ [])
-below_one b v z h zero = h
-below_one b v z h (suc i) = z
+below_value : (b : ℕ) (o : Option ℕ) → 0 < b → ValueBelow b o → Below b (option_to_list o)
+below_value b None z h = λ i. z
+below_value b (Some v) z h = elim [ zero ↦ h | suc i ↦ z ]
 
 -- a list is below what each of its coefficients is below
-module _ (scheme : Scheme) (key dt b : ℕ) (z : 0 < b) (h : (s : List ℕ) → (coefficient_of scheme dt s).value < b) where
+module _ (scheme : Scheme) (key dt b : ℕ) (z : 0 < b) (h : (s : List ℕ) → ValueBelow b (coefficient_of scheme dt s).value) where
   list_below : (n : ℕ) → Below b (coefficients_of scheme key dt n).list
   unfolding coefficients_of extend
   list_below zero = λ i. z
@@ -137,12 +145,12 @@ module _ (scheme : Scheme) (key dt b : ℕ) (z : 0 < b) (h : (s : List ℕ) → 
       let l = coefficients_of scheme key dt n in
       let c = coefficient_of scheme dt l.state in
       cond_both (λ (r : Coefficients). Below b r.list) l.ok
-      (below_append b z l.list _ (list_below n) (cond_both (Below b) c.ok (below_one b c.value z (h l.state)) (λ i. z)))
+      (below_append b z l.list _ (list_below n) (below_value b c.value z (h l.state)))
       (list_below n)
 
 -- every coefficient of GF(2) is 0 or 1
 pub bits : (key dt n : ℕ) → Below 2 (coefficients_of Gf2 key dt n).list
-bits key dt n = list_below Gf2 key dt 2 (lit< tt) (bit_small dt) n
+bits key dt n = list_below Gf2 key dt 2 (lit< tt) (λ s. bit_small 2 dt s (omega arith)) n
 
 -- every coefficient is a byte
 pub list_bytes : (scheme : Scheme) (key dt n : ℕ) → Bytes (coefficients_of scheme key dt n).list

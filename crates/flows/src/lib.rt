@@ -2,30 +2,20 @@
 #![tactic(auto)]
 
 ghost use Rattle.std.specs.Prelude.{◌≡◌};
-ghost use Rattle.words.specs.Words.{length};
 ghost use Rattle.flows.specs.Promises.{Announces, AnnouncesAll};
-
-// Sets the flow's bit.
-fn set_bit(flows: &mut [u8], flow: u8)
-    requires { length flows.old ≡ 32 }
-    ensures { Announces flow flows.old flows.new }
-{
-    let i = flow as usize / 8;
-    flows[i] = flows[i] | (1 << (flow % 8));
-}
 
 // Announces a flow; every other is announced or not as before.
 pub fn announce(flows: &mut [u8; 32], flow: u8)
     ensures { Announces flow flows.old flows.new }
 {
-    set_bit(flows, flow);
+    flows[flow as usize / 8] |= 1 << (flow % 8);
 }
 
 // Announces every flow.
 pub fn announce_all(flows: &mut [u8; 32])
     ensures { AnnouncesAll flows.new }
 {
-    memory::fill(flows, 255);
+    *flows = all();
 }
 
 // Every flow announced.

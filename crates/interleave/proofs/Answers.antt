@@ -1,17 +1,16 @@
 -- The answer: by which tests it is which, and what one that is a number of bytes says of the grid.
-use Rattle.std.specs.Prelude.{◌≡◌, ◌≤◌, ◌<◌, ◌*◌}
+use Rattle.std.specs.Prelude.{◌≡◌, ◌≤◌, ◌<◌, ◌*◌, Result, Ok, Err}
 use Rattle.words.specs.Words.{arith, ℕ, refl, ◌∙◌, sym, true, false, Bool, dec_lt, eqb, mul-le-mul, eqb-true, eq-eqb, lt-ltb, le-ltb}
 use Rattle.words.specs.Words.{true≢false, List, length}
+use Rattle.std.specs.Result.{IsErrAnd}
 use native.Mathlib.Nat.{mul_comm}
 use Rattle.wire.specs.Numbers.{within}
 use Rattle.memory.specs.Part.{splice}
 use Rattle.wire.specs.declared.Refusal.{Refusal}
-use Rattle.wire.specs.declared.Answer.{Answer}
-use Rattle.wire.specs.declared.Answer.TheVariants.{Done, Refused}
 use Rattle.wire.specs.Answers.{value, refusal, said}
 use Rattle.wire.proofs.Settings.{both, within_true, within_bounds}
-use Rattle.interleave.specs.Grid.{is_grid, answer_to, output_after}
-use Rattle.interleave.specs.Inner.{Fits, FitsWhere}
+use Rattle.interleave.specs.Grid.{is_grid, answer_to}
+use Rattle.interleave.specs.Inner.{Fits}
 use Rattle.interleave.specs.Promises.{Rearranges}
 use Rattle.interleave.specs.Claims.{SizeAllowed, IsGrid}
 
@@ -101,13 +100,9 @@ module _ (E D L given room : ℕ) where
       let ((s, s'), (d, d', l, l', w), h) = passed n e in
       record { size_most = s'; rows_least = d; rows_most = d'; columns_least = l; columns_most = l'; whole = w; fits = h }
 
-  pub fits_where : (a : Answer) → said a ≡ answer_to E D L given room → FitsWhere a E D L given room
-  fits_where (Done n) e = fitting n e
-  fits_where (Refused r) e = tt
-
 -- the same bytes as a grid of L rows by D columns
-pub turned_fits : (E D L given room : ℕ) (a : Answer) → FitsWhere a E D L given room → FitsWhere a E L D given room
-turned_fits E D L given room (Done n) f = record {
+pub turned_fits : {E D L given room : ℕ} → Fits E D L given room → Fits E L D given room
+turned_fits {D = D} {L = L} f = record {
   size_most = f.size_most;
   rows_least = f.columns_least;
   rows_most = f.columns_most;
@@ -116,21 +111,20 @@ turned_fits E D L given room (Done n) f = record {
   whole = rw (mul_comm L D) f.whole;
   fits = f.fits;
 }
-turned_fits E D L given room (Refused r) f = tt
 
--- ---- an answer whose case is known
+-- the answer of the tests is a number of bytes
+pub fits_done : {E D L given room n : ℕ} {a : Result ℕ Refusal} → said a ≡ answer_to E D L given room → a ≡ Ok n → Fits E D L given room
+fits_done {E = E} {D = D} {L = L} {given = given} {room = room} {n = n} t e = fitting E D L given room n (rw e at t)
 
-module _ {a : Answer} where
-  pub fits_done : {E D L given room n : ℕ} → a ≡ Done n → FitsWhere a E D L given room → Fits E D L given room
-  fits_done e f = rw e at f
+-- the answer of the tests, with the output after it: done, and refused
+module _ {E D L : ℕ} {x src out : List ℕ} {a : Result ℕ Refusal} (t : said a ≡ answer_to E D L (length src) (length out)) where
+  pub rearranged : {n : ℕ} {out' : List ℕ} → a ≡ Ok n → out' ≡ splice 0 x out → Rearranges E D L x src out (Ok n) out'
+  rearranged e o = record { answer = rw e at t; output = o }
 
-  pub written : (x out : List ℕ) {out' : List ℕ} {n : ℕ} → a ≡ Done n → out' ≡ splice 0 x out → out' ≡ output_after (said a) x out
-  written x out e w = rw e w
+  pub left : {why : Refusal} → a ≡ Err why → Rearranges E D L x src out (Err why) out
+  left e = record { answer = rw e at t; output = refl }
 
-  pub left : (x out : List ℕ) {why : Refusal} → a ≡ Refused why → out ≡ output_after (said a) x out
-  left x out e = rw e
-
--- the answer of the tests, handed on, with the output after it
-pub rearranged : (E D L : ℕ) (x src out : List ℕ) {a b : Answer} {out' : List ℕ} → said a ≡ answer_to E D L (length src) (length out)
-    → b ≡ a → out' ≡ output_after (said a) x out → Rearranges E D L x src out b out'
-rearranged E D L x src out e h o = rw h (record { answer = e; output = o })
+-- what the exit of a `?` returns
+pub exit_err : {r : Result ℕ Refusal} {w : Refusal} → IsErrAnd r (λ y. y ≡ w) → r ≡ Err w
+exit_err {r = Ok x} h = absurd h
+exit_err {r = Err y} h = rw h

@@ -1,9 +1,8 @@
 -- The claims: what is promised is that each symbol goes to its place, and what can be concluded from that.
-use Rattle.std.specs.Prelude.{◌≡◌, ◌≤◌, ◌+◌, ◌<◌, ◌*◌}
+use Rattle.std.specs.Prelude.{◌≡◌, ◌≤◌, ◌+◌, ◌<◌, ◌*◌, Result}
 use Rattle.words.specs.Words.{arith, ℕ, List, length, refl, ◌∙◌, sym, ap, take, length-take-le, take-append-drop, zero-add, ap₂}
 use Rattle.memory.specs.Part.{part, splice}
 use Rattle.memory.proofs.Parts.{length-splice, past-splice, part-within, part-part, whole, row_fits}
-use Rattle.wire.specs.declared.Answer.{Answer}
 use Rattle.wire.specs.Answers.{Said, value, refusal, said}
 use Rattle.interleave.specs.Grid.{symbols_from, answer_to, output_after}
 use Rattle.interleave.specs.Promises.{Rearranges}
@@ -11,6 +10,7 @@ use Rattle.interleave.specs.Claims.{SizeAllowed, IsGrid, Refuses, Moves, Judged,
 use Rattle.interleave.proofs.Symbols.{symbols_same, symbols-length, symbols-part}
 use Rattle.interleave.proofs.Places.{Places, taken_places, sent_places}
 use Rattle.interleave.proofs.Answers.{told_apart, said_size, said-grid, said_short, said-bytes, Tested, no_size, no_grid, no_room, all_pass, tested}
+use Rattle.wire.specs.declared.Refusal.{Refusal}
 
 -- A grid whose symbols go from their places in one order to their places in another: f are the places in the input, t those in the output.
 module _ (E D L : ℕ) {from to : (r c : ℕ) → ℕ} {row column row' column' : (p : ℕ) → ℕ}
@@ -19,7 +19,7 @@ module _ (E D L : ℕ) {from to : (r c : ℕ) → ℕ} {row column row' column' 
   abbrev order : (p : ℕ) → ℕ
   order p = from (row' p) (column' p)
 
-  module _ (src out : List ℕ) (a : Answer) (out' : List ℕ) where
+  module _ (src out : List ℕ) (a : Result ℕ Refusal) (out' : List ℕ) where
     -- the bytes that are promised
     abbrev x : List ℕ
     x = symbols_from E src order (D * L)

@@ -1,13 +1,13 @@
 -- What is claimed of the two calls, over all E, D and L (document 02, No. 8). `src` is the input, `out` the output
 -- before the call and `out'` after it, and `a` the answer.
-use Rattle.std.specs.Prelude.{◌≡◌, ◌≤◌, ◌+◌, ◌<◌, ◌*◌, ◌↔◌, ◌⊎◌}
+use Rattle.std.specs.Prelude.{◌≡◌, ◌≤◌, ◌+◌, ◌<◌, ◌*◌, ◌↔◌, ◌⊎◌, Result}
 use Rattle.words.specs.Words.{ℕ, List, length, take}
 use Rattle.memory.specs.Part.{part}
 use Rattle.memory.specs.Contained.{Contained}
-use Rattle.wire.specs.declared.Answer.{Answer}
 use Rattle.wire.specs.Answers.{Said, value, refusal, said}
 use Rattle.interleave.specs.Places.{taken_at, sent_at}
 use Rattle.interleave.specs.Promises.{Interleaves, Deinterleaves}
+use Rattle.wire.specs.declared.Refusal.{Refusal}
 
 -- Taken row by row: a symbol comes before another where its row does, or in the same row its column.
 abbrev pub ByRows : Type 0
@@ -49,18 +49,18 @@ pub record Judged (E D L : ℕ) (from to : (r c : ℕ) → ℕ) (src out : List 
 
 -- Taken row by row, sent column by column; and back. Exactly this is promised, so it leaves no choice.
 abbrev pub Sent : Type 0
-Sent = (E D L : ℕ) (src out : List ℕ) (a : Answer) (out' : List ℕ)
+Sent = (E D L : ℕ) (src out : List ℕ) (a : Result ℕ Refusal) (out' : List ℕ)
     → Interleaves E D L src out a out' ↔ Judged E D L (taken_at L) (sent_at D) src out (said a) out'
 
 abbrev pub PutBack : Type 0
-PutBack = (E D L : ℕ) (src out : List ℕ) (a : Answer) (out' : List ℕ)
+PutBack = (E D L : ℕ) (src out : List ℕ) (a : Result ℕ Refusal) (out' : List ℕ)
     → Deinterleaves E D L src out a out' ↔ Judged E D L (sent_at D) (taken_at L) src out (said a) out'
 
 -- One call undoes the other: where the first has answered n, the second, on the n bytes that it wrote and with room
 -- for as many, answers n and writes the first one's input.
-abbrev pub Undoes : (First Second : (src out : List ℕ) → Answer → (out' : List ℕ) → Type 0) → Type 0
+abbrev pub Undoes : (First Second : (src out : List ℕ) → Result ℕ Refusal → (out' : List ℕ) → Type 0) → Type 0
 Undoes First Second =
-    (n : ℕ) (src out out' back back' : List ℕ) (a b : Answer) → First src out a out' → said a ≡ value n
+    (n : ℕ) (src out out' back back' : List ℕ) (a b : Result ℕ Refusal) → First src out a out' → said a ≡ value n
     → Second (take n out') back b back' → n ≤ length back → (said b ≡ value n) × (take n back' ≡ src)
 
 -- Each undoes the other.

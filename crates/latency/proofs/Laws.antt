@@ -1,15 +1,14 @@
 -- The definition's answer is that of the division.
-use Rattle.std.specs.Prelude.{◌≡◌, ◌≤◌, ◌<◌, ◌%◌, ◌*◌, ◌/◌, ◌↔◌}
+use Rattle.std.specs.Prelude.{◌≡◌, ◌≤◌, ◌<◌, ◌%◌, ◌*◌, ◌/◌, ◌↔◌, Result, Ok, Err}
 use Rattle.words.specs.Words.{arith, ℕ, refl, ◌∙◌, sym, ap, true, false, Bool, mod-lt, add-zero, mod-eq_of_lt, true≢false}
 use Rattle.words.specs.Words.{mul-le-mul}
 use native.Mathlib.Nat.{mul-le-mul_left, mul-add-div_right, mul-add-mod_self_right, div-add-mod', div-eq_of_lt, le-div_iff_mul-le}
 use Rattle.wire.specs.Numbers.{within}
 use Rattle.wire.proofs.Settings.{both, within_bounds}
-use Rattle.latency.specs.declared.WindowAnswer.{WindowAnswer}
-use Rattle.latency.specs.declared.WindowAnswer.TheVariants.{Divided, NotDivided}
 use Rattle.latency.specs.Window.{dividend, divisor, allowed, divided, refused, window_in, window_of}
 use Rattle.latency.specs.Inner.{Bounds}
 use Rattle.latency.specs.Promises.{Division, WindowAnswered}
+use Rattle.wire.specs.declared.Refusal.{Refusal}
 
 -- ---- any division
 
@@ -37,21 +36,21 @@ bounds budget bitrate E a =
 -- ---- the promise
 
 -- An answer that says two numbers is these.
-only_divided : (answer : WindowAnswer) (q r : ℕ) → window_in answer ≡ divided q r → answer ≡ Divided q r
-only_divided (Divided q' r') q r e =
+only_divided : (answer : Result (ℕ × ℕ) Refusal) (q r : ℕ) → window_in answer ≡ divided q r → answer ≡ Ok (q, r)
+only_divided (Ok (q', r')) q r e =
     let i : q' ≡ q = cc in
     let j : r' ≡ r = cc in
     rw (i, j)
-only_divided (NotDivided why) q r e = let z : ◌≡◌ {A = ℕ} 0 1 = cc in absurd (omega arith)
+only_divided (Err why) q r e = let z : ◌≡◌ {A = ℕ} 0 1 = cc in absurd (omega arith)
 
-module _ (budget bitrate E : ℕ) (answer : WindowAnswer) (outright : window_in answer ≡ window_of budget bitrate E) where
+module _ (budget bitrate E : ℕ) (answer : Result (ℕ × ℕ) Refusal) (outright : window_in answer ≡ window_of budget bitrate E) where
   abbrev n : ℕ
   n = dividend budget bitrate
 
   abbrev d : ℕ
   d = divisor E
 
-  given : (q r : ℕ) → answer ≡ Divided q r → (allowed budget bitrate E ≡ true) × Division n d q r
+  given : (q r : ℕ) → answer ≡ Ok (q, r) → (allowed budget bitrate E ≡ true) × Division n d q r
   given q r e = go (allowed budget bitrate E) refl
     where
       go : (b : Bool) → allowed budget bitrate E ≡ b → (allowed budget bitrate E ≡ true) × Division n d q r
@@ -66,18 +65,18 @@ module _ (budget bitrate E : ℕ) (answer : WindowAnswer) (outright : window_in 
           let i : true ≡ false = cc in
           absurd (true≢false i)
 
-  back : (q r : ℕ) → (allowed budget bitrate E ≡ true) × Division n d q r → answer ≡ Divided q r
+  back : (q r : ℕ) → (allowed budget bitrate E ≡ true) × Division n d q r → answer ≡ Ok (q, r)
   back q r h =
       let (i, j) = division_only h.1 in
       only_divided answer q r (outright ∙ rw (h.0, i, j))
 
-  most : (q r w : ℕ) → answer ≡ Divided q r → (w ≤ q) ↔ (w * d ≤ n)
+  most : (q r w : ℕ) → answer ≡ Ok (q, r) → (w ≤ q) ↔ (w * d ≤ n)
   most q r w e =
       let v = (given q r e).1 in
       let p : 0 < d = omega (arith, v.rest) in
       rw (← (division_only v).0) (le-div_iff_mul-le p)
 
-  small : (q r : ℕ) → answer ≡ Divided q r → (q ≤ 3125000000) × (r < 12000000000)
+  small : (q r : ℕ) → answer ≡ Ok (q, r) → (q ≤ 3125000000) × (r < 12000000000)
   small q r e =
       let (a, v) = given q r e in
       let b = bounds budget bitrate E a in

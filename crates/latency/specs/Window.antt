@@ -1,10 +1,9 @@
 -- The largest size of the decoding window (RFC 8681, appendix C.1): dw_max_size = (max_lat * br_in) / (8 * E), with the latency budget max_lat in seconds and
 -- the input bitrate br_in in bits per second. Here the budget is in microseconds (document 02, No. 3), so dividend and divisor are in millionths of a bit.
-use Rattle.std.specs.Prelude.{◌%◌, ◌*◌, ◌/◌, ◌&&◌}
+use Rattle.std.specs.Prelude.{◌%◌, ◌*◌, ◌/◌, ◌&&◌, Result, Ok, Err}
 use Rattle.words.specs.Words.{ℕ, Bool, cond}
 use Rattle.wire.specs.Numbers.{within, number_of}
-use Rattle.latency.specs.declared.WindowAnswer.{WindowAnswer}
-use Rattle.latency.specs.declared.WindowAnswer.TheVariants.{Divided, NotDivided}
+use Rattle.wire.specs.declared.Refusal.{Refusal}
 
 -- the bits that come in within the budget, in millionths
 abbrev pub dividend : (budget bitrate : ℕ) → ℕ
@@ -24,9 +23,9 @@ pub data Window : Type 0 where
   refused : ℕ → Window
 
 -- what an answer says
-abbrev pub window_in : WindowAnswer → Window
-window_in (Divided q r) = divided q r
-window_in (NotDivided why) = refused (number_of why)
+abbrev pub window_in : Result (ℕ × ℕ) Refusal → Window
+window_in (Ok (q, r)) = divided q r
+window_in (Err why) = refused (number_of why)
 
 -- the quotient and the remainder, or refusal 1
 abbrev pub window_of : (budget bitrate E : ℕ) → Window

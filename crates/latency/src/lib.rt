@@ -8,48 +8,32 @@ ghost use Rattle.latency.specs.Promises.{WindowAnswered};
 
 use wire::{Refusal, between};
 
-// What the call answers: quotient and remainder, or a refusal.
-#[derive(Clone, Copy)]
-pub enum WindowAnswer {
-    Divided { quotient: u64, remainder: u64 },
-    NotDivided(Refusal),
-}
-
 // Whether all three values are allowed.
 fn are_allowed(budget: u64, bitrate: u64, size: usize) -> bool
     ensures { result ≡ allowed budget bitrate size }
 {
-    if !between(1, 10000000, budget as usize) {
-        return false;
-    }
-    if !between(1, 10000000000, bitrate as usize) {
-        return false;
-    }
-    between(4, 1500, size)
+    between(1, 10000000, budget as usize)
+        && between(1, 10000000000, bitrate as usize)
+        && between(4, 1500, size)
 }
 
 // The division of allowed values.
-fn divide(budget: u64, bitrate: u64, size: usize) -> WindowAnswer
+fn divide(budget: u64, bitrate: u64, size: usize) -> (u64, u64)
     requires { Bounds budget bitrate size }
-    ensures { result ≡ WindowAnswer.Divided (dividend budget bitrate / divisor size) (dividend budget bitrate % divisor size) }
+    ensures { result ≡ (dividend budget bitrate / divisor size, dividend budget bitrate % divisor size) }
 {
     let dividend = budget * bitrate;
     let divisor = 8 * size as u64 * 1000000;
-    let quotient = dividend / divisor;
-    let remainder = dividend % divisor;
-    WindowAnswer::Divided {
-        quotient,
-        remainder,
-    }
+    (dividend / divisor, dividend % divisor)
 }
 
 // How many times the bits of a symbol of `size` bytes come in within a budget in microseconds at a bitrate in bits per second, and what is left over, in
 // millionths of a bit.
-pub fn dw_max_size(budget: u64, bitrate: u64, size: usize) -> WindowAnswer
+pub fn dw_max_size(budget: u64, bitrate: u64, size: usize) -> Result<(u64, u64), Refusal>
     ensures { WindowAnswered budget bitrate size result }
 {
     if !are_allowed(budget, bitrate, size) {
-        return WindowAnswer::NotDivided(Refusal::Values);
+        return Err(Refusal::Values);
     }
-    divide(budget, bitrate, size)
+    Ok(divide(budget, bitrate, size))
 }

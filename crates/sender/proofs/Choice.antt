@@ -1,14 +1,10 @@
 -- Two senders whose calls are judged so answer and write alike.
-use Rattle.std.specs.Prelude.{◌≡◌, ◌≤◌, ◌+◌, ◌∷◌, ◌*◌, ◌++◌}
+use Rattle.std.specs.Prelude.{◌≡◌, ◌≤◌, ◌+◌, ◌∷◌, ◌*◌, ◌++◌, Result, Ok, Err}
 use Rattle.words.specs.Words.{arith, ℕ, List, length, refl, ◌∙◌, sym, ap, [], true, false, Bool, subst, map, ap₂, append_assoc}
 use Rattle.words.specs.Words.{append-nil, ℕ_discrete}
 use Rattle.wire.specs.declared.Setting.{Setting}
-use Rattle.wire.specs.declared.Answer.{Answer}
-use Rattle.wire.specs.declared.Answer.TheVariants.{Done, Refused}
 use Rattle.wire.specs.Answers.{Said, refusal, said}
 use Rattle.coefficients.specs.Coefficients.{all_ok}
-use Rattle.sender.specs.declared.RepairAnswer.{RepairAnswer}
-use Rattle.sender.specs.declared.RepairAnswer.TheVariants.{Made, NotMade}
 use Rattle.sender.specs.Promises.{answer_of, draws_in}
 use Rattle.sender.specs.Run.{SenderCall, added, repaired, memory_after, symbols_of}
 use Rattle.wire.specs.Flows.{Announced}
@@ -16,6 +12,7 @@ use Rattle.sender.specs.Judged.{Refuses, Writes, Ranged, AduJudged, keys_in, cov
 use Rattle.sender.specs.Claims.{given, seen, NoChoice}
 use Rattle.sender.proofs.Ring.{below}
 use Rattle.sender.proofs.Running.{impossible, symbols-append}
+use Rattle.wire.specs.declared.Refusal.{Refusal}
 
 -- two answers and outputs that are both so
 Alike : Said → Said → List ℕ → List ℕ → Type 0
@@ -44,11 +41,11 @@ module _ (t : Setting) (flows : List ℕ) (xs : List (List ℕ)) (m n : List ℕ
           (λ h. below (length out) (length adu + 4) (λ g. both_refuse (p.short f (l, h) g) (q.short f (l, h) g))
           (λ g. both_write (p.takes f (l, h) g).0 (q.takes f (l, h) g).0)))
 
-  no_draws : (r : RepairAnswer) (k : ℕ) → said (answer_of r) ≡ refusal k → draws_in r ≡ 0
-  no_draws (Made i d) k e = absurd (impossible i k e)
-  no_draws (NotMade i) k e = refl
+  no_draws : (r : Result (ℕ × ℕ) Refusal) (k : ℕ) → said (answer_of r) ≡ refusal k → draws_in r ≡ 0
+  no_draws (Ok (i, d)) k e = absurd (impossible i k e)
+  no_draws (Err i) k e = refl
 
-  repair_once : (key dt count : ℕ) (out : List ℕ) (r u : RepairAnswer) (x y : List ℕ) → RepairJudged t xs m key dt count out (said (answer_of r)) (draws_in r) x
+  repair_once : (key dt count : ℕ) (out : List ℕ) (r u : Result (ℕ × ℕ) Refusal) (x y : List ℕ) → RepairJudged t xs m key dt count out (said (answer_of r)) (draws_in r) x
       → RepairJudged t xs n key dt count out (said (answer_of u)) (draws_in u) y → Alike (said (answer_of r)) (said (answer_of u)) x y × (draws_in r ≡ draws_in u)
   repair_once key dt count out r u x y p q =
       below 15 dt (λ g. both (p.range (λ k. omega (arith, k.0))) (q.range (λ k. omega (arith, k.0))))
@@ -77,12 +74,12 @@ module _ (t : Setting) (flows : List ℕ) (xs : List (List ℕ)) (m n : List ℕ
       ranged k (z ∷ l) e = some-taken k (λ f. omega (arith, ap length e, ap length f))
 
 -- what is taken by a call hangs on its answer alone
-taken_alike : (E flow flow₂ : ℕ) (adu adu₂ out out₂ m m₂ x y : List ℕ) (a b : Answer) → flow ≡ flow₂ → adu ≡ adu₂ → said a ≡ said b
+taken_alike : (E flow flow₂ : ℕ) (adu adu₂ out out₂ m m₂ x y : List ℕ) (a b : Result ℕ Refusal) → flow ≡ flow₂ → adu ≡ adu₂ → said a ≡ said b
     → symbols_of E (added flow adu out a m x ∷ []) ≡ symbols_of E (added flow₂ adu₂ out₂ b m₂ y ∷ [])
-taken_alike E flow flow₂ adu adu₂ out out₂ m m₂ x y (Done i) (Done j) f g e = rw (f, g)
-taken_alike E flow flow₂ adu adu₂ out out₂ m m₂ x y (Refused i) (Refused j) f g e = refl
-taken_alike E flow flow₂ adu adu₂ out out₂ m m₂ x y (Done i) (Refused j) f g e = absurd (impossible i _ e)
-taken_alike E flow flow₂ adu adu₂ out out₂ m m₂ x y (Refused i) (Done j) f g e = absurd (impossible j _ (sym e))
+taken_alike E flow flow₂ adu adu₂ out out₂ m m₂ x y (Ok i) (Ok j) f g e = rw (f, g)
+taken_alike E flow flow₂ adu adu₂ out out₂ m m₂ x y (Err i) (Err j) f g e = refl
+taken_alike E flow flow₂ adu adu₂ out out₂ m m₂ x y (Ok i) (Err j) f g e = absurd (impossible i _ e)
+taken_alike E flow flow₂ adu adu₂ out out₂ m m₂ x y (Err i) (Ok j) f g e = absurd (impossible j _ (sym e))
 
 call_once : (t : Setting) (flows : List ℕ) (xs : List (List ℕ)) (m n : List ℕ) (c d : SenderCall) → given c ≡ given d
     → CallJudged t flows xs m c → CallJudged t flows xs n d

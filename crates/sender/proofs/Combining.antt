@@ -3,8 +3,8 @@
 -- one after the other: joined-more; carried_none, carried_more, carried_all (record Carried); get_or-map_in, length_symbols, get_or-symbols
 -- the packet: symbols-of, packed_refused, packed_done; sized_map, sized, counted, length-packet, draws_packet
 -- the call: repairs, repair-made, refused-made
-use Rattle.std.specs.Prelude.{◌≡◌, ◌≤◌, ◌+◌, ◌<◌, ◌%◌, ◌∷◌, ◌*◌, ◌++◌, ◌^◌, ◌||◌}
-use Rattle.words.specs.Words.{arith, ℕ, List, length, refl, ◌∙◌, sym, ap, [], some, suc, true, zero, get_or, false, Bool}
+use Rattle.std.specs.Prelude.{◌≡◌, ◌≤◌, ◌+◌, ◌<◌, ◌%◌, ◌∷◌, ◌*◌, ◌++◌, ◌^◌, ◌||◌, Result, Ok, Err}
+use Rattle.words.specs.Words.{arith, ℕ, List, length, refl, ◌∙◌, sym, ap, [], Some, suc, true, zero, get_or, false, Bool}
 use Rattle.words.specs.Words.{take, ltb, some-injective, map, add-one, length-append, not-suc-le-zero, le_of_suc-le-suc, zero-mul, append_assoc}
 use Rattle.words.specs.Words.{replicate, append-nil, not, take_all, mul-le-mul, take-append-drop, one-mul}
 use native.Mathlib.Nat.{add-mul}
@@ -27,9 +27,6 @@ use Rattle.coefficients.specs.Coefficients.{keys, lists_of, all_ok, draws_of, pa
 use Rattle.coefficients.proofs.Lists.{length-keys, packet_draws_most, written_draws}
 use Rattle.coefficients.proofs.Fills.{lists_cut}
 use Rattle.sender.specs.declared.Header.{Header}
-use Rattle.wire.specs.declared.Answer.TheVariants.{Refused}
-use Rattle.sender.specs.declared.RepairAnswer.{RepairAnswer}
-use Rattle.sender.specs.declared.RepairAnswer.TheVariants.{Made, NotMade}
 use Rattle.sender.specs.State.{header_size, header_in}
 use Rattle.sender.specs.Calls.{done, repairing}
 use Rattle.sender.specs.Promises.{answer_of, Repairs, Draws, RepairMade}
@@ -119,7 +116,7 @@ symbols-of scheme dt size window n e (k ∷ ks) = cons-eq (rw e) (symbols-of sch
 
 module _ (h : Header) (key dt count : ℕ) (m out : List ℕ) (written : ℕ) (ew : written ≡ written_key h.setting.scheme key dt) where
   -- a list was refused
-  pub packed_refused : all_ok h.setting.scheme dt h.held (keys written count) ≡ false → Packed h key dt count m out (NotMade refusals.Draws) out
+  pub packed_refused : all_ok h.setting.scheme dt h.held (keys written count) ≡ false → Packed h key dt count m out (Err refusals.Draws) out
   packed_refused e = rw (← ew, e) (refl, refl)
 
   -- the header was written, and then the symbols
@@ -129,7 +126,7 @@ module _ (h : Header) (key dt count : ℕ) (m out : List ℕ) (written : ℕ) (e
       → out₁ ≡ splice 0 (repair_header written dt h.held first) out
       → out₂ ≡ splice 8 (joined (symbols_from h m count lists)) out₁
       → (draws : ℕ) → draws ≡ draws_of h.setting.scheme dt h.held (keys written count)
-      → Packed h key dt count m out (Made (8 + count * h.setting.size) draws) out₂
+      → Packed h key dt count m out (Ok (8 + count * h.setting.size, draws)) out₂
   unfolding symbols_from packet_from repair_packet repair_header
   packed_done ok first rest lists out₁ out₂ ef el e₁ e₂ draws ed =
       let scheme = h.setting.scheme in
@@ -137,7 +134,7 @@ module _ (h : Header) (key dt count : ℕ) (m out : List ℕ) (written : ℕ) (e
       let c : chunks count h.held lists ≡ ls = rw el (lists_cut scheme dt h.held written count rest ok) in
       let s = symbols-of scheme dt h.setting.size (window_in h m) h.held (length-stored _ _ m _ h.held) (keys written count) in
       let header = repair_header written dt h.held (esi_before h.esi.0 h.held) in
-      rw (← ew, ok) (ap (Made (8 + count * h.setting.size)) ed, rw (e₂, e₁, c, s, ef) (front_next 8 header _ out refl))
+      rw (← ew, ok) (ap (λ d. Ok (8 + count * h.setting.size, d)) ed, rw (e₂, e₁, c, s, ef) (front_next 8 header _ out refl))
 
 sized_map : (f : ℕ → List ℕ) (size : ℕ) → ((key : ℕ) → length (f key) ≡ size) → (ks : List ℕ) → Sized size (map f ks)
 sized_map f size e [] = tt
@@ -170,14 +167,14 @@ module _ (h : Header) (m : List ℕ) (key dt count : ℕ) (z : 0 < h.setting.siz
       ∙ ap (λ (n : ℕ). draws_of h.setting.scheme dt h.held (keys key n)) counted
 
 -- the promise of a call that passed the checks before the draws
-module _ (h : Header) (key dt count : ℕ) (m out : List ℕ) (o : header_in m ≡ some h) (g : (ltb 15 dt || not (within 1 16 count)) ≡ false) where
+module _ (h : Header) (key dt count : ℕ) (m out : List ℕ) (o : header_in m ≡ Some h) (g : (ltb 15 dt || not (within 1 16 count)) ≡ false) where
   abbrev written : ℕ
   written = written_key h.setting.scheme key dt
 
   ranged : (dt ≤ 15) × (1 ≤ count) × (count ≤ 16)
   ranged = in_range_lem dt count g
 
-  pub repairs : (h.held ≡ 0 → ⊥) → 8 + count * h.setting.size ≤ length out → (r : RepairAnswer) (out' : List ℕ) → Packed h key dt count m out r out'
+  pub repairs : (h.held ≡ 0 → ⊥) → 8 + count * h.setting.size ≤ length out → (r : Result (ℕ × ℕ) Refusal) (out' : List ℕ) → Packed h key dt count m out r out'
       → Repairs key dt count m out (answer_of r) out'
   repairs n room r out' p = go (all_ok h.setting.scheme dt h.held (keys written count)) refl p
     where
@@ -200,7 +197,7 @@ module _ (h : Header) (key dt count : ℕ) (m out : List ℕ) (o : header_in m �
 
   -- and the draws
   pub repair-made : key < 2 ^ 16 → (h.held ≡ 0 → ⊥) → 8 + count * h.setting.size ≤ length out
-      → (r : RepairAnswer) (out' : List ℕ) → Packed h key dt count m out r out' → RepairMade key dt count m out r out'
+      → (r : Result (ℕ × ℕ) Refusal) (out' : List ℕ) → Packed h key dt count m out r out' → RepairMade key dt count m out r out'
   repair-made k n room r out' p =
       record { repairs = repairs n room r out' p; draws = go (all_ok h.setting.scheme dt h.held (keys written count)) p }
     where
@@ -222,7 +219,7 @@ module _ (h : Header) (key dt count : ℕ) (m out : List ℕ) (o : header_in m �
           let z : 0 < h.setting.size = omega (arith, says.valid.size_least) in
           let l = length-packet h m written dt count z in
           let t = take_new (8 + count * h.setting.size) (packet_from h m written dt count) out l in
-          let same : (h' : Header) → header_in m ≡ some h' → h ≡ h' = λ h' e. some-injective h h' (sym o ∙ e) in
+          let same : (h' : Header) → header_in m ≡ Some h' → h ≡ h' = λ h' e. some-injective h h' (sym o ∙ e) in
           rw q.0 (record {
             lists = λ h' e. rw (← same h' e);
             packet = λ h' e.
@@ -232,6 +229,6 @@ module _ (h : Header) (key dt count : ℕ) (m out : List ℕ) (o : header_in m �
           })
 
 -- a refusal before the draws
-pub refused-made : (key dt count : ℕ) (m out : List ℕ) (n : Refusal) → Repairs key dt count m out (Refused n) out
-    → RepairMade key dt count m out (NotMade n) out
+pub refused-made : (key dt count : ℕ) (m out : List ℕ) (n : Refusal) → Repairs key dt count m out (Err n) out
+    → RepairMade key dt count m out (Err n) out
 refused-made key dt count m out n p = record { repairs = p; draws = tt }

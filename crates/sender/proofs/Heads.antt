@@ -1,10 +1,10 @@
 -- The header of a sender: what reading it finds, what refusal 3 stands for, and what writing it leaves.
--- answers told apart: header_is, header-none; sizes: header-room, area
+-- sizes: header-room, area
 -- reading: found, none_short, none_held, none_next, none-setting; opened (record Opened)
 -- refusal 3: holds_header, zeros_unopened, other_unopened, short_unopened
 -- writing: part_head, header_kept, flows_kept; counts_chain, counts_held, counts_next, counts-esi, counts-written, counts-flows
 use Rattle.std.specs.Prelude.{◌≡◌, ◌≤◌, ◌+◌, ◌<◌, ◌*◌, ◌++◌, ◌^◌, ◌&&◌}
-use Rattle.words.specs.Words.{arith, ℕ, List, length, refl, ◌∙◌, sym, ap, some, true, none, false, Bool, Option, take, ltb}
+use Rattle.words.specs.Words.{arith, ℕ, List, length, refl, ◌∙◌, sym, ap, Some, true, None, false, Bool, Option, take, ltb}
 use Rattle.words.specs.Words.{leb, le-leb, some-injective, none-ne-some, lt-leb, lt-ltb, zero-add, leb-true, le-ltb, ltb-true, length-take}
 use Rattle.words.specs.Words.{mul-le-mul}
 use lib.Seq.{take-take}
@@ -20,19 +20,7 @@ use Rattle.wire.specs.Stored.{setting_in}
 use Rattle.wire.proofs.Settings.{both, setting-found, setting_kept, zeros-none, one_kind}
 use Rattle.sender.specs.declared.Header.{Header}
 use Rattle.sender.specs.State.{Sender, header_size, memory_size, header_with, header_in, header_of, Holds}
-use Rattle.sender.specs.declared.Found.{Found}
-use Rattle.sender.specs.declared.Found.TheVariants.{HeaderIs, NoHeader}
-use Rattle.sender.specs.Inner.{found_of, count_bytes}
-
--- ---- what an answer that was told apart says
-
-pub header_is : (o : Option Header) (h : Header) {r : Found} → r ≡ found_of o → r ≡ HeaderIs h → o ≡ some h
-header_is none h e f = cc
-header_is (some x) h e f = cc
-
-pub header-none : (o : Option Header) {r : Found} → r ≡ found_of o → r ≡ NoHeader → o ≡ none
-header-none none e f = refl
-header-none (some x) e f = cc
+use Rattle.sender.specs.Inner.{count_bytes}
 
 -- ---- sizes
 
@@ -53,37 +41,37 @@ numbers t m = record { setting = t; held = number (part 8 2 m); next = number (p
 
 -- what a header that was found says of the memory
 pub record Opened (m : List ℕ) (h : Header) : Type 0 where
-  pub setting : setting_in 1 m ≡ some h.setting
+  pub setting : setting_in 1 m ≡ Some h.setting
   pub is : numbers h.setting m ≡ h
   pub valid : Valid h.setting
   pub room : memory_size h.setting ≤ length m
   pub held : h.held ≤ h.setting.width
   pub next : h.next < h.setting.width
 
-module _ (m : List ℕ) (t : Setting) (e : setting_in 1 m ≡ some t) where
-  pub found : memory_size t ≤ length m → number (part 8 2 m) ≤ t.width → number (part 10 2 m) < t.width → header_in m ≡ some (numbers t m)
+module _ (m : List ℕ) (t : Setting) (e : setting_in 1 m ≡ Some t) where
+  pub found : memory_size t ≤ length m → number (part 8 2 m) ≤ t.width → number (part 10 2 m) < t.width → header_in m ≡ Some (numbers t m)
   unfolding header_in
   found a b c = rw (e, le-leb (memory_size t) (length m) a, le-leb (number (part 8 2 m)) t.width b, lt-ltb (number (part 10 2 m)) t.width c)
 
-  pub none_short : length m < memory_size t → header_in m ≡ none
+  pub none_short : length m < memory_size t → header_in m ≡ None
   unfolding header_in
   none_short a = rw (e, lt-leb (memory_size t) (length m) a)
 
-  pub none_held : memory_size t ≤ length m → t.width < number (part 8 2 m) → header_in m ≡ none
+  pub none_held : memory_size t ≤ length m → t.width < number (part 8 2 m) → header_in m ≡ None
   unfolding header_in
   none_held a b = rw (e, le-leb (memory_size t) (length m) a, lt-leb (number (part 8 2 m)) t.width b)
 
-  pub none_next : memory_size t ≤ length m → number (part 8 2 m) ≤ t.width → t.width ≤ number (part 10 2 m) → header_in m ≡ none
+  pub none_next : memory_size t ≤ length m → number (part 8 2 m) ≤ t.width → t.width ≤ number (part 10 2 m) → header_in m ≡ None
   unfolding header_in
   none_next a b c = rw (e, le-leb (memory_size t) (length m) a, le-leb (number (part 8 2 m)) t.width b, le-ltb (number (part 10 2 m)) t.width c)
 
-pub none-setting : (m : List ℕ) → setting_in 1 m ≡ none → header_in m ≡ none
+pub none-setting : (m : List ℕ) → setting_in 1 m ≡ None → header_in m ≡ None
 unfolding header_in
 none-setting m e = rw e
 
-opened_with : (m : List ℕ) (h : Header) (o : Option Setting) → setting_in 1 m ≡ o → header_with m o ≡ some h → Opened m h
-opened_with m h none s e = absurd (none-ne-some h e)
-opened_with m h (some t) s e = go (leb (memory_size t) (length m) && (leb (number (part 8 2 m)) t.width && ltb (number (part 10 2 m)) t.width)) refl
+opened_with : (m : List ℕ) (h : Header) (o : Option Setting) → setting_in 1 m ≡ o → header_with m o ≡ Some h → Opened m h
+opened_with m h None s e = absurd (none-ne-some h e)
+opened_with m h (Some t) s e = go (leb (memory_size t) (length m) && (leb (number (part 8 2 m)) t.width && ltb (number (part 10 2 m)) t.width)) refl
   where
     go : (b : Bool) → (leb (memory_size t) (length m) && (leb (number (part 8 2 m)) t.width && ltb (number (part 10 2 m)) t.width)) ≡ b → Opened m h
     go false f = absurd (none-ne-some h (rw f at e))
@@ -101,31 +89,31 @@ opened_with m h (some t) s e = go (leb (memory_size t) (length m) && (leb (numbe
           next = ltb-true (number (part 10 2 m)) t.width q.1;
         })
 
-pub opened : (m : List ℕ) (h : Header) → header_in m ≡ some h → Opened m h
+pub opened : (m : List ℕ) (h : Header) → header_in m ≡ Some h → Opened m h
 unfolding header_in
 opened m h e = opened_with m h (setting_in 1 m) refl e
 
 -- ---- what refusal 3 stands for
 
 -- memory that holds a sender has its header
-pub holds_header : (m : List ℕ) (s : Sender) → Holds m s → header_in m ≡ some (header_of s)
+pub holds_header : (m : List ℕ) (s : Sender) → Holds m s → header_in m ≡ Some (header_of s)
 holds_header m s h = h.header
 
 -- all_zero_bytes memory
-pub zeros_unopened : (n : ℕ) → header_in (zeros n) ≡ none
+pub zeros_unopened : (n : ℕ) → header_in (zeros n) ≡ None
 zeros_unopened n = none-setting (zeros n) (zeros-none 1 n (omega arith))
 
 -- memory with the header of another kind of end, as a receiver's, which is 2
-pub other_unopened : (kind : ℕ) (m : List ℕ) (t : Setting) → (kind ≡ 1 → ⊥) → setting_in kind m ≡ some t → header_in m ≡ none
+pub other_unopened : (kind : ℕ) (m : List ℕ) (t : Setting) → (kind ≡ 1 → ⊥) → setting_in kind m ≡ Some t → header_in m ≡ None
 other_unopened kind m t h e = none-setting m (one_kind kind 1 m t h e)
 
 -- memory of a sender cut shorter than opening asked
-pub short_unopened : (m : List ℕ) (s : Sender) (n : ℕ) → Holds m s → n < memory_size s.setting → header_in (take n m) ≡ none
+pub short_unopened : (m : List ℕ) (s : Sender) (n : ℕ) → Holds m s → n < memory_size s.setting → header_in (take n m) ≡ None
 short_unopened m s n h l = go (setting_in 1 (take n m)) refl
   where
-    go : (o : Option Setting) → setting_in 1 (take n m) ≡ o → header_in (take n m) ≡ none
-    go none e = none-setting (take n m) e
-    go (some t) e =
+    go : (o : Option Setting) → setting_in 1 (take n m) ≡ o → header_in (take n m) ≡ None
+    go None e = none-setting (take n m) e
+    go (Some t) e =
         let c : length (take n m) ≤ n = simp length-take (omega arith) in
         let long = (setting-found 1 (take n m) t e).long in
         let f : setting_in 1 (take n m) ≡ setting_in 1 m = setting_kept 1 (take n m) m (take-take 8 n m (omega arith)) in
@@ -141,8 +129,8 @@ part_head a n m m' h e =
     sym (f m) ∙ ap (part a n) e ∙ f m'
 
 -- the header is in its bytes
-pub header_kept : (m m' : List ℕ) (h : Header) → take header_size m' ≡ take header_size m → length m' ≡ length m → header_in m ≡ some h
-    → header_in m' ≡ some h
+pub header_kept : (m m' : List ℕ) (h : Header) → take header_size m' ≡ take header_size m → length m' ≡ length m → header_in m ≡ Some h
+    → header_in m' ≡ Some h
 header_kept m m' h e l o =
     let least = header-room in
     let a = opened m h o in
@@ -153,7 +141,7 @@ header_kept m m' h e l o =
     let i : numbers h.setting m' ≡ h = rw (x, y, part_head 12 4 m' m (omega arith) e) a.is in
     let held : number (part 8 2 m') ≡ h.held = ap (λ (k : Header). k.held) i in
     let next : number (part 10 2 m') ≡ h.next = ap (λ (k : Header). k.next) i in
-    found m' h.setting (s ∙ a.setting) (rw l a.room) (rw held a.held) (rw next a.next) ∙ ap some i
+    found m' h.setting (s ∙ a.setting) (rw l a.room) (rw held a.held) (rw next a.next) ∙ ap Some i
 
 -- and so are the flows
 pub flows_kept : (m m' : List ℕ) → take header_size m' ≡ take header_size m → flows_in m' ≡ flows_in m
@@ -181,14 +169,14 @@ module _ (held next esi : ℕ) where
   counts-esi h = number-bytes 4 esi h
 
 -- the numbers of the header that change were written
-pub counts-written : (m : List ℕ) (t : Setting) (held next esi : ℕ) → setting_in 1 m ≡ some t → Valid t → memory_size t ≤ length m
+pub counts-written : (m : List ℕ) (t : Setting) (held next esi : ℕ) → setting_in 1 m ≡ Some t → Valid t → memory_size t ≤ length m
     → held ≤ t.width → next < t.width → esi < 2 ^ 32
-    → header_in (splice 8 (count_bytes held next esi) m) ≡ some (record { setting = t; held = held; next = next; esi = record { 0 = esi } })
+    → header_in (splice 8 (count_bytes held next esi) m) ≡ Some (record { setting = t; held = held; next = next; esi = record { 0 = esi } })
 counts-written m t held next esi e v room a b c =
     let least = header-room in
     let counts = count_bytes held next esi in
     let m' = splice 8 counts m in
-    let s : setting_in 1 m' ≡ some t = setting_kept 1 m' m (take-splice 8 8 counts m (omega arith) (omega arith)) ∙ e in
+    let s : setting_in 1 m' ≡ Some t = setting_kept 1 m' m (take-splice 8 8 counts m (omega arith) (omega arith)) ∙ e in
     let x : number (part 8 2 m') ≡ held = ap number (part-within 8 0 2 counts m (omega arith) (omega arith)) ∙ counts_held held next esi (omega arith) in
     let y : number (part 10 2 m') ≡ next = ap number (part-within 8 2 2 counts m (omega arith) (omega arith)) ∙ counts_next held next esi (omega arith) in
     let z : number (part 12 4 m') ≡ esi = ap number (part-within 8 4 4 counts m (omega arith) (omega arith)) ∙ counts-esi held next esi c in

@@ -4,7 +4,7 @@
 --   adds_judged
 --   sender_judged, announced-only: every list of calls
 --   opening_judged: every opening
-use Rattle.std.specs.Prelude.{◌≡◌, ◌≤◌, ◌+◌, ◌<◌, ◌∷◌, ◌*◌}
+use Rattle.std.specs.Prelude.{◌≡◌, ◌≤◌, ◌+◌, ◌<◌, ◌∷◌, ◌*◌, Result}
 use Rattle.words.specs.Words.{arith, ℕ, List, length, refl, [], true, subst}
 use Rattle.words.specs.Words.{suc-mul, mul-le-mul_right, ℕ_discrete}
 use Rattle.wire.specs.declared.Setting.{Setting}
@@ -14,7 +14,6 @@ use Rattle.wire.specs.Flows.{Announced, announced}
 use Rattle.wire.proofs.Flows.{announced_exactly, announced-not}
 use Rattle.wire.proofs.Adui.{room, least}
 use Rattle.wire.proofs.Opening.{allowed-setting, setting-none}
-use Rattle.wire.specs.declared.Answer.{Answer}
 use Rattle.wire.specs.Answers.{said}
 use Rattle.sender.specs.State.{Sender, header_size, header_of, Holds}
 use Rattle.sender.specs.Calls.{refused, opening, adding}
@@ -28,6 +27,7 @@ use Rattle.sender.proofs.Ring.{below}
 use Rattle.sender.proofs.Running.{impossible, ran, run_holds, run_valid}
 use Rattle.sender.proofs.Saying.{refuses, writes}
 use Rattle.sender.proofs.RepairsJudged.{repairs_judged}
+use Rattle.wire.specs.declared.Refusal.{Refusal}
 
 -- ---- the tests
 
@@ -44,7 +44,7 @@ module _ (t : Setting) (v : Valid t) (flows : List ℕ) (xs : List (List ℕ)) w
 
   -- ---- adding an ADU
 
-  adds_judged : (flow : ℕ) (adu m out : List ℕ) (r : Answer) (m' out' : List ℕ) → Holds m holding → Adds flow adu m out r m' out'
+  adds_judged : (flow : ℕ) (adu m out : List ℕ) (r : Result ℕ Refusal) (m' out' : List ℕ) → Holds m holding → Adds flow adu m out r m' out'
       → AduJudged t flows xs m flow adu out (said r) m' out'
   unfolding header_size
   adds_judged flow adu m out r m' out' h p =

@@ -1,6 +1,6 @@
 -- From the case that a call came to, to what it promises.
-use Rattle.std.specs.Prelude.{◌≡◌, ◌≤◌, ◌+◌, ◌<◌}
-use Rattle.words.specs.Words.{arith, ℕ, List, length, refl, ◌∙◌, sym, ap, [], some, true, none, false, subst, drop, some-injective}
+use Rattle.std.specs.Prelude.{◌≡◌, ◌≤◌, ◌+◌, ◌<◌, Result, Ok, Err}
+use Rattle.words.specs.Words.{arith, ℕ, List, length, refl, ◌∙◌, sym, ap, [], Some, true, None, false, subst, drop, some-injective}
 use Rattle.words.specs.Words.{none-ne-some, lt-ltb, le-ltb}
 use Rattle.memory.specs.Part.{splice}
 use Rattle.memory.proofs.Parts.{length-splice, past-splice}
@@ -11,29 +11,27 @@ use Rattle.wire.specs.Answers.{value}
 use Rattle.wire.specs.Settings.{setting_of}
 use Rattle.wire.specs.Flows.{announced}
 use Rattle.wire.specs.Packets.{longest_adu, symbol_count, source_packet}
-use Rattle.wire.specs.declared.Answer.{Answer}
-use Rattle.wire.specs.declared.Answer.TheVariants.{Done, Refused}
 use Rattle.sender.specs.declared.Header.{Header}
 use Rattle.sender.specs.State.{Sender, fresh, taken, memory_size, header_in, header_of, Holds}
 use Rattle.sender.specs.Calls.{Outcome, refused, done, opening, adding}
 use Rattle.sender.specs.Promises.{RefusedWith, Follows, Kept, Promise}
 
-pub kept : (n : Refusal) (m out : List ℕ) → RefusedWith (number_of n) m out (Refused n) m out
+pub kept : (n : Refusal) (m out : List ℕ) → RefusedWith (number_of n) m out (Err n) m out
 kept n m out = record { answer = refl; memory = refl; output = refl }
 
 -- ---- any call
 
 module _ (f : Sender → Outcome) (m out : List ℕ) where
   -- no header
-  pub promise_unopened : header_in m ≡ none → (r : Answer) → RefusedWith 3 m out r m out → Promise f m out r m out
+  pub promise_unopened : header_in m ≡ None → (r : Result ℕ Refusal) → RefusedWith 3 m out r m out → Promise f m out r m out
   promise_unopened e r k = record {
     unopened = λ _. k;
     kept = λ h q. absurd (none-ne-some h (sym e ∙ q));
     follows = λ s h. absurd (none-ne-some (header_of s) (sym e ∙ h.header));
   }
 
-  module _ (h : Header) (e : header_in m ≡ some h) where
-    promise_opened : (r : Answer) (m' out' : List ℕ) → Kept h m out r m' out'
+  module _ (h : Header) (e : header_in m ≡ Some h) where
+    promise_opened : (r : Result ℕ Refusal) (m' out' : List ℕ) → Kept h m out r m' out'
         → ((s : Sender) → Holds m s → h ≡ header_of s → Follows (f s) m out r m' out')
         → Promise f m out r m' out'
     promise_opened r m' out' c g = record {
@@ -44,9 +42,9 @@ module _ (f : Sender → Outcome) (m out : List ℕ) where
 
     -- a refusal other than 3
     pub promise_refused : (n : Refusal) → (number_of n ≡ 3 → ⊥) → ((s : Sender) → Holds m s → h ≡ header_of s → f s ≡ refused (number_of n))
-        → Promise f m out (Refused n) m out
+        → Promise f m out (Err n) m out
     promise_refused n z g =
-        promise_opened (Refused n) m out
+        promise_opened (Err n) m out
         (record {
           memory = record { same = refl; past = refl };
           output = refl;
@@ -59,9 +57,9 @@ module _ (f : Sender → Outcome) (m out : List ℕ) where
     pub promise_done : (packet : List ℕ) (n : ℕ) (m' out' : List ℕ) → length packet ≡ n → n ≤ length out → out' ≡ splice 0 packet out
         → length m' ≡ length m → drop (memory_size h.setting) m' ≡ drop (memory_size h.setting) m
         → ((s : Sender) → Holds m s → h ≡ header_of s → (s' : Sender) × (f s ≡ done packet s') × Holds m' s' × (h.setting ≡ s'.setting))
-        → Promise f m out (Done n) m' out'
+        → Promise f m out (Ok n) m' out'
     promise_done packet n m' out' l k o same past g =
-        promise_opened (Done n) m' out'
+        promise_opened (Ok n) m' out'
         (record {
           memory = record { same = same; past = past };
           output = rw o (length-splice 0 packet out (omega arith));
@@ -75,11 +73,11 @@ module _ (f : Sender → Outcome) (m out : List ℕ) where
 -- ---- opening
 
 module _ (scheme size width : ℕ) (flows m : List ℕ) where
-  pub opening_values : setting_of scheme size width ≡ none → opening scheme size width flows (length m) ≡ refused 1
+  pub opening_values : setting_of scheme size width ≡ None → opening scheme size width flows (length m) ≡ refused 1
   unfolding opening
   opening_values e = rw e
 
-  module _ (t : Setting) (e : setting_of scheme size width ≡ some t) where
+  module _ (t : Setting) (e : setting_of scheme size width ≡ Some t) where
     pub opening_short : length m < memory_size t → opening scheme size width flows (length m) ≡ refused 2
     unfolding opening
     opening_short k = rw (e, lt-ltb (length m) (memory_size t) k)

@@ -2,7 +2,7 @@
 -- Index
 --   passes_range, fails_range, window_empty, window-some: the tests of the call
 --   repairs_judged: the call
-use Rattle.std.specs.Prelude.{◌≡◌, ◌∷◌, ◌||◌}
+use Rattle.std.specs.Prelude.{◌≡◌, ◌∷◌, ◌||◌, Result}
 use Rattle.words.specs.Words.{arith, ℕ, List, length, refl, ◌∙◌, sym, ap, [], true, false, Bool, subst}
 use Rattle.words.specs.Words.{ltb, not, lt-ltb, le-ltb}
 use Rattle.wire.specs.declared.Setting.{Setting}
@@ -10,7 +10,6 @@ use Rattle.wire.specs.Numbers.{within}
 use Rattle.wire.specs.Settings.{Valid}
 use Rattle.wire.proofs.Settings.{within_true, within_bounds}
 use Rattle.wire.specs.Answers.{said}
-use Rattle.sender.specs.declared.RepairAnswer.{RepairAnswer}
 use Rattle.sender.specs.State.{Sender, window, header_of, Holds}
 use Rattle.sender.specs.Calls.{done, repairing}
 use Rattle.sender.specs.Promises.{answer_of, draws_in, Follows, RepairMade}
@@ -19,6 +18,7 @@ use Rattle.sender.proofs.Repairing.{repairing_range, repairing_empty, repairing_
 use Rattle.sender.proofs.Ring.{below}
 use Rattle.sender.proofs.Taking.{held_is}
 use Rattle.sender.proofs.Saying.{refuses, writes, packet-is, found, draws_are}
+use Rattle.wire.specs.declared.Refusal.{Refusal}
 
 -- ---- the tests
 
@@ -50,7 +50,7 @@ module _ (t : Setting) (v : Valid t) (flows : List ℕ) (xs : List (List ℕ)) w
   window-some : ¬ (xs ≡ []) → length (window holding) ≡ 0 → ⊥
   window-some n e = n (length-nil xs (omega (arith, sym (held_is holding) ∙ e, v.width_least)))
 
-  pub repairs_judged : (key dt count : ℕ) (m out : List ℕ) (r : RepairAnswer) (out' : List ℕ) → Holds m holding → RepairMade key dt count m out r out'
+  pub repairs_judged : (key dt count : ℕ) (m out : List ℕ) (r : Result (ℕ × ℕ) Refusal) (out' : List ℕ) → Holds m holding → RepairMade key dt count m out r out'
       → RepairJudged t xs m key dt count out (said (answer_of r)) (draws_in r) out'
   repairs_judged key dt count m out r out' h p =
       let o = repairing holding key dt count (length out) in

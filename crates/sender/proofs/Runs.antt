@@ -3,8 +3,8 @@
 --   placed_all: symbols placed one after the other
 --   add, make: one call
 --   runs, runs_exist: all calls
-use Rattle.std.specs.Prelude.{◌≡◌, ◌≤◌, ◌+◌, ◌<◌, ◌%◌, ◌∷◌, ◌*◌, ◌^◌, ◌||◌}
-use Rattle.words.specs.Words.{arith, ℕ, List, length, refl, ap, [], some, suc, true, zero, get_or, false, Bool, take, ltb}
+use Rattle.std.specs.Prelude.{◌≡◌, ◌≤◌, ◌+◌, ◌<◌, ◌%◌, ◌∷◌, ◌*◌, ◌^◌, ◌||◌, Result, Ok, Err}
+use Rattle.words.specs.Words.{arith, ℕ, List, length, refl, ap, [], Some, suc, true, zero, get_or, false, Bool, take, ltb}
 use Rattle.words.specs.Words.{map, lt-ltb, le-ltb, not, min, take_all}
 use lib.Seq.{take-suc}
 use Rattle.memory.specs.Part.{splice}
@@ -17,11 +17,7 @@ use Rattle.wire.specs.Packets.{longest_adu, symbol_count, source_symbols, source
 use Rattle.wire.proofs.Adui.{symbols_count, symbol_length}
 use Rattle.wire.proofs.Reading.{source-length}
 use Rattle.wire.proofs.Settings.{setting-named}
-use Rattle.wire.specs.declared.Answer.{Answer}
-use Rattle.wire.specs.declared.Answer.TheVariants.{Done, Refused}
 use Rattle.coefficients.specs.Coefficients.{keys, all_ok, draws_of}
-use Rattle.sender.specs.declared.RepairAnswer.{RepairAnswer}
-use Rattle.sender.specs.declared.RepairAnswer.TheVariants.{Made, NotMade}
 use Rattle.sender.specs.declared.Header.{Header}
 use Rattle.sender.specs.State.{Sender, fresh, taken, header_size, header_in, header_of, Holds}
 use Rattle.sender.specs.Repair.{written_key}
@@ -52,12 +48,12 @@ module _ (m : List ℕ) (s : Sender) (held : Holds m s) where
   abbrev h : Header
   h = header_of s
 
-  abbrev o : header_in m ≡ some h
+  abbrev o : header_in m ≡ Some h
   o = held.header
 
   -- adding an ADU
   record Added (flow : ℕ) (adu out : List ℕ) : Type 0 where
-    answer : Answer
+    answer : Result ℕ Refusal
     memory : List ℕ
     output : List ℕ
     adds : Adds flow adu m out answer memory output
@@ -73,7 +69,7 @@ module _ (m : List ℕ) (s : Sender) (held : Holds m s) where
 
       refused : (n : Refusal) → (number_of n ≡ 3 → ⊥)
           → ((u : Sender) → Holds m u → h ≡ header_of u → calls.adding u flow adu (length out) ≡ calls.refused (number_of n)) → Added flow adu out
-      refused n z g = record { answer = Refused n; memory = m; output = out; adds = promise_refused _ m out h o n z g; sender = s; holds = held }
+      refused n z g = record { answer = Err n; memory = m; output = out; adds = promise_refused _ m out h o n z g; sender = s; holds = held }
 
       taking : announced s.flows flow ≡ true → length adu ≤ longest_adu → symbol_count h.setting.size (length adu) ≤ h.setting.width
           → length adu + 4 ≤ length out → Added flow adu out
@@ -89,7 +85,7 @@ module _ (m : List ℕ) (s : Sender) (held : Holds m s) where
           let p' = rw (take_all (length new) new (omega arith)) at p in
           let k = took h flow adu m m₁ next count (min (h.held + count) w) o refl refl p' in
           record {
-            answer = Done (length adu + 4);
+            answer = Ok (length adu + 4);
             memory = _;
             output = splice 0 (source_packet adu h.esi.0) out;
             adds = promise_done _ m out h o (source_packet adu h.esi.0) (length adu + 4) _ _ (source-length adu h.esi.0) r refl k.same k.past
@@ -110,7 +106,7 @@ module _ (m : List ℕ) (s : Sender) (held : Holds m s) where
 
   -- making repair
   record Repaired (key dt count : ℕ) (out : List ℕ) : Type 0 where
-    answer : RepairAnswer
+    answer : Result (ℕ × ℕ) Refusal
     output : List ℕ
     made : RepairMade key dt count m out answer output
 
@@ -121,17 +117,17 @@ module _ (m : List ℕ) (s : Sender) (held : Holds m s) where
     where
       refused : (n : Refusal) → (number_of n ≡ 3 → ⊥)
           → ((u : Sender) → Holds m u → h ≡ header_of u → calls.repairing u key dt count (length out) ≡ calls.refused (number_of n)) → Repaired key dt count out
-      refused n z g = record { answer = NotMade n; output = out; made = refused-made key dt count m out n (promise_refused _ m out h o n z g) }
+      refused n z g = record { answer = Err n; output = out; made = refused-made key dt count m out n (promise_refused _ m out h o n z g) }
 
       drawn : (g : (ltb 15 dt || not (within 1 16 count)) ≡ false) → (h.held ≡ 0 → ⊥) → 8 + count * h.setting.size ≤ length out
           → (b : Bool) → all_ok h.setting.scheme dt h.held (keys (written_key h.setting.scheme key dt) count) ≡ b → Repaired key dt count out
       drawn g n r true e = record {
-        answer = Made (8 + count * h.setting.size) (draws_of h.setting.scheme dt h.held (keys (written_key h.setting.scheme key dt) count));
+        answer = Ok (8 + count * h.setting.size, draws_of h.setting.scheme dt h.held (keys (written_key h.setting.scheme key dt) count));
         output = splice 0 (packet_from h m (written_key h.setting.scheme key dt) dt count) out;
         made = repair-made h key dt count m out o g small n r _ _ (rw e (refl, refl));
       }
       drawn g n r false e = record {
-        answer = NotMade refusals.Draws;
+        answer = Err refusals.Draws;
         output = out;
         made = repair-made h key dt count m out o g small n r _ _ (rw e (refl, refl));
       }
@@ -169,7 +165,7 @@ runs_exist t k flows f m room gs b =
         flows = flows;
         before = m;
         after = m';
-        answer = Done 0;
+        answer = Ok 0;
         opened = rw (opening_done (scheme_number t.scheme) t.size t.width flows m t (setting-named t v) room) d;
         answered = refl;
         calls = c;

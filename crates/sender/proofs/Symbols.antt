@@ -1,11 +1,10 @@
 -- A sender's symbols have E bytes.
-use Rattle.std.specs.Prelude.{◌≡◌, ◌+◌, ◌<◌, ◌-◌, ◌∷◌, ◌*◌, ◌++◌, ◌^◌, ◌/◌}
+use Rattle.std.specs.Prelude.{◌≡◌, ◌+◌, ◌<◌, ◌-◌, ◌∷◌, ◌*◌, ◌++◌, ◌^◌, ◌/◌, Ok, Err}
 use Rattle.words.specs.Words.{arith, ℕ, List, length, [], suc, zero, get_or, drop, take, mod-lt, not-suc-le-zero}
 use Rattle.words.specs.Words.{le_of_suc-le-suc, lit<}
 use Rattle.memory.specs.Number.{bytes, Bytes}
 use Rattle.wire.specs.Packets.{zeros, chunks, symbol_count, adui, source_symbols, Sized}
 use Rattle.wire.proofs.Adui.{symbols_sized}
-use Rattle.wire.specs.declared.Answer.TheVariants.{Done, Refused}
 use Rattle.sender.specs.Run.{SenderCall, added, repaired, Calls, symbols_of}
 use Rattle.sender.specs.Claims.{SenderSymbols}
 use Rattle.sender.proofs.Running.{run_valid}
@@ -78,16 +77,16 @@ small_at (x ∷ xs) s (suc p) = small_at xs s.1 p
 
 taken_sized : (E : ℕ) → 0 < E → (l : List SenderCall) → Sized E (symbols_of E l)
 taken_sized E z [] = tt
-taken_sized E z (added flow adu out (Done n) m' out' ∷ l) = sized_append E (source_symbols flow adu E) (symbols_of E l) (symbols_sized flow adu E z)
+taken_sized E z (added flow adu out (Ok n) m' out' ∷ l) = sized_append E (source_symbols flow adu E) (symbols_of E l) (symbols_sized flow adu E z)
     (taken_sized E z l)
-taken_sized E z (added flow adu out (Refused n) m' out' ∷ l) = taken_sized E z l
+taken_sized E z (added flow adu out (Err n) m' out' ∷ l) = taken_sized E z l
 taken_sized E z (repaired key dt count out r out' ∷ l) = taken_sized E z l
 
 taken_small : (E : ℕ) (m : List ℕ) (l : List SenderCall) → Calls m l → Small (symbols_of E l)
 taken_small E m [] c = tt
-taken_small E m (added flow adu out (Done n) m' out' ∷ l) (h, b, p, c) = small_append (source_symbols flow adu E) (symbols_of E l) (small_symbols flow adu E h b)
+taken_small E m (added flow adu out (Ok n) m' out' ∷ l) (h, b, p, c) = small_append (source_symbols flow adu E) (symbols_of E l) (small_symbols flow adu E h b)
     (taken_small E m' l c)
-taken_small E m (added flow adu out (Refused n) m' out' ∷ l) (h, b, p, c) = taken_small E m' l c
+taken_small E m (added flow adu out (Err n) m' out' ∷ l) (h, b, p, c) = taken_small E m' l c
 taken_small E m (repaired key dt count out r out' ∷ l) (h, p, c) = taken_small E m l c
 
 pub sender_symbols : SenderSymbols

@@ -1,6 +1,6 @@
 -- Taking an ADU into the window: the header and the slots afterwards are those of the sender that took it.
-use Rattle.std.specs.Prelude.{◌≡◌, ◌≤◌, ◌+◌, ◌-◌, ◌%◌, ◌*◌, ◌^◌}
-use Rattle.words.specs.Words.{arith, ℕ, List, length, refl, ◌∙◌, sym, ap, [], some, drop, mod-lt, some-injective}
+use Rattle.std.specs.Prelude.{◌≡◌, ◌≤◌, ◌+◌, ◌-◌, ◌%◌, ◌*◌, ◌^◌, Ok}
+use Rattle.words.specs.Words.{arith, ℕ, List, length, refl, ◌∙◌, sym, ap, [], Some, drop, mod-lt, some-injective}
 use Rattle.words.specs.Words.{length-append, not-suc-le-zero, mod-add-mod, length-drop, lit<, min}
 use native.Mathlib.Nat.{zero-mod}
 use lib.Seq.{drop-nil}
@@ -15,7 +15,6 @@ use Rattle.wire.specs.Packets.{symbol_count, source_symbols}
 use Rattle.wire.proofs.Adui.{symbols_count}
 use Rattle.wire.proofs.Settings.{setting-written, setting_kept}
 use Rattle.sender.specs.declared.Header.{Header}
-use Rattle.wire.specs.declared.Answer.TheVariants.{Done}
 use Rattle.sender.specs.State.{Sender, window, window_start, fresh, taken, header_size, memory_size, header_in, header_of}
 use Rattle.sender.specs.Promises.{DoneWith}
 use Rattle.sender.specs.Inner.{count_bytes, Placed, Took}
@@ -52,7 +51,7 @@ behind : (m m' : List ℕ) → drop header_size m' ≡ drop header_size m → (a
 behind m m' e a n = rw (part-drop header_size a n m', part-drop header_size a n m, e)
 
 -- symbols were placed, and then the numbers of the header written
-pub took : (h : Header) (flow : ℕ) (adu m m₁ : List ℕ) (next count held : ℕ) → header_in m ≡ some h
+pub took : (h : Header) (flow : ℕ) (adu m m₁ : List ℕ) (next count held : ℕ) → header_in m ≡ Some h
     → count ≡ symbol_count h.setting.size (length adu) → held ≡ min (h.held + count) h.setting.width
     → Placed h.setting.size h.setting.width m h.next (source_symbols flow adu h.setting.size) m₁ next
     → Took h flow adu m (splice 8 (count_bytes held next (esi_after h.esi.0 count)) m₁)
@@ -73,7 +72,7 @@ took h flow adu m m₁ next count held o ec eh p =
           let q = some-injective h (header_of s) (sym o ∙ k.header) in
           let p' = rw q at p in
           record {
-            header = e ∙ ap some (rw (ec, q) (sym (taken-header s flow adu held next (rw (ec, q) at eh) (p'.slot s.symbols refl))));
+            header = e ∙ ap Some (rw (ec, q) (sym (taken-header s flow adu held next (rw (ec, q) at eh) (p'.slot s.symbols refl))));
             flows = counts-flows held next esi m₁ (omega arith) ∙ flows_kept m m₁ p.head ∙ k.flows;
             slots = λ i a b.
                 behind m₁ m₂ (counts_past header_size held next esi m₁ (omega arith) (omega arith)) (i % s.setting.width * s.setting.size) s.setting.size
@@ -92,7 +91,7 @@ abbrev pub begun : (t : Setting) (flows m : List ℕ) → List ℕ
 begun t flows m = splice 8 (count_bytes 0 0 0) (splice 32 flows (splice 0 (setting_bytes 1 t) m))
 
 pub opens : (t : Setting) (flows m : List ℕ) → length flows ≡ 32 → Valid t → memory_size t ≤ length m
-    → DoneWith [] (fresh t flows) m [] (Done 0) (begun t flows m) []
+    → DoneWith [] (fresh t flows) m [] (Ok 0) (begun t flows m) []
 unfolding setting_bytes flows_in
 opens t flows m f v room =
     let least = header-room in
@@ -100,14 +99,14 @@ opens t flows m f v room =
     let m₂ = splice 32 flows m₁ in
     let l : length m₁ ≡ length m = length-splice 0 (setting_bytes 1 t) m (omega arith) in
     let k : length m₂ ≡ length m = length-splice 32 flows m₁ (omega arith) ∙ l in
-    let s : setting_in 1 m₂ ≡ some t =
+    let s : setting_in 1 m₂ ≡ Some t =
     setting_kept 1 m₂ m₁ (take-splice 8 32 flows m₁ (omega arith) (omega arith)) ∙ setting-written 1 t m (omega arith) v in
     let e = counts-written m₂ t 0 0 0 s v (rw k room) (omega arith) (omega arith) (lit< tt) in
     record {
       answer = refl;
       output = nothing;
       holds = record {
-        header = e ∙ ap some first;
+        header = e ∙ ap Some first;
         flows = counts-flows 0 0 0 m₂ (omega arith) ∙ rw f at (part-splice 32 flows m₁ (omega arith));
         slots = λ p k. absurd (not-suc-le-zero k);
       };

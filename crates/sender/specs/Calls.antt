@@ -1,7 +1,7 @@
 -- What each call of a sender comes to (document 01, "Packets"): the refusals in their order ("Why a call says no"; document 02, No. 7), else the packet that
 -- is written and the sender after it. Refusal 3 comes before all of these.
 use Rattle.std.specs.Prelude.{◌+◌, ◌%◌, ◌*◌, ◌^◌, ◌||◌}
-use Rattle.words.specs.Words.{ℕ, List, length, [], some, none, Bool, Option, cond, ltb, eqb, map, not}
+use Rattle.words.specs.Words.{ℕ, List, length, [], Some, None, Bool, Option, cond, ltb, eqb, map, not}
 use Rattle.wire.specs.declared.Setting.{Setting}
 use Rattle.wire.specs.Numbers.{within}
 use Rattle.wire.specs.Settings.{setting_of}
@@ -22,8 +22,8 @@ refuse_if t n o = cond t (refused n) o
 
 -- opening with the flows that it announces, on `room` bytes of memory: refusals 1, 2
 abbrev pub opening_with : Option Setting → (flows : List ℕ) (room : ℕ) → Outcome
-opening_with none flows room = refused 1
-opening_with (some t) flows room = refuse_if (ltb room (memory_size t)) 2 (done [] (fresh t flows))
+opening_with None flows room = refused 1
+opening_with (Some t) flows room = refuse_if (ltb room (memory_size t)) 2 (done [] (fresh t flows))
 
 unfoldable pub opening : (scheme size width : ℕ) (flows : List ℕ) (room : ℕ) → Outcome
 opening scheme size width flows room = opening_with (setting_of scheme size width) flows room

@@ -1,11 +1,10 @@
 -- All that is claimed of the sender's calls, from an opening on.
-use Rattle.std.specs.Prelude.{◌≡◌, ◌≤◌, ◌<◌, ◌∷◌, ◌++◌, ◌^◌}
+use Rattle.std.specs.Prelude.{◌≡◌, ◌≤◌, ◌<◌, ◌∷◌, ◌++◌, ◌^◌, Ok}
 use Rattle.words.specs.Words.{ℕ, List, length, [], get_or, map}
 use Rattle.memory.specs.Number.{Bytes}
 use Rattle.wire.specs.declared.Setting.{Setting}
 use Rattle.wire.specs.Settings.{scheme_number}
 use Rattle.wire.specs.Flows.{Announced}
-use Rattle.wire.specs.declared.Answer.TheVariants.{Done}
 use Rattle.wire.specs.Answers.{Said, said}
 use Rattle.sender.specs.Promises.{answer_of, draws_in}
 use Rattle.sender.specs.Run.{SenderCall, added, repaired, SenderRun, symbols_of}
@@ -36,7 +35,7 @@ abbrev pub AnnouncedOnly : Type 0
 AnnouncedOnly =
     (t : Setting) (l : List SenderCall) (r : SenderRun t l)
     (before : List SenderCall) (flow : ℕ) (adu out : List ℕ) (n : ℕ) (m' out' : List ℕ) (after : List SenderCall)
-    → l ≡ before ++ (added flow adu out (Done n) m' out' ∷ after) → Announced r.flows flow
+    → l ≡ before ++ (added flow adu out (Ok n) m' out' ∷ after) → Announced r.flows flow
 
 -- two senders of the same flows whose calls are judged so answer and write alike
 abbrev pub NoChoice : Type 0

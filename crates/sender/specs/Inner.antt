@@ -1,7 +1,7 @@
 -- Contracts of inner functions: a reader need not believe these.
 -- They speak of a memory and of the header that was read from it, whether or not the memory holds a sender.
-use Rattle.std.specs.Prelude.{◌≡◌, ◌≤◌, ◌+◌, ◌<◌, ◌-◌, ◌%◌, ◌∷◌, ◌*◌, ◌++◌}
-use Rattle.words.specs.Words.{ℕ, List, length, [], some, suc, true, zero, none, get_or, false, Bool, Option, drop}
+use Rattle.std.specs.Prelude.{◌≡◌, ◌≤◌, ◌+◌, ◌<◌, ◌-◌, ◌%◌, ◌∷◌, ◌*◌, ◌++◌, Result, Ok, Err}
+use Rattle.words.specs.Words.{ℕ, List, length, [], suc, true, zero, get_or, false, Bool, drop}
 use Rattle.words.specs.Words.{take, map}
 use Rattle.memory.specs.Part.{part, splice}
 use Rattle.memory.specs.Number.{bytes}
@@ -12,19 +12,12 @@ use Rattle.wire.specs.Settings.{Valid}
 use Rattle.wire.specs.Packets.{longest_adu, symbol_count, source_symbols, chunks, repair_packet}
 use Rattle.rows.specs.Combination.{dot, coefficient, combination}
 use Rattle.coefficients.specs.Coefficients.{keys, all_ok, draws_of}
-use Rattle.sender.specs.declared.RepairAnswer.{RepairAnswer}
-use Rattle.sender.specs.declared.RepairAnswer.TheVariants.{Made, NotMade}
 use Rattle.sender.specs.declared.Header.{Header}
-use Rattle.sender.specs.declared.Found.{Found}
-use Rattle.sender.specs.declared.Found.TheVariants.{HeaderIs, NoHeader}
 use Rattle.sender.specs.State.{Sender, taken, header_size, memory_size, InSlots, Holds}
 use Rattle.sender.specs.Repair.{repair_symbol, written_key}
+use Rattle.wire.specs.declared.Refusal.{Refusal}
 
 -- ---- the header
-
-abbrev pub found_of : Option Header → Found
-found_of none = NoHeader
-found_of (some h) = HeaderIs h
 
 -- the bytes of the numbers that change
 abbrev pub count_bytes : (held next esi : ℕ) → List ℕ
@@ -103,13 +96,13 @@ packet_from h m key dt count =
     (map (repair_symbol h.setting.scheme dt h.setting.size (window_in h m)) (keys key count))
 
 -- a repair packet was written, or the coefficients met refusal 10 and nothing was
-abbrev pub PacketOr10 : Bool → (h : Header) (key dt count : ℕ) (m out : List ℕ) (r : RepairAnswer) (out' : List ℕ) → Type 0
+abbrev pub PacketOr10 : Bool → (h : Header) (key dt count : ℕ) (m out : List ℕ) (r : Result (ℕ × ℕ) Refusal) (out' : List ℕ) → Type 0
 PacketOr10 true h key dt count m out r out' =
-    (r ≡ Made (8 + count * h.setting.size) (draws_of h.setting.scheme dt h.held (keys key count)))
+    (r ≡ Ok (8 + count * h.setting.size, draws_of h.setting.scheme dt h.held (keys key count)))
     × (out' ≡ splice 0 (packet_from h m key dt count) out)
-PacketOr10 false h key dt count m out r out' = (r ≡ NotMade Draws) × (out' ≡ out)
+PacketOr10 false h key dt count m out r out' = (r ≡ Err Draws) × (out' ≡ out)
 
-abbrev pub Packed : (h : Header) (key dt count : ℕ) (m out : List ℕ) (r : RepairAnswer) (out' : List ℕ) → Type 0
+abbrev pub Packed : (h : Header) (key dt count : ℕ) (m out : List ℕ) (r : Result (ℕ × ℕ) Refusal) (out' : List ℕ) → Type 0
 Packed h key dt count m out r out' =
     let written = written_key h.setting.scheme key dt in
     PacketOr10 (all_ok h.setting.scheme dt h.held (keys written count)) h written dt count m out r out'

@@ -2,7 +2,7 @@
 -- "Packets" and "Why a call says no"; document 02, No. 7; RFC 8681, sections 3.3, 4.1.2 and 4.1.3). m, out and a are memory, output and answer; m' and out'
 -- memory and output afterwards; `flows` are the 32 bytes of the opening; `taken` are the symbols of the ADUs that the sender took before the call, the oldest
 -- first. Each record has the refusals in the order of their tests; 3 has no place here, since the calls follow an opening.
-use Rattle.std.specs.Prelude.{◌≡◌, ◌≤◌, ◌+◌, ◌<◌, ◌-◌, ◌%◌, ◌∷◌, ◌*◌, ◌++◌, ◌^◌, ◌&&◌}
+use Rattle.std.specs.Prelude.{◌≡◌, ◌≤◌, ◌+◌, ◌<◌, ◌-◌, ◌%◌, ◌∷◌, ◌*◌, ◌++◌, ◌^◌, ◌&&◌, Result}
 use Rattle.words.specs.Words.{ℕ, List, length, [], true, drop, cond, eqb, map, min}
 use Rattle.memory.specs.Contained.{Contained}
 use Rattle.wire.specs.declared.Setting.{Setting}
@@ -15,8 +15,8 @@ use Rattle.coefficients.specs.Coefficients.{keys, lists_of, all_ok, draws_of}
 use Rattle.rows.specs.Combination.{combination}
 use Rattle.sender.specs.Answers.{answer_of, draws_in}
 use Rattle.sender.specs.Run.{SenderCall, added, repaired, memory_after, symbols_of, SenderRun}
-use Rattle.wire.specs.declared.Answer.{Answer}
 use Rattle.sender.specs.Promises.{Opens}
+use Rattle.wire.specs.declared.Refusal.{Refusal}
 
 -- the call answers the refusal n; memory and output are as they were, byte for byte
 pub record Refuses (n : ℕ) (a : Said) (m m' out out' : List ℕ) : Type 0 where
@@ -91,7 +91,7 @@ module _ (t : Setting) where
 -- every opening of a sender answers and leaves what `OpeningJudged` says
 abbrev pub OpeningIsJudged : Type 0
 OpeningIsJudged =
-    (scheme E width : ℕ) (flows m : List ℕ) (r : Answer) (m' : List ℕ) → Opens scheme E width flows m r m'
+    (scheme E width : ℕ) (flows m : List ℕ) (r : Result ℕ Refusal) (m' : List ℕ) → Opens scheme E width flows m r m'
     → OpeningJudged (sender_memory E width) scheme E width m (said r) m'
 
 -- and every call of every list after an opening that answered 0 what `CallJudged` says

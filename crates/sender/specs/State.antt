@@ -1,7 +1,7 @@
 -- What a sender is (document 01, "Packets"; document 02, No. 7; RFC 8681, section 3.3), and how its memory holds it: a header, which keeps the flows, then
 -- a slot of E bytes for each symbol of the window.
 use Rattle.std.specs.Prelude.{◌≡◌, ◌≤◌, ◌+◌, ◌<◌, ◌-◌, ◌%◌, ◌*◌, ◌++◌, ◌^◌, ◌&&◌}
-use Rattle.words.specs.Words.{ℕ, List, length, [], some, none, get_or, Option, drop, cond, ltb, leb}
+use Rattle.words.specs.Words.{ℕ, List, length, [], Some, None, get_or, Option, drop, cond, ltb, leb}
 use Rattle.memory.specs.Part.{part}
 use Rattle.memory.specs.Number.{number}
 use Rattle.wire.specs.declared.Setting.{Setting}
@@ -45,11 +45,11 @@ memory_size t = header_size + t.width * t.size
 -- the header of a sender of the setting: how many symbols the window has, and the slot and the ESI of the next symbol; none where the memory is
 -- too short for the setting, or the numbers are not of its window
 abbrev pub header_with : List ℕ → Option Setting → Option Header
-header_with m none = none
-header_with m (some t) =
+header_with m None = None
+header_with m (Some t) =
     cond (leb (memory_size t) (length m) && (leb (number (part 8 2 m)) t.width && ltb (number (part 10 2 m)) t.width))
-    (some (record { setting = t; held = number (part 8 2 m); next = number (part 10 2 m); esi = record { 0 = number (part 12 4 m) } }))
-    none
+    (Some (record { setting = t; held = number (part 8 2 m); next = number (part 10 2 m); esi = record { 0 = number (part 12 4 m) } }))
+    None
 
 -- the sender's header at the front of a memory; refusal 3 where there is none
 unfoldable pub header_in : List ℕ → Option Header
@@ -71,6 +71,6 @@ InSlots size width m symbols =
 
 -- the memory m holds the sender s
 pub record Holds (m : List ℕ) (s : Sender) : Type 0 where
-  pub header : header_in m ≡ some (header_of s)
+  pub header : header_in m ≡ Some (header_of s)
   pub flows : flows_in m ≡ s.flows
   pub slots : InSlots s.setting.size s.setting.width m s.symbols

@@ -4,10 +4,10 @@ ghost use Rattle.words.specs.Words.{length};
 ghost use Rattle.memory.specs.Part.{splice};
 ghost use Rattle.wire.specs.Settings.{Valid};
 ghost use Rattle.sender.specs.State.{memory_size, header_in};
-ghost use Rattle.sender.specs.Inner.{found_of, count_bytes};
+ghost use Rattle.sender.specs.Inner.{count_bytes};
 
-use super::{Found, Header};
-use wire::{Checked, Esi, Setting};
+use super::Header;
+use wire::{Esi, Kind, Setting};
 
 // The bytes of the header.
 pub const HEADER: usize = 64;
@@ -21,25 +21,20 @@ pub fn memory_size(setting: Setting) -> usize
 }
 
 // Reads the header, if the memory has a sender's and is long enough for its setting.
-pub fn read_header(mem: &[u8]) -> Found
-    ensures { result ≡ found_of (header_in mem.now) }
+pub fn read_header(mem: &[u8]) -> Option<Header>
+    ensures { result ≡ header_in mem.now }
 {
-    let Checked::Good(setting) = wire::setting_in(mem, 1) else {
-        return Found::NoHeader;
-    };
+    let setting = wire::setting_in(mem, Kind::Sender)?;
     if mem.len() < memory_size(setting) {
-        return Found::NoHeader;
+        return None;
     }
     let held = memory::load_u16(mem, 8) as usize;
-    if setting.width < held {
-        return Found::NoHeader;
-    }
     let next = memory::load_u16(mem, 10) as usize;
-    if setting.width <= next {
-        return Found::NoHeader;
+    if setting.width < held || setting.width <= next {
+        return None;
     }
     let esi = Esi(memory::load_u32(mem, 12));
-    Found::HeaderIs(Header {
+    Some(Header {
         setting,
         held,
         next,

@@ -1,6 +1,6 @@
 // The window's slots: the symbol of position p stands in slot p mod width.
 ghost use Rattle.std.specs.Prelude.{◌≡◌, ◌≤◌, ◌+◌, ◌<◌, ◌*◌};
-ghost use Rattle.words.specs.Words.{length, some};
+ghost use Rattle.words.specs.Words.{length};
 ghost use Rattle.memory.specs.Part.{part, splice};
 ghost use Rattle.wire.specs.Packets.{longest_adu, symbol_count, adui};
 ghost use Rattle.sender.specs.State.{header_in};
@@ -41,12 +41,12 @@ fn place_symbols(
 
 // Takes an ADU of `count` symbols into the window.
 pub fn take_adu(mem: &mut [u8], header: Header, flow: u8, adu: &[u8], count: usize)
-    requires { (header_in mem.old ≡ some header) × Takeable header.setting adu.now count }
+    requires { (header_in mem.old ≡ Some header) × Takeable header.setting adu.now count }
     ensures { Took header flow adu.now mem.old mem.new }
 {
     let setting = header.setting;
     let next = place_symbols(mem, setting, header.next, flow, adu, count);
-    let held = memory::least(header.held + count, setting.width);
+    let held = (header.held + count).min(setting.width);
     let esi = header.esi;
     front::write_counts(mem, held, next, esi.plus(count as u32));
 }

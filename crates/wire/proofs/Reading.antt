@@ -1,5 +1,5 @@
 -- Reading what was written gives the fields back: `source-packet-read` and `source-adu`, `repair-packet-read` and `repair-symbols`.
-use Rattle.std.specs.Prelude.{◌≡◌, ◌≤◌, ◌+◌, ◌<◌, ◌-◌, ◌∷◌, ◌*◌, ◌^◌}
+use Rattle.std.specs.Prelude.{◌≡◌, ◌≤◌, ◌+◌, ◌<◌, ◌-◌, ◌∷◌, ◌*◌, ◌^◌, Ok}
 use Rattle.words.specs.Words.{arith, ℕ, List, length, refl, ◌∙◌, sym, ap, [], true, le-leb, length-append, eq-eqb}
 use Rattle.words.specs.Words.{zero-mul, suc-mul, take_at}
 use Rattle.std.proofs.Common.{mul-div_cancel, drop_at}
@@ -10,8 +10,6 @@ use Rattle.memory.proofs.Number.{number-bytes}
 use Rattle.wire.specs.Packets.{joined, chunks, Sized, source_packet, source_form, source_adu, source_esi, repair_header, repair_packet, most_repairs}
 use Rattle.wire.specs.Packets.{repair_count, repair_form, repair_key, density_threshold, protected_count, first_esi, repair_symbols}
 use Rattle.wire.specs.Headers.{source_header_of, repair_header_of}
-use Rattle.wire.specs.declared.SourceHeader.TheVariants.{Source}
-use Rattle.wire.specs.declared.RepairHeader.TheVariants.{Repair}
 
 -- ---- a source packet
 
@@ -90,13 +88,13 @@ module _ (key dt nss first : ℕ) (xs : List (List ℕ)) where
 -- ---- what the parsers answer on every packet that can be written
 
 pub source-packet-read : (adu : List ℕ) (esi : ℕ) → esi < 2 ^ 32
-    → source_header_of (source_packet adu esi) ≡ Source (record { len = length adu; first = record { 0 = esi } })
+    → source_header_of (source_packet adu esi) ≡ Ok (record { len = length adu; first = record { 0 = esi } })
 source-packet-read adu esi h = rw (source_form_lem adu esi, tail adu esi, source-esi adu esi h)
 
 pub repair-packet-read : (key dt nss first : ℕ) (E : ℕ) (xs : List (List ℕ)) → key < 2 ^ 16 → dt < 16 → nss < 4096 → first < 2 ^ 32
     → 0 < E → Sized E xs → 1 ≤ length xs → length xs ≤ 16
     → repair_header_of E (repair_packet key dt nss first xs)
-    ≡ Repair (record { key = record { 0 = key }; dt = dt; nss = nss; first = record { 0 = first }; count = length xs })
+    ≡ Ok (record { key = record { 0 = key }; dt = dt; nss = nss; first = record { 0 = first }; count = length xs })
 repair-packet-read key dt nss first E xs k d n f z s l h =
     rw (
       repair_form_lem key dt nss first E xs s z l h,

@@ -3,8 +3,8 @@
 -- the header: short_none, other_none, header_read; zeros-none, one_kind; setting-found (record Headed); setting-written, setting_kept
 -- answers told apart: setting_good, setting_bad
 -- the calls for sizes of memory: size_valid, size_given, size_refused
-use Rattle.std.specs.Prelude.{◌≡◌, ◌≤◌, ◌<◌, ◌*◌, ◌^◌, ◌&&◌}
-use Rattle.words.specs.Words.{arith, ℕ, List, length, refl, ◌∙◌, sym, ap, some, suc, true, zero, none, false, Bool, subst, take, leb}
+use Rattle.std.specs.Prelude.{◌≡◌, ◌≤◌, ◌<◌, ◌*◌, ◌^◌, ◌&&◌, Ok, Err}
+use Rattle.words.specs.Words.{arith, ℕ, List, length, refl, ◌∙◌, sym, ap, Some, suc, true, zero, None, false, Bool, subst, take, leb}
 use Rattle.words.specs.Words.{eqb, le-leb, some-injective, none-ne-some, lt-leb, ne_eqb, zero-add, eq-eqb, leb-true, lit<, eqb-true}
 use Rattle.words.specs.Words.{length-take, eqb-false, Option, ap₂}
 use Rattle.std.proofs.Common.{leb-false}
@@ -13,18 +13,15 @@ use Rattle.memory.specs.Number.{number}
 use Rattle.memory.proofs.Parts.{part-part}
 use Rattle.memory.proofs.Number.{number-bytes}
 use Rattle.wire.specs.declared.Scheme.{Scheme}
-use Rattle.wire.specs.declared.Checked.{Checked}
-use Rattle.wire.specs.declared.Checked.TheVariants.{Good, Bad}
 use Rattle.wire.specs.declared.Scheme.TheVariants.{Gf2, Gf256}
 use Rattle.wire.specs.declared.Setting.{Setting}
-use Rattle.wire.specs.declared.Answer.TheVariants.{Done, Refused}
 use Rattle.wire.specs.declared.Refusal.TheVariants.{Values}
 use Rattle.wire.specs.Numbers.{within}
 use Rattle.wire.specs.Answers.{value}
 use Rattle.wire.specs.Opening.{SizeAnswered}
 use Rattle.wire.specs.Packets.{zeros}
 use Rattle.wire.specs.Settings.{scheme_number, scheme_of, in_range, setting_of, Valid}
-use Rattle.wire.specs.Stored.{field, setting_in, setting_bytes, checked_of}
+use Rattle.wire.specs.Stored.{field, setting_in, setting_bytes}
 
 -- ---- three numbers
 
@@ -32,11 +29,11 @@ pub within_true : (low high x : ℕ) → low ≤ x → x ≤ high → within low
 within_true low high x l h = rw (le-leb low x l, le-leb x high h)
 
 -- the numbers of a valid setting name it
-pub setting-named : (s : Setting) → Valid s → setting_of (scheme_number s.scheme) s.size s.width ≡ some s
+pub setting-named : (s : Setting) → Valid s → setting_of (scheme_number s.scheme) s.size s.width ≡ Some s
 unfolding setting_of in_range
 setting-named s v = go s.scheme refl
   where
-    go : (f : Scheme) → s.scheme ≡ f → setting_of (scheme_number s.scheme) s.size s.width ≡ some s
+    go : (f : Scheme) → s.scheme ≡ f → setting_of (scheme_number s.scheme) s.size s.width ≡ Some s
     go Gf2 e = rw (e, within_true 4 1500 s.size v.size_least v.size_most, within_true 1 255 s.width v.width_least v.width_most)
     go Gf256 e = rw (e, within_true 4 1500 s.size v.size_least v.size_most, within_true 1 255 s.width v.width_least v.width_most)
 
@@ -77,7 +74,7 @@ named a b c e =
     }
 
 -- numbers that name a setting have their values, and are its own
-pub setting-names : (a b c : ℕ) (s : Setting) → setting_of a b c ≡ some s → Named a b c s
+pub setting-names : (a b c : ℕ) (s : Setting) → setting_of a b c ≡ Some s → Named a b c s
 unfolding setting_of
 setting-names a b c s e = go (in_range a b c) refl
   where
@@ -88,16 +85,16 @@ setting-names a b c s e = go (in_range a b c) refl
 -- ---- the header
 
 module _ (kind : ℕ) (m : List ℕ) where
-  pub short_none : length m < 8 → setting_in kind m ≡ none
+  pub short_none : length m < 8 → setting_in kind m ≡ None
   unfolding setting_in
   short_none h = rw (lt-leb 8 (length m) h)
 
   -- memory of another kind
-  pub other_none : (field 0 m ≡ kind → ⊥) → setting_in kind m ≡ none
+  pub other_none : (field 0 m ≡ kind → ⊥) → setting_in kind m ≡ None
   unfolding setting_in
   other_none h = go (leb 8 (length m)) refl
     where
-      go : (b : Bool) → leb 8 (length m) ≡ b → setting_in kind m ≡ none
+      go : (b : Bool) → leb 8 (length m) ≡ b → setting_in kind m ≡ None
       go true e = rw (e, ne_eqb (field 0 m) kind h)
       go false e = rw e
 
@@ -112,7 +109,7 @@ nothing zero = refl
 nothing (suc zero) = refl
 nothing (suc (suc n)) = refl
 
-pub zeros-none : (kind n : ℕ) → 0 < kind → setting_in kind (zeros n) ≡ none
+pub zeros-none : (kind n : ℕ) → 0 < kind → setting_in kind (zeros n) ≡ None
 zeros-none kind n h = other_none kind (zeros n) (λ e. let z = nothing n in omega arith)
 
 -- what a setting that was found says of the header
@@ -121,7 +118,7 @@ pub record Headed (kind : ℕ) (m : List ℕ) (s : Setting) : Type 0 where
   pub kinds : field 0 m ≡ kind
   pub named : Named (field 1 m) (field 2 m) (field 3 m) s
 
-pub setting-found : (kind : ℕ) (m : List ℕ) (s : Setting) → setting_in kind m ≡ some s → Headed kind m s
+pub setting-found : (kind : ℕ) (m : List ℕ) (s : Setting) → setting_in kind m ≡ Some s → Headed kind m s
 unfolding setting_in
 setting-found kind m s e = go (leb 8 (length m) && eqb (field 0 m) kind) refl
   where
@@ -136,7 +133,7 @@ setting-found kind m s e = go (leb 8 (length m) && eqb (field 0 m) kind) refl
         }
 
 -- memory in which an end of one kind finds its setting is no other kind's
-pub one_kind : (kind other : ℕ) (m : List ℕ) (s : Setting) → (kind ≡ other → ⊥) → setting_in kind m ≡ some s → setting_in other m ≡ none
+pub one_kind : (kind other : ℕ) (m : List ℕ) (s : Setting) → (kind ≡ other → ⊥) → setting_in kind m ≡ Some s → setting_in other m ≡ None
 one_kind kind other m s h e = other_none other m (λ f. h (sym (setting-found kind m s e).kinds ∙ f))
 
 small : (f : Scheme) → scheme_number f < 256 ^ 2
@@ -144,7 +141,7 @@ small Gf2 = lit< tt
 small Gf256 = lit< tt
 
 -- a header that was written reads as its setting
-pub setting-written : (kind : ℕ) (s : Setting) (m : List ℕ) → kind < 65536 → Valid s → setting_in kind (splice 0 (setting_bytes kind s) m) ≡ some s
+pub setting-written : (kind : ℕ) (s : Setting) (m : List ℕ) → kind < 65536 → Valid s → setting_in kind (splice 0 (setting_bytes kind s) m) ≡ Some s
 unfolding setting_bytes field part splice
 setting-written kind s m k v =
     header_read kind (splice 0 (setting_bytes kind s) m) (omega arith) (number-bytes 2 kind k)
@@ -173,25 +170,25 @@ setting_kept kind m m' e = sym (front kind m) ∙ ap (setting_in kind) e ∙ fro
 
 -- ---- what an answer that was told apart says
 
-pub setting_good : (o : Option Setting) (t : Setting) {r : Checked} → r ≡ checked_of o → r ≡ Good t → o ≡ some t
-setting_good none t e f = cc
-setting_good (some x) t e f = cc
+pub setting_good : (o : Option Setting) (t : Setting) {r : Option Setting} → r ≡ o → r ≡ Some t → o ≡ Some t
+setting_good None t e f = cc
+setting_good (Some x) t e f = cc
 
-pub setting_bad : (o : Option Setting) {r : Checked} → r ≡ checked_of o → r ≡ Bad → o ≡ none
-setting_bad none e f = refl
-setting_bad (some x) e f = cc
+pub setting_bad : (o : Option Setting) {r : Option Setting} → r ≡ o → r ≡ None → o ≡ None
+setting_bad None e f = refl
+setting_bad (Some x) e f = cc
 
 -- ---- the calls for sizes of memory, which ask for a setting of scheme 10
 
-module _ (E width : ℕ) {r : Checked} (e : r ≡ checked_of (setting_of 10 E width)) where
-  asked : (s : Setting) → r ≡ Good s → Named 10 E width s
+module _ (E width : ℕ) {r : Option Setting} (e : r ≡ setting_of 10 E width) where
+  asked : (s : Setting) → r ≡ Some s → Named 10 E width s
   asked s g = setting-names 10 E width s (setting_good _ s e g)
 
-  pub size_valid : (s : Setting) → r ≡ Good s → Valid s
+  pub size_valid : (s : Setting) → r ≡ Some s → Valid s
   size_valid s g = (asked s g).valid
 
-  pub size_given : (bytes : (size width : ℕ) → ℕ) (s : Setting) → r ≡ Good s → (n : ℕ) → n ≡ bytes s.size s.width
-      → SizeAnswered (bytes E width) E width (Done n)
+  pub size_given : (bytes : (size width : ℕ) → ℕ) (s : Setting) → r ≡ Some s → (n : ℕ) → n ≡ bytes s.size s.width
+      → SizeAnswered (bytes E width) E width (Ok n)
   size_given bytes s g n b =
       let a = asked s g in
       let v = a.valid in
@@ -200,7 +197,7 @@ module _ (E width : ℕ) {r : Checked} (e : r ≡ checked_of (setting_of 10 E wi
         refused = λ h. absurd (h (omega (arith, a.size, a.width)));
       }
 
-  pub size_refused : (bytes : ℕ) → r ≡ Bad → SizeAnswered bytes E width (Refused Values)
+  pub size_refused : (bytes : ℕ) → r ≡ None → SizeAnswered bytes E width (Err Values)
   size_refused bytes b = record {
     given = λ h.
         let s : Setting = record { scheme = Gf256; size = E; width = width } in

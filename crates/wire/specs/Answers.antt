@@ -1,8 +1,8 @@
 -- What a call answers, as document 01 numbers it.
+use Rattle.std.specs.Prelude.{Result, Ok, Err}
 use Rattle.words.specs.Words.{ℕ}
-use Rattle.wire.specs.declared.Answer.{Answer}
-use Rattle.wire.specs.declared.Answer.TheVariants.{Done, Refused}
 use Rattle.wire.specs.Numbers.{number_of}
+use Rattle.wire.specs.declared.Refusal.{Refusal}
 
 -- what a call says: a number, or the number of a refusal
 pub data Said : Type 0 where
@@ -10,6 +10,6 @@ pub data Said : Type 0 where
   refusal : ℕ → Said
 
 -- what an answer says
-abbrev pub said : Answer → Said
-said (Done n) = value n
-said (Refused r) = refusal (number_of r)
+abbrev pub said : Result ℕ Refusal → Said
+said (Ok n) = value n
+said (Err r) = refusal (number_of r)

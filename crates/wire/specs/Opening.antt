@@ -1,9 +1,9 @@
 -- What both ends answer to an opening, and to a call for a size of memory (document 01, "Words and sizes" and "Why a call says no").
-use Rattle.std.specs.Prelude.{◌≡◌, ◌≤◌, ◌+◌, ◌<◌, ◌*◌, ◌⊎◌}
+use Rattle.std.specs.Prelude.{◌≡◌, ◌≤◌, ◌+◌, ◌<◌, ◌*◌, ◌⊎◌, Result}
 use Rattle.words.specs.Words.{ℕ, List, length}
 use Rattle.memory.specs.Contained.{Contained}
-use Rattle.wire.specs.declared.Answer.{Answer}
 use Rattle.wire.specs.Answers.{Said, value, refusal, said}
+use Rattle.wire.specs.declared.Refusal.{Refusal}
 
 -- E and width have their values; and so have scheme, E and width
 abbrev pub HaveValues : (E width : ℕ) → Type 0
@@ -24,7 +24,7 @@ abbrev pub working_memory : (E width : ℕ) → ℕ
 working_memory E width = 96 + (width + 1) * (width + E + 4) + (width + 1)
 
 -- the answer of a call that is asked for a size of memory: so many bytes, or refusal 1 where E or width is outside its values
-pub record SizeAnswered (bytes E width : ℕ) (a : Answer) : Type 0 where
+pub record SizeAnswered (bytes E width : ℕ) (a : Result ℕ Refusal) : Type 0 where
   pub given : HaveValues E width → said a ≡ value bytes
   pub refused : ¬ HaveValues E width → said a ≡ refusal 1
 

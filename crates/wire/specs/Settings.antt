@@ -1,6 +1,6 @@
 -- What an end is opened with (document 01, "Words and sizes"). Both ends find refusal 1 by these definitions.
 use Rattle.std.specs.Prelude.{◌≤◌, ◌&&◌}
-use Rattle.words.specs.Words.{ℕ, some, none, Bool, Option, cond, eqb}
+use Rattle.words.specs.Words.{ℕ, Some, None, Bool, Option, cond, eqb}
 use Rattle.wire.specs.Numbers.{within}
 use Rattle.wire.specs.declared.Scheme.{Scheme}
 use Rattle.wire.specs.declared.Scheme.TheVariants.{Gf2, Gf256}
@@ -21,7 +21,7 @@ in_range scheme size width = within 9 10 scheme && (within 4 1500 size && within
 -- the setting that the three numbers of an opening name; none, refusal 1, where one is out of its values
 unfoldable pub setting_of : ℕ → ℕ → ℕ → Option Setting
 setting_of scheme size width =
-    cond (in_range scheme size width) (some (record { scheme = scheme_of scheme; size = size; width = width })) none
+    cond (in_range scheme size width) (Some (record { scheme = scheme_of scheme; size = size; width = width })) None
 
 -- a setting's E and width have their values
 pub record Valid (s : Setting) : Type 0 where

@@ -1,10 +1,12 @@
 -- `interleave::interleave` meets its contract.
-use Rattle.interleave.proofs.Answers.{fits_where, rearranged}
+use Rattle.interleave.proofs.Answers.{fits_done, rearranged, left, exit_err}
 use Rattle.interleave.proofs.interleave.Goals as goal
 
-pub send_where-requires : goal.send_where-requires
-send_where-requires c = let t = c.answer_to-answer in fits_where _ _ _ _ _ t.result t.ensures
+pub send-requires : goal.send-requires
+send-requires c = fits_done c.answer_to.ensures c.in_ok-n.was
 
 pub returns : goal.returns
-returns c =
-    rearranged _ _ _ _ _ _ c.answer_to-answer.ensures c.send_where.ensures.0 c.send_where.ensures.1
+returns c = rearranged c.answer_to.ensures c.in_ok-n.was c.send.ensures
+
+pub returns-in_err-n : goal.returns-in_err-n
+returns-in_err-n c = rw (exit_err c.from_residual.ensures.1) (left c.answer_to.ensures c.in_err-n.was)

@@ -1,10 +1,10 @@
--- `interleave::send` meets its contract: at each place a turn of `Sending`.
-use Rattle.std.specs.Prelude.{◌≤◌, ◌-◌}
+-- `interleave::send` meets its contract: at each symbol a turn of `Sending`.
+use Rattle.std.specs.Prelude.{◌+◌, ◌*◌}
 use Rattle.interleave.proofs.Sending.{Sending}
 use Rattle.interleave.proofs.send.Given as goal
 
-abbrev pub invariant-loop-p : goal.invariant-loop-p
-invariant-loop-p l = (l.p ≤ l.p-end) × Sending l.size l.rows l.columns l.src l.initial.out l.out l.p l.row l.column
+abbrev pub invariant-loop-column : goal.invariant-loop-column
+invariant-loop-column l = Sending l.size l.rows l.columns l.src l.initial.out l.out (l.column * l.rows + 0)
 
-abbrev pub decreases-loop-p : goal.decreases-loop-p
-decreases-loop-p l = l.p-end - l.p
+abbrev pub invariant-loop-row : goal.invariant-loop-row
+invariant-loop-row l = Sending l.size l.rows l.columns l.src l.fn.out l.out (l.column * l.rows + l.row)

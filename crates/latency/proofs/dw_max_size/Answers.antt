@@ -1,5 +1,6 @@
 -- `latency::dw_max_size` meets its contract.
-use Rattle.words.specs.Words.{◌∙◌, sym, ap}
+use Rattle.std.specs.Prelude.{Ok}
+use Rattle.words.specs.Words.{ℕ, ◌∙◌, sym, ap}
 use Rattle.latency.specs.Window.{window_in}
 use Rattle.latency.proofs.Laws.{bounds, window_answered}
 use Rattle.latency.proofs.dw_max_size.Goals as goal
@@ -12,4 +13,4 @@ divide-requires c = bounds _ _ _ (sym c.are_allowed.ensures ∙ c.if-not-are_all
 
 pub returns : goal.returns
 returns c =
-    window_answered _ _ _ _ (rw (← c.are_allowed.ensures, c.if-not-are_allowed.false) (ap window_in c.divide.ensures))
+    window_answered _ _ _ _ (rw (← c.are_allowed.ensures, c.if-not-are_allowed.false) (ap (λ (d : ℕ × ℕ). window_in (Ok d)) c.divide.ensures))

@@ -1,6 +1,5 @@
 -- `wire::write_symbol` meets its contract: the first symbol by its stores, a later one by a copy.
 use Rattle.words.specs.Words.{arith, length}
-use Rattle.memory.proofs.Parts.{row_fits}
 use Rattle.wire.proofs.Adui.{symbol_start_lem, first-written, later_written}
 use Rattle.wire.proofs.write_symbol.Goals as goal
 
@@ -17,11 +16,6 @@ pub overflow_mul-from : goal.overflow_mul-from
 overflow_mul-from c =
     let a = c.args in
     omega (arith, symbol_start_lem a.flow a.adu.now (length a.dst.now) (omega arith) a.i (omega arith))
-
-pub overflow_sub-from : goal.overflow_sub-from
-overflow_sub-from c =
-    let a = c.args in
-    omega (arith, row_fits a.i (length a.dst.now) 0 (omega arith))
 
 pub copy_padded-requires-2 : goal.copy_padded-requires-2
 copy_padded-requires-2 c =

@@ -1,49 +1,52 @@
 -- `sender::repair::repair_symbol` meets its contract.
-use Rattle.std.specs.Prelude.{◌≡◌, ◌≤◌, ◌++◌}
-use Rattle.words.specs.Words.{arith, length, ◌∙◌, sym, drop, take, mod-lt, length-append, length-take-le, take_at}
+use Rattle.std.specs.Prelude.{◌≡◌, ◌≤◌, ◌<◌, ◌++◌}
+use Rattle.words.specs.Words.{ℕ, List, arith, length, ◌∙◌, sym, drop, take, mod-lt, length-append, length-take-le, take_at, replicate}
 use Rattle.sender.specs.State.{header_size}
-use Rattle.sender.specs.Inner.{Laid, first_slot}
+use Rattle.sender.specs.Inner.{Laid, AllZero, first_slot}
 use Rattle.sender.proofs.Heads.{opened}
-use Rattle.sender.proofs.Laying.{zero_front}
+use Rattle.sender.proofs.Laying.{zero_front, get_or-zeros}
 use Rattle.sender.proofs.Combining.{symbol_made}
 use Rattle.sender.proofs.repair.repair_symbol.Goals as goal
-use Rattle.sender.proofs.repair.repair_symbol.Goals.{After-lay, After-no_coefficients-cs}
+use Rattle.sender.proofs.repair.repair_symbol.Goals.{After-lay}
 
--- a coefficient for each slot
-roomy : (p : After-no_coefficients-cs) → p.args.header.setting.width ≤ length p.no_coefficients-cs.result
-roomy p = let o = opened _ _ p.requires.0 in omega (arith, o.valid.width_most, p.no_coefficients-cs.ensures.0)
+-- a coefficient of zero for each slot of a window
+none : ℕ → List ℕ
+none width = take width (replicate 255 0)
 
-front : (p : After-no_coefficients-cs) → length (take p.args.header.setting.width p.no_coefficients-cs.result) ≡ p.args.header.setting.width
-front p = length-take-le _ _ (roomy p)
+length_none : (width : ℕ) → width ≤ 255 → length (none width) ≡ width
+unfolding none
+length_none width h = length-take-le _ _ h
 
 -- the coefficients that were laid
 filled : (p : After-lay) → length p.lay.new.cs ≡ p.args.header.setting.width
-filled p =
-    let o = opened _ _ p.requires.0 in
-    p.lay.auto.cs ∙ length-take-le _ _ (omega (arith, o.valid.width_most, p.no_coefficients-cs.ensures.0))
+unfolding none
+filled p = p.lay.auto.cs ∙ length_none _ (opened _ _ p.requires.0).valid.width_most
 
-lent : (p : After-lay)
-    → take p.args.header.setting.width (p.lay.new.cs ++ drop p.args.header.setting.width p.no_coefficients-cs.result) ≡ p.lay.new.cs
+-- and the slots past the window
+lent : (p : After-lay) → take p.args.header.setting.width (p.lay.new.cs ++ drop p.args.header.setting.width (replicate 255 0)) ≡ p.lay.new.cs
 lent p = take_at p.lay.new.cs _ _ (filled p)
 
 pub slice_bounds-cs-end : goal.slice_bounds-cs-end
-slice_bounds-cs-end c = roomy (goal.at.slice_bounds-cs-end c).After-no_coefficients-cs
+slice_bounds-cs-end c = (opened _ _ c.requires.0).valid.width_most
 
 pub slice_bounds-lay-end : goal.slice_bounds-lay-end
-slice_bounds-lay-end c = sym (front (goal.at.slice_bounds-lay-end c).After-no_coefficients-cs)
+unfolding none
+slice_bounds-lay-end c = sym (length_none _ (opened _ _ c.requires.0).valid.width_most)
 
 pub first_slot-requires : goal.first_slot-requires
 first_slot-requires c = let o = opened _ _ c.requires.0 in (o.held, o.next, o.valid.width_most)
 
 pub lay-requires : goal.lay-requires
+unfolding none
 lay-requires c =
     let o = opened _ _ c.requires.0 in
-    let l = front (goal.at.lay-requires c).After-no_coefficients-cs in (
-      rw (l, c.first_slot.ensures) (mod-lt _ (omega arith)),
-      rw (l, c.requires.2) o.held,
-      rw l o.valid.width_most,
-      zero_front _ c.no_coefficients-cs.result c.no_coefficients-cs.ensures.1,
-    )
+    let cs = none c.args.header.setting.width in
+    let l = length_none c.args.header.setting.width o.valid.width_most in
+    let first : c.first_slot.result < length cs = rw (l, c.first_slot.ensures) (mod-lt _ (omega arith)) in
+    let held : length c.args.list.now ≤ length cs = rw (l, c.requires.2) o.held in
+    let few : length cs ≤ 255 = rw l o.valid.width_most in
+    let zero : AllZero cs = zero_front _ _ (get_or-zeros 255) in
+    (first, held, few, zero)
 
 pub slice_bounds-cs-end-2 : goal.slice_bounds-cs-end-2
 slice_bounds-cs-end-2 c = rw length-append (omega (arith, filled (goal.at.slice_bounds-cs-end-2 c).After-lay))
@@ -57,8 +60,7 @@ pub combine-requires : goal.combine-requires
 unfolding header_size
 combine-requires c =
     let p = (goal.at.combine-requires c).After-lay in
-    let o = opened _ _ c.requires.0 in
-    (omega arith, rw (lent p, filled p) o.room)
+    (omega arith, rw (lent p, filled p) (opened _ _ c.requires.0).room)
 
 pub returns : goal.returns
 unfolding header_size

@@ -2,7 +2,7 @@
 use Rattle.std.specs.Prelude.{◌≡◌, ◌≤◌, ◌+◌, ◌*◌}
 use Rattle.words.specs.Words.{arith, ℕ, List, length, refl, ◌∙◌, sym, ap, [], get_or}
 use Rattle.memory.specs.Part.{splice}
-use Rattle.memory.proofs.Parts.{cut, put, length_part, length-splice, row_fits}
+use Rattle.memory.proofs.Parts.{cut, put, length-splice, row_fits}
 use Rattle.sender.specs.Inner.{window_in, symbols_from}
 use Rattle.sender.proofs.Combining.{carried_none, carried_more, carried_all, length_symbols, get_or-symbols}
 use Rattle.rows.proofs.Combinations.{length-combination}
@@ -22,39 +22,6 @@ within p =
 
 pub loop-i-init : goal.loop-i-init
 loop-i-init c = (omega arith, refl, carried_none _ _ _)
-
-pub overflow_mul-at : goal.overflow_mul-at
-overflow_mul-at c = omega (arith, inside (goal.at.overflow_mul-at c).In-loop-i)
-
-pub overflow_add-at : goal.overflow_add-at
-overflow_add-at c = omega (arith, inside (goal.at.overflow_add-at c).In-loop-i)
-
-pub overflow_mul-from : goal.overflow_mul-from
-overflow_mul-from c = omega (arith, within (goal.at.overflow_mul-from c).In-loop-i)
-
-pub overflow_add-at-in-loop-i : goal.overflow_add-at-in-loop-i
-overflow_add-at-in-loop-i c = omega (arith, inside (goal.at.overflow_add-at-in-loop-i c).In-loop-i)
-
-pub slice_bounds-repair_symbol-end : goal.slice_bounds-repair_symbol-end
-slice_bounds-repair_symbol-end c = omega (arith, inside (goal.at.slice_bounds-repair_symbol-end c).In-loop-i)
-
-pub overflow_add-from : goal.overflow_add-from
-overflow_add-from c = omega (arith, within (goal.at.overflow_add-from c).In-loop-i)
-
-pub slice_bounds-repair_symbol-end-in-loop-i : goal.slice_bounds-repair_symbol-end-in-loop-i
-slice_bounds-repair_symbol-end-in-loop-i c = omega (arith, within (goal.at.slice_bounds-repair_symbol-end-in-loop-i c).In-loop-i)
-
-pub repair_symbol-requires : goal.repair_symbol-requires
-repair_symbol-requires c =
-    let p = (goal.at.repair_symbol-requires c).In-loop-i in
-    let a = c.args in
-    let l = c.loop-i in
-    let size = a.header.setting.size in
-    let held = a.header.held in (
-      c.requires.0,
-      rw (cut (8 + l.i * size) size l.out) (length_part (8 + l.i * size) size l.out (inside p)),
-      rw (cut (l.i * held) held a.lists.now) (length_part (l.i * held) held a.lists.now (within p)),
-    )
 
 pub loop-i-preserved : goal.loop-i-preserved
 loop-i-preserved c =

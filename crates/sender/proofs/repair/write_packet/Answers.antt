@@ -1,9 +1,9 @@
 -- `sender::repair::write_packet` meets its contract.
 use Rattle.std.specs.Prelude.{◌≤◌, ◌*◌}
 use Rattle.words.specs.Words.{arith, mul-le-mul}
-use Rattle.coefficients.proofs.Fills.{lists_were_done, lists_were_refused}
+use Rattle.coefficients.proofs.Fills.{lists_were_done}
 use Rattle.sender.proofs.Heads.{Opened, opened}
-use Rattle.sender.proofs.Combining.{packed_refused, packed_done}
+use Rattle.sender.proofs.Combining.{packed_done}
 use Rattle.sender.proofs.repair.write_packet.Goals as goal
 use Rattle.sender.proofs.repair.write_packet.Goals.{Start}
 
@@ -33,13 +33,6 @@ fill_lists-requires c =
     let o = says s in
     (omega (arith, fits s, c.room_for_lists-lists.ensures), omega arith, omega arith)
 
-pub returns-in_default : goal.returns-in_default
-returns-in_default c =
-    let a = c.args in
-    packed_refused a.header a.key.0 a.dt a.count a.mem.now a.out.now _
-    c.written_key-written.ensures
-    (lists_were_refused c.fill_lists.ensures c.in_default.is)
-
 pub overflow_cast-held : goal.overflow_cast-held
 overflow_cast-held c = let o = says (goal.at.overflow_cast-held c).Start in omega arith
 
@@ -57,18 +50,12 @@ repair_symbols-requires c =
       omega arith,
     )
 
-pub overflow_mul-written_bytes : goal.overflow_mul-written_bytes
-overflow_mul-written_bytes c = omega (arith, area (goal.at.overflow_mul-written_bytes c).Start)
-
-pub overflow_add-written_bytes : goal.overflow_add-written_bytes
-overflow_add-written_bytes c = omega (arith, area (goal.at.overflow_add-written_bytes c).Start)
-
 pub returns : goal.returns
 returns c =
     let a = c.args in
     let f = c.fill_lists.ensures in
-    let done = lists_were_done f c.in-Done.is in
+    let done = lists_were_done f c.in_ok-draws.was in
     packed_done a.header a.key.0 a.dt a.count a.mem.now a.out.now _
     c.written_key-written.ensures done.0 _ _ _ _ _
-    c.minus.ensures (f.bytes _ c.in-Done.is) c.write_repair.ensures
+    c.minus.ensures (f.bytes _ c.in_ok-draws.was) c.write_repair.ensures
     c.repair_symbols.ensures _ done.1

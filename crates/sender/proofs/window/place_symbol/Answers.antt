@@ -1,6 +1,6 @@
 -- `sender::window::place_symbol` meets its contract.
 use Rattle.std.specs.Prelude.{◌≡◌, ◌+◌, ◌-◌}
-use Rattle.words.specs.Words.{arith, ℕ, List, length, rules, ◌∙◌, ap, drop, take}
+use Rattle.words.specs.Words.{arith, ℕ, List, length, ◌∙◌, ap, drop, take}
 use Rattle.memory.specs.Part.{splice}
 use Rattle.memory.proofs.Parts.{cut, put, length_part}
 use Rattle.sender.proofs.window.place_symbol.Goals as goal
@@ -8,9 +8,6 @@ use Rattle.sender.proofs.window.place_symbol.Goals.{Start}
 
 lent : (p : Start) → length (take (p.args.a + p.args.size - p.args.a) (drop p.args.a p.args.mem.now)) ≡ p.args.size
 lent p = rw (cut p.args.a p.args.size p.args.mem.now) (length_part p.args.a p.args.size p.args.mem.now (omega arith))
-
-pub write_symbol-requires : goal.write_symbol-requires
-write_symbol-requires c = rw (lent (goal.at.write_symbol-requires c).Start) (search rules)
 
 pub returns : goal.returns
 returns c =

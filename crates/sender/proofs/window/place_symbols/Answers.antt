@@ -7,7 +7,7 @@ use Rattle.wire.specs.Packets.{symbol_count, source_symbols}
 use Rattle.wire.proofs.Adui.{symbols_count, symbol_at_lem, symbol_length}
 use Rattle.memory.specs.Part.{splice}
 use Rattle.sender.specs.State.{header_size}
-use Rattle.sender.proofs.Ring.{slot_fits, placed_none, placed_more}
+use Rattle.sender.proofs.Ring.{slot_fits, placed_more}
 use Rattle.sender.proofs.window.place_symbols.Goals as goal
 use Rattle.sender.proofs.window.place_symbols.Goals.{At-loop-i}
 
@@ -27,21 +27,9 @@ inside p =
     let t = setting p in
     slot_fits t.size t.width (omega arith) p.loop-i.mem p.loop-i.slot p.loop-i.invariant.1.within (omega (arith, p.loop-i.invariant.1.same))
 
-pub loop-i-init : goal.loop-i-init
-loop-i-init c = (omega arith, placed_none _ _ _ _ (omega arith))
-
-pub overflow_mul-slot : goal.overflow_mul-slot
-overflow_mul-slot c = omega (arith, bound (goal.at.overflow_mul-slot c).At-loop-i)
-
-pub overflow_add-slot : goal.overflow_add-slot
-overflow_add-slot c = omega (arith, bound (goal.at.overflow_add-slot c).At-loop-i)
-
 pub place_symbol-requires : goal.place_symbol-requires
 unfolding header_size
 place_symbol-requires c = omega (arith, inside (goal.at.place_symbol-requires c).At-loop-i)
-
-pub next-slot-requires : goal.next-slot-requires
-next-slot-requires c = omega (arith, c.loop-i.invariant.1.within)
 
 pub loop-i-preserved : goal.loop-i-preserved
 unfolding header_size

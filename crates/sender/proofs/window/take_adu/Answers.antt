@@ -25,13 +25,13 @@ pub write_counts-requires : goal.write_counts-requires
 write_counts-requires c =
     let o = says (goal.at.write_counts-requires c).Start in
     let p = c.place_symbols-next.ensures in
-    omega (arith, header-room, p.same, p.within, c.least-held.ensures)
+    omega (arith, header-room, p.same, p.within, c.min-held.ensures)
 
 pub returns : goal.returns
 returns c =
     let a = c.args in
     let p = c.place_symbols-next in
-    let held = c.least-held in
+    let held = c.min-held in
     let e = rw c.plus.ensures at c.write_counts.ensures in
     rw e
     (took a.header a.flow a.adu.now a.mem.now p.new.mem p.result a.count held.result c.requires.0 c.requires.1.counted
