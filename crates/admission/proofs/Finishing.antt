@@ -3,7 +3,7 @@
 --   the new header: rebased, rebased_length, rebased_front, rebased_past, rebased_row, rebased_esi, rebased_window
 --   the state after the packet: finished
 use Rattle.std.specs.Prelude.{◌≡◌, ◌≤◌, ◌+◌, ◌<◌, ◌-◌, ◌%◌, ◌^◌}
-use Rattle.words.specs.Words.{arith, ℕ, length, List, refl, ◌∙◌, sym, ap, some, get_or, subst, drop, take, get_or-take, get_or-drop}
+use Rattle.words.specs.Words.{arith, ℕ, length, List, refl, ◌∙◌, sym, ap, Some, get_or, subst, drop, take, get_or-take, get_or-drop}
 use Rattle.words.specs.Words.{mod-lt}
 use lib.Seq.{take-take}
 use Rattle.memory.specs.Part.{part, splice}
@@ -40,7 +40,7 @@ use Rattle.table.specs.Window as window
 
 -- The equations that a system takes leave it reduced.
 taken_reduced : (w E rise : ℕ) (S T : model.State (Coded E) w) (es : List (model.Row (Coded E) w)) → 0 < E → model.Rref S
-    → decoder.insert_all es (decoder.advance_by rise S) ≡ some T → model.Rref T
+    → decoder.insert_all es (decoder.advance_by rise S) ≡ Some T → model.Rref T
 taken_reduced w E rise S T es pos r e =
     (subst (history.AddedAll (laws E pos) (decoder.advance_by rise S) es) e
     (history.insert_all_added (laws E pos) es (decoder.advance_by rise S) (history.advance_by_rref (laws E pos) rise S r))).0
@@ -111,7 +111,7 @@ module _ (h : Header) (location : Location) (kept count esi : ℕ) (work m m₁ 
   -- The memory holds the state with the base that was stored.
   held : (s : Setting) (t : Joined s) (T : model.State (Coded s.size) s.width) → h ≡ header_from s t → model.Rref T
       → location.shape.oldest ≡ (t.base + location.rise) % s.width → window.Window s.width s.size m₁ (t.base + location.rise) T
-      → Holds m' s (some (record { base = t.base + location.rise; window = T }))
+      → Holds m' s (Some (record { base = t.base + location.rise; window = T }))
   unfolding header_size window.stride
   held s t T is reduced row v =
       let b = location.shape.oldest in
@@ -125,14 +125,14 @@ module _ (h : Header) (location : Location) (kept count esi : ℕ) (work m m₁ 
       let front : take 8 (rebased n esi m₁) ≡ take 8 m =
       rebased_front n esi m₁ l ∙ sym (take-take 8 header_size m₁ (omega (arith, header-long))) ∙ ap (take 8) f.unchanged.header ∙ take-take 8 header_size m
       (omega (arith, header-long)) in
-      let set : setting_in 2 (rebased n esi m₁) ≡ some s =
-      setting_kept 2 (rebased n esi m₁) m front ∙ has.setting ∙ ap some same in
+      let set : setting_in 2 (rebased n esi m₁) ≡ Some s =
+      setting_kept 2 (rebased n esi m₁) m front ∙ has.setting ∙ ap Some same in
       let at : row_in (rebased n esi m₁) ≡ (t.base + location.rise) % s.width + 1 = rebased_row n esi m₁ l (omega arith) ∙ ap (λ x. x + 1) row in
       let at_esi : number (part 12 4 (rebased n esi m₁)) ≡ (t.base + location.rise) % 2 ^ 32 = rebased_esi n esi m₁ l (omega (arith, e)) ∙ e in
-      let head : header_in (rebased n esi m₁) ≡ some (header_from s (record { base = t.base + location.rise; window = T })) =
+      let head : header_in (rebased n esi m₁) ≡ Some (header_from s (record { base = t.base + location.rise; window = T })) =
       found-joined (rebased n esi m₁) s set _ _ (omega (arith, whole, f.unchanged.size, rebased_length n esi m₁ l))
       (mod-lt (t.base + location.rise) fits.some_width) at at_esi in
-      subst (λ x. Holds x s (some (record { base = t.base + location.rise; window = T }))) (sym stored)
+      subst (λ x. Holds x s (Some (record { base = t.base + location.rise; window = T }))) (sym stored)
       (record {
         header = head;
         rows = record { reduced = reduced; rows = rebased_window n esi m₁ l s.width s.size (t.base + location.rise) T fits v };

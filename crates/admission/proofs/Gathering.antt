@@ -1,11 +1,11 @@
 -- A packet's equations, admitted one after the other: what one more makes of them, and what all come to.
 -- Laws:
 --   memories: contained_none, contained_more, contained_from, contained_past, contained_row
---   a stored symbol: stored-only, works_stored, stored_is
+--   a stored symbol: symbol_room, stored-only, works_stored, stored_is
 --   one equation: equation_admitted, stored_admitted
 --   all equations: firsts_same, firsts-cons, contradiction_stays, gathers_none, gathers_on, gathers_stop, gathers_all
 use Rattle.std.specs.Prelude.{◌≡◌, ◌≤◌, ◌+◌, ◌<◌, ◌∷◌, ◌++◌, ◌-◌}
-use Rattle.words.specs.Words.{arith, ℕ, length, List, refl, ◌∙◌, sym, ap, [], suc, zero, none, get_or, subst, ap₂}
+use Rattle.words.specs.Words.{arith, ℕ, length, List, refl, ◌∙◌, sym, ap, [], suc, zero, None, get_or, subst, ap₂, Option, Some}
 use Rattle.words.specs.Words.{ℕ_discrete, drop, drop-drop, length-drop, ext_get_or, get_or-drop}
 use Rattle.memory.specs.Part.{splice}
 use Rattle.memory.proofs.Parts.{get_or-part, get_or-within, row_fits}
@@ -15,14 +15,13 @@ use Rattle.decoder.proofs.Jump.{insert_all_append}
 use Rattle.gather.specs.declared.Verdict.{Verdict}
 use Rattle.table.specs.Window.{stride, row_offset, row, equation}
 use Rattle.gather.specs.Gather.{Only, LaidIn, Admitted, Agrees, count_kept}
+use Rattle.table.specs.RowSteps.{SymbolAt}
 use Rattle.table.proofs.Offsets.{flags_fit}
 use Rattle.gather.proofs.Framing.{only_trans, only_wider, only-splice, works_only, row_room}
 use Rattle.gather.proofs.Admitting.{gathered_only, gathered_none}
 use Rattle.gather.proofs.Laying.{laid_symbol}
 use Rattle.gather.proofs.Spelling.{symbol_moved}
 use Rattle.admission.specs.declared.packet.Location.{Location}
-use Rattle.admission.specs.declared.packet.Gathered.{Gathered}
-use Rattle.admission.specs.declared.packet.Gathered.TheVariants.{All, Contradiction}
 use Rattle.history.specs.Symbol.{symbol_of}
 use Rattle.memory.specs.Contained.{Contained}
 use Rattle.admission.specs.Steps.{gathered_by, Comes, WorksOn, Spells, firsts, Lies, EquationAdmitted, Admits, Gathers}
@@ -64,6 +63,10 @@ contained_row w E k z m m' h l f =
     record { same = o.size; past = o.past }
 
 -- ---- A symbol stored in a row of working memory
+
+-- The place of a row's symbol lies in working memory.
+pub symbol_room : (w E k : ℕ) (at : ℕ) (work : List ℕ) → SymbolAt w E k at → packet.Works w E k work → at + E ≤ length work
+symbol_room w E k at work start room = omega (arith, start.start, row_room w E k work room)
 
 -- Bytes that were stored as a row's symbol are its symbol.
 stored_symbol : (w E k : ℕ) (x work : List ℕ) → length x ≡ E → row_offset w E k + w ≤ length work
@@ -138,7 +141,7 @@ module _ (at : Location) (kept first : ℕ) (cs : List ℕ) (v : Verdict) (m wor
 
 -- An equation e of a packet of n positions from the d-th of the window on, whose symbol x was stored in the row before, and whose coefficients
 -- `cs` are of the positions from the `to d`-th on.
-pub stored_admitted : (at : Location) (kept first n : ℕ) (cs x m work work₁ work' : List ℕ) (r : Gathered)
+pub stored_admitted : (at : Location) (kept first n : ℕ) (cs x m work work₁ work' : List ℕ) (r : Option ℕ)
     (e : ℕ → model.Row (Coded at.shape.size) at.shape.width) (to : ℕ → ℕ)
     → packet.Works at.shape.width at.shape.size kept work → length x ≡ at.shape.size
     → work₁ ≡ splice (row_offset at.shape.width at.shape.size kept + at.shape.width) x work → EquationAdmitted at kept first cs r m work₁ work'
@@ -173,19 +176,19 @@ firsts-cons g (suc n) = ap (λ l. l ++ (g (suc n) ∷ [])) (firsts-cons g n)
 
 -- A contradiction stays one.
 pub contradiction_stays : (w E : ℕ) (S : model.State (Coded E) w) (g : ℕ → model.Row (Coded E) w) (i n : ℕ) → i ≤ n
-    → decoder.insert_all (firsts g i) S ≡ none → decoder.insert_all (firsts g n) S ≡ none
+    → decoder.insert_all (firsts g i) S ≡ None → decoder.insert_all (firsts g n) S ≡ None
 unfolding firsts
 contradiction_stays w E S g i zero h e =
     let z : i ≡ 0 = omega arith in
-    subst (λ k. decoder.insert_all (firsts g k) S ≡ none) z e
+    subst (λ k. decoder.insert_all (firsts g k) S ≡ None) z e
 contradiction_stays w E S g i (suc n) h e = go (ℕ_discrete i (suc n)) (λ l. contradiction_stays w E S g i n l e)
   where
-    go : Dec (i ≡ suc n) → (i ≤ n → decoder.insert_all (firsts g n) S ≡ none) → decoder.insert_all (firsts g (suc n)) S ≡ none
-    go (yes q) ih = subst (λ k. decoder.insert_all (firsts g k) S ≡ none) q e
+    go : Dec (i ≡ suc n) → (i ≤ n → decoder.insert_all (firsts g n) S ≡ None) → decoder.insert_all (firsts g (suc n)) S ≡ None
+    go (yes q) ih = subst (λ k. decoder.insert_all (firsts g k) S ≡ None) q e
     go (no q) ih = insert_all_append (firsts g n) (g n ∷ []) S ∙ ap (λ o. decoder.and_then o (λ T. decoder.insert_all (g n ∷ []) T)) (ih (omega arith))
 
 module _ (at : Location) (n : ℕ) (g : ℕ → ℕ → model.Row (Coded at.shape.size) at.shape.width) (m work : List ℕ) where
-  pub gathers_none : packet.Works at.shape.width at.shape.size 0 work → Gathers at n g 0 (All 0) m work work
+  pub gathers_none : packet.Works at.shape.width at.shape.size 0 work → Gathers at n g 0 (Some 0) m work work
   unfolding firsts
   gathers_none f = record {
     contained = contained_none;
@@ -194,7 +197,7 @@ module _ (at : Location) (n : ℕ) (g : ℕ → ℕ → model.Row (Coded at.shap
   }
 
   -- One turn, by the answer about the i-th equation.
-  gathers_more : (i kept : ℕ) (r : Gathered) (work₁ work₂ : List ℕ) → Gathers at n g i (All kept) m work work₁
+  gathers_more : (i kept : ℕ) (r : Option ℕ) (work₁ work₂ : List ℕ) → Gathers at n g i (Some kept) m work work₁
       → Admits at n (λ d. g d i) kept r m work₁ work₂ → Gathers at n g (i + 1) r m work work₂
   unfolding firsts
   gathers_more i kept r work₁ work₂ f a = record {
@@ -206,7 +209,7 @@ module _ (at : Location) (n : ℕ) (g : ℕ → ℕ → model.Row (Coded at.shap
         (a.outcome b d S (firsts (g d) i) lies held reduced (f.outcome b d S lies held reduced));
   }
 
-  stops : (i k : ℕ) (work₁ : List ℕ) → i ≤ k → Gathers at n g i Contradiction m work work₁ → Gathers at n g k Contradiction m work work₁
+  stops : (i k : ℕ) (work₁ : List ℕ) → i ≤ k → Gathers at n g i None m work work₁ → Gathers at n g k None m work work₁
   stops i k work₁ h f = record {
     contained = f.contained;
     works = tt;
@@ -215,14 +218,14 @@ module _ (at : Location) (n : ℕ) (g : ℕ → ℕ → model.Row (Coded at.shap
   }
 
   -- The loop goes on where the equation is not refused, and ends where it is.
-  pub gathers_on : (i kept kept' : ℕ) (r : Gathered) (work₁ work₂ : List ℕ) → Gathers at n g i (All kept) m work work₁
-      → Admits at n (λ d. g d i) kept r m work₁ work₂ → r ≡ All kept' → Gathers at n g (i + 1) (All kept') m work work₂
+  pub gathers_on : (i kept kept' : ℕ) (r : Option ℕ) (work₁ work₂ : List ℕ) → Gathers at n g i (Some kept) m work work₁
+      → Admits at n (λ d. g d i) kept r m work₁ work₂ → r ≡ Some kept' → Gathers at n g (i + 1) (Some kept') m work work₂
   gathers_on i kept kept' r work₁ work₂ f a e = subst (λ x. Gathers at n g (i + 1) x m work work₂) e (gathers_more i kept r work₁ work₂ f a)
 
-  pub gathers_stop : (i k kept : ℕ) (r : Gathered) (work₁ work₂ : List ℕ) → i < k → Gathers at n g i (All kept) m work work₁
-      → Admits at n (λ d. g d i) kept r m work₁ work₂ → r ≡ Contradiction → Gathers at n g k Contradiction m work work₂
+  pub gathers_stop : (i k kept : ℕ) (r : Option ℕ) (work₁ work₂ : List ℕ) → i < k → Gathers at n g i (Some kept) m work work₁
+      → Admits at n (λ d. g d i) kept r m work₁ work₂ → r ≡ None → Gathers at n g k None m work work₂
   gathers_stop i k kept r work₁ work₂ h f a e =
       stops (i + 1) k work₂ (omega arith) (subst (λ x. Gathers at n g (i + 1) x m work work₂) e (gathers_more i kept r work₁ work₂ f a))
 
-  pub gathers_all : (i k kept : ℕ) (work₁ : List ℕ) → i ≡ k → Gathers at n g i (All kept) m work work₁ → Gathers at n g k (All kept) m work work₁
-  gathers_all i k kept work₁ e f = subst (λ j. Gathers at n g j (All kept) m work work₁) e f
+  pub gathers_all : (i k kept : ℕ) (work₁ : List ℕ) → i ≡ k → Gathers at n g i (Some kept) m work work₁ → Gathers at n g k (Some kept) m work work₁
+  gathers_all i k kept work₁ e f = subst (λ j. Gathers at n g j (Some kept) m work work₁) e f

@@ -1,6 +1,6 @@
 -- The header for a packet: with a base it is the receiver's own, and without one the packet's first ESI is the base.
-use Rattle.std.specs.Prelude.{◌≡◌, ◌<◌, ◌%◌, ◌^◌}
-use Rattle.words.specs.Words.{arith, ℕ, List, sym, ap, some, true, none, false, Bool, cond, ap₂, mod-eq_of_lt, mod-lt}
+use Rattle.std.specs.Prelude.{◌≡◌, ◌<◌, ◌%◌}
+use Rattle.words.specs.Words.{arith, ℕ, List, ap, Some, true, None, false, Bool, cond, mod-lt}
 use Rattle.wire.specs.declared.Setting.{Setting}
 use Rattle.wire.specs.Settings.{Valid}
 use Rattle.decoder.proofs.Bytes.{laws}
@@ -14,23 +14,8 @@ use Rattle.holding.proofs.Headers.{headed, setting_fits, header_held}
 use Rattle.decoder.proofs.History as history
 use Rattle.origins.specs.Origins as origins
 
--- The header for a packet, with a base and without.
-pub for_joined : (h : Header) (e : ℕ) → h.joined ≡ true → h ≡ header_for h e
-for_joined h e j =
-    ap₂
-    (λ (t u : Bool). record {
-      setting = h.setting;
-      joined = t;
-      oldest = cond u h.oldest (e % h.setting.width);
-      esi = cond u h.esi (record { 0 = e % 2 ^ 32 });
-    }) j (sym j)
-
-pub for_fresh : (h : Header) (e : ℕ) → h.joined ≡ false → e < 2 ^ 32
-    → record { setting = h.setting; joined = true; oldest = e % h.setting.width; esi = record { 0 = e } } ≡ header_for h e
-for_fresh h e j small = rw (j, mod-eq_of_lt small)
-
 -- The memory has the setting and the room of the header for a packet.
-pub based : (m : List ℕ) (h : Header) (e : ℕ) → header_in m ≡ some h → Based m (header_for h e)
+pub based : (m : List ℕ) (h : Header) (e : ℕ) → header_in m ≡ Some h → Based m (header_for h e)
 based m h e k =
     let g = headed m h k in
     record { setting = g.setting; valid = g.valid; room = g.room; row_lt = row h.joined g.row_lt g.valid }
@@ -43,17 +28,17 @@ pub based_fits : (m : List ℕ) (h : Header) → Based m h → Fits h.setting.wi
 based_fits m h k = setting_fits h.setting m k.valid k.room
 
 -- For a packet whose first ESI is e, the header is that of the receiver as the packet finds it, whose rows the memory has.
-pub found-header : (m : List ℕ) (h : Header) (s : Setting) (t : State s) (e : ℕ) → header_in m ≡ some h → Holds m s t
+pub found-header : (m : List ℕ) (h : Header) (s : Setting) (t : State s) (e : ℕ) → header_in m ≡ Some h → Holds m s t
     → header_for h e ≡ header_from s (found_by s t e)
-found-header m h s none e k d = ap (λ (x : Header). header_for x e) (header_held m h s none k d)
-found-header m h s (some t) e k d = ap (λ (x : Header). header_for x e) (header_held m h s (some t) k d)
+found-header m h s None e k d = ap (λ (x : Header). header_for x e) (header_held m h s None k d)
+found-header m h s (Some t) e k d = ap (λ (x : Header). header_for x e) (header_held m h s (Some t) k d)
 
 pub found_stands : (m : List ℕ) (s : Setting) (t : State s) (e : ℕ) → 0 < s.size → Holds m s t → Stands m s (found_by s t e)
-found_stands m s none e z d = record { reduced = history.empty_rref (laws s.size z) s.width; rows = d.rows e }
-found_stands m s (some t) e z d = d.rows
+found_stands m s None e z d = record { reduced = history.empty_rref (laws s.size z) s.width; rows = d.rows e }
+found_stands m s (Some t) e z d = d.rows
 
 -- And what it says is heard.
 pub found_hears : (m : List ℕ) (s : Setting) (t : State s) (e : ℕ) (H : Origins) → Hears m s t H
     → origins.Hears s.width s.size (found_by s t e).base m H
-found_hears m s none e H k = k e
-found_hears m s (some t) e H k = k
+found_hears m s None e H k = k e
+found_hears m s (Some t) e H k = k

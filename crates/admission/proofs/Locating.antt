@@ -1,41 +1,55 @@
--- Where a packet lies by the header is where it lies by every base that the header is of.
-use Rattle.std.specs.Prelude.{◌≡◌, ◌≤◌, ◌+◌, ◌<◌, ◌%◌, ◌^◌, ◌≢◌}
-use Rattle.words.specs.Words.{arith, ℕ, refl, ◌∙◌, sym, ap, true, false, Bool, subst, le-leb, leb-true, lt-leb, leb, cond}
+-- Where a packet lies by the header is where it lies by every base that the header is of; and what an answer that was handed on says.
+-- Laws:
+--   answers: cond_ok, cond_err, handed_on, some_of, none_of
+--   the place: found_behind, found_ahead, found_location, FoundAt, found_at, at_side, out_side, out_other
+use Rattle.std.specs.Prelude.{◌≡◌, ◌≤◌, ◌+◌, ◌<◌, ◌%◌, ◌^◌, ◌≢◌, Result, Ok, Err}
+use Rattle.std.specs.Option.{ok_or}
+use Rattle.std.specs.Result.{IsErrAnd}
+use Rattle.words.specs.Words.{arith, ℕ, refl, ◌∙◌, ap, true, false, Bool, subst, le-leb, leb-true, lt-leb, leb, cond, Option, Some, None}
 use Rattle.wire.specs.declared.Refusal.{Refusal}
 use Rattle.wire.specs.declared.Refusal.TheVariants.{Behind, Ahead}
 use Rattle.wire.specs.Numbers.{distance_of, number_of}
 use Rattle.holding.specs.declared.Header.{Header}
 use Rattle.admission.specs.declared.packet.Location.{Location}
-use Rattle.admission.specs.declared.packet.LocationFound.{LocationFound}
-use Rattle.admission.specs.declared.packet.LocationFound.TheVariants.{LocationIs, Out}
 use Rattle.history.specs.History.{Side, behind, ahead, side_of, Reading, fails, check, farthest, from_side}
 use Rattle.history.proofs.Sides.{side_same, ahead_by}
 use Rattle.admission.specs.Steps.{location_at, location_on, location_found}
 
-abbrev location_in : Location → LocationFound → Location
-location_in p (LocationIs q) = q
-location_in p (Out r) = p
+-- An answer by a test.
+pub cond_ok : {A E : Type 0} (t : Bool) (a : A) (e : E) {x : A} → Ok x ≡ cond t (Ok a) (Err e) → (t ≡ true) × (x ≡ a)
+cond_ok true a e q = (refl, cc)
+cond_ok false a e q = (cc, cc)
 
-abbrev IsPlace : LocationFound → Type 0
-IsPlace (LocationIs p) = Unit {0}
-IsPlace (Out r) = ⊥
+pub cond_err : {A E : Type 0} (t : Bool) (a : A) (e : E) {x : E} → Err x ≡ cond t (Ok a) (Err e) → (t ≡ false) × (x ≡ e)
+cond_err true a e q = (cc, cc)
+cond_err false a e q = (refl, cc)
 
-abbrev refusal_in : LocationFound → Refusal
-refusal_in (LocationIs p) = Behind
-refusal_in (Out r) = r
+-- What a `?` hands on.
+pub handed_on : {T E : Type 0} {r : Result T E} {w : E} → IsErrAnd r (λ y. y ≡ w) → r ≡ Err w
+handed_on {r = Ok x} h = absurd h
+handed_on {r = Err y} h = rw h
+
+-- What `ok_or` was given, by its answer.
+pub some_of : {T E : Type 0} {o : Option T} {r : Result T E} {x : T} (e : E) → r ≡ ok_or o e → r ≡ Ok x → o ≡ Some x
+some_of {o = None} e f g = cc
+some_of {o = Some y} e f g = cc
+
+pub none_of : {T E : Type 0} {o : Option T} {r : Result T E} {e y : E} → r ≡ ok_or o e → r ≡ Err y → (o ≡ None) × (y ≡ e)
+none_of {o = None} f g = (refl, cc)
+none_of {o = Some x} f g = (cc, cc)
 
 -- What `locate` finds, by the side.
 module _ (h : Header) (e n : ℕ) where
-  pub found_behind : side_of h.esi.0 e ≡ behind → Out Behind ≡ location_found h e n
+  pub found_behind : side_of h.esi.0 e ≡ behind → Err Behind ≡ location_found h e n
   unfolding location_found
   found_behind s = rw s
 
   module _ (d : ℕ) (s : side_of h.esi.0 e ≡ ahead d) where
-    pub found_ahead : farthest < d + n → Out Ahead ≡ location_found h e n
+    pub found_ahead : farthest < d + n → Err Ahead ≡ location_found h e n
     unfolding location_found
     found_ahead l = rw (s, lt-leb (d + n) farthest l)
 
-    pub found_location : d + n ≤ farthest → LocationIs (location_at h d n) ≡ location_found h e n
+    pub found_location : d + n ≤ farthest → Ok (location_at h d n) ≡ location_found h e n
     unfolding location_found
     found_location l = rw (s, le-leb (d + n) farthest l)
 
@@ -50,24 +64,20 @@ module _ (h : Header) (e n : ℕ) where
     pub side : side_of h.esi.0 e ≡ ahead distance
     pub fits : distance + n ≤ farthest
 
-  pub found_at : (p : Location) → LocationIs p ≡ location_found h e n → FoundAt p
+  pub found_at : (p : Location) → Ok p ≡ location_found h e n → FoundAt p
   unfolding location_found
   found_at p q = on (side_of h.esi.0 e) refl q
     where
-      far : (d : ℕ) → side_of h.esi.0 e ≡ ahead d → (t : Bool) → leb (d + n) farthest ≡ t → LocationIs p ≡ cond t (LocationIs (location_at h d n)) (Out Ahead)
-          → FoundAt p
-      far d s false l k = absurd (subst IsPlace k tt)
-      far d s true l k =
+      on : (s : Side) → side_of h.esi.0 e ≡ s → Ok p ≡ location_on h n s → FoundAt p
+      on behind s k = cc
+      on (ahead d) s k =
+          let (l, at) = cond_ok (leb (d + n) farthest) _ _ k in
           let i = (ahead_by h.esi.0 e d s).is in
           record {
-            at = ap (location_in p) k ∙ ap (λ x. location_at h x n) i;
+            at = at ∙ ap (λ x. location_at h x n) i;
             side = s ∙ ap ahead i;
             fits = subst (λ x. x + n ≤ farthest) i (leb-true (d + n) farthest l);
           }
-
-      on : (s : Side) → side_of h.esi.0 e ≡ s → LocationIs p ≡ location_on h n s → FoundAt p
-      on behind s k = absurd (subst IsPlace k tt)
-      on (ahead d) s k = far d s (leb (d + n) farthest) refl k
 
   -- Of every base with the header's ESI, that is the packet's place by the history.
   module _ (b : ℕ) (esi : b % 2 ^ 32 ≡ h.esi.0) (next : ℕ → Reading) where
@@ -78,26 +88,18 @@ module _ (h : Header) (e n : ℕ) where
     unfolding from_side check
     at_side p l = rw (same_side, l.side, le-leb (distance + n) farthest l.fits)
 
-    pub out_side : (r : Refusal) → Out r ≡ location_found h e n → from_side n (side_of b e) next ≡ fails (number_of r)
+    pub out_side : (r : Refusal) → Err r ≡ location_found h e n → from_side n (side_of b e) next ≡ fails (number_of r)
     unfolding location_found from_side check
     out_side r q = rw same_side (on (side_of h.esi.0 e) q)
       where
-        far : (d : ℕ) (t : Bool) → Out r ≡ cond t (LocationIs (location_at h d n)) (Out Ahead) → check t 9 (next d) ≡ fails (number_of r)
-        far d true k = absurd (subst IsPlace (sym k) tt)
-        far d false k = ap (λ x. fails (number_of (refusal_in x))) (sym k)
+        on : (s : Side) → Err r ≡ location_on h n s → from_side n s next ≡ fails (number_of r)
+        on behind k = let z : r ≡ Behind = cc in rw z refl
+        on (ahead d) k = let (l, z) = cond_err (leb (d + n) farthest) _ _ k in rw (z, l) refl
 
-        on : (s : Side) → Out r ≡ location_on h n s → from_side n s next ≡ fails (number_of r)
-        on behind k = ap (λ x. fails (number_of (refusal_in x))) (sym k)
-        on (ahead d) k = far d (leb (d + n) farthest) k
-
-  pub out_other : (r : Refusal) → Out r ≡ location_found h e n → number_of r ≢ 3
+  pub out_other : (r : Refusal) → Err r ≡ location_found h e n → number_of r ≢ 3
   unfolding location_found
   out_other r q = on (side_of h.esi.0 e) q
     where
-      far : (d : ℕ) (t : Bool) → Out r ≡ cond t (LocationIs (location_at h d n)) (Out Ahead) → number_of r ≢ 3
-      far d true k = absurd (subst IsPlace (sym k) tt)
-      far d false k = subst (λ x. number_of (refusal_in x) ≢ 3) (sym k) (λ z. omega arith)
-
-      on : (s : Side) → Out r ≡ location_on h n s → number_of r ≢ 3
-      on behind k = subst (λ x. number_of (refusal_in x) ≢ 3) (sym k) (λ z. omega arith)
-      on (ahead d) k = far d (leb (d + n) farthest) k
+      on : (s : Side) → Err r ≡ location_on h n s → number_of r ≢ 3
+      on behind k = let z : r ≡ Behind = cc in rw z (λ y. omega arith)
+      on (ahead d) k = let (_, z) = cond_err (leb (d + n) farthest) _ _ k in rw z (λ y. omega arith)

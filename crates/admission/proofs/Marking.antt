@@ -5,7 +5,7 @@
 --   marks not changed: same_marks
 --   a packet's rows have joined: update_asks, count_asks, count_again, followed
 use Rattle.std.specs.Prelude.{◌≡◌, ◌≤◌, ◌+◌, ◌<◌, ◌-◌, ◌%◌, ◌≢◌}
-use Rattle.words.specs.Words.{arith, ℕ, length, List, refl, ◌∙◌, sym, ap, some, none, get_or, false, Bool, subst, Option, ltb}
+use Rattle.words.specs.Words.{arith, ℕ, length, List, refl, ◌∙◌, sym, ap, Some, None, get_or, false, Bool, subst, Option, ltb}
 use Rattle.words.specs.Words.{ext_get_or, ap₂, dec_lt, mod-add-mod, mod-lt}
 use Rattle.memory.specs.Part.{part}
 use Rattle.memory.proofs.Parts.{length_part, get_or-part}
@@ -62,8 +62,8 @@ module _ (w E : ℕ) (m m' : List ℕ) (o : SameState w E m m') (long : 16 ≤ l
   setting_same = setting_kept 2 m' m (part_kept 0 8 (omega arith) (λ i l. ((λ e. omega arith), (λ e. omega arith))))
 
   head_same : (s : Option Setting) → header_with m' s ≡ header_with m s
-  head_same none = refl
-  head_same (some s) =
+  head_same None = refl
+  head_same (Some s) =
       let row = part_kept 8 2 (omega arith) (λ i l. ((λ e. omega arith), (λ e. omega arith))) in
       let esi = part_kept 12 4 (omega arith) (λ i l. ((λ e. omega arith), (λ e. omega arith))) in
       rw (o.size, row, esi)
@@ -73,8 +73,8 @@ module _ (w E : ℕ) (m m' : List ℕ) (o : SameState w E m m') (long : 16 ≤ l
   header_same = ap (header_with m') setting_same ∙ head_same (setting_in 2 m)
 
 rows_same : (s : Setting) (t : State s) (m m' : List ℕ) → 0 < s.width → Rows m s t → SameState s.width s.size m m' → Rows m' s t
-rows_same s none m m' pos k o = λ b. window_same s.width s.size m m' pos (λ r l i n. o.rows r i l n) b _ (k b)
-rows_same s (some t) m m' pos k o = record {
+rows_same s None m m' pos k o = λ b. window_same s.width s.size m m' pos (λ r l i n. o.rows r i l n) b _ (k b)
+rows_same s (Some t) m m' pos k o = record {
   reduced = k.reduced;
   rows = window_same s.width s.size m m' pos (λ r l i n. o.rows r i l n) t.base t.window k.rows;
 }
@@ -167,8 +167,8 @@ module _ (h : Header) (at : Location) (kept own count had has : ℕ) (others : B
 
   module _ (s : Setting) (t : Joined s) (es : List (model.Row (Coded s.size) s.width)) (is : h ≡ header_from s t) (k : Stands m s t)
       (row : at.shape.oldest ≡ (t.base + at.rise) % s.width) (T : model.State (Coded s.size) s.width)
-      (inserted : decoder.insert_all es (decoder.advance_by at.rise t.window) ≡ some T)
-      (held : Holds m₁ s (some (record { base = t.base + at.rise; window = T })))
+      (inserted : decoder.insert_all es (decoder.advance_by at.rise t.window) ≡ Some T)
+      (held : Holds m₁ s (Some (record { base = t.base + at.rise; window = T })))
       (counted : count ≡ decoder.newly t (record { base = t.base + at.rise; window = T })) where
     fits : window.Fits s.width s.size m
     fits = subst (λ (x : Header). window.Fits x.setting.width x.setting.size m) is (based_fits m h head)
@@ -206,7 +206,7 @@ module _ (h : Header) (at : Location) (kept own count had has : ℕ) (others : B
         let v = subst (λ (x : Header). marks.OnlyStarts x.setting.width x.setting.size m₁ m₂) is u'.only in (
           T,
           i,
-          starts_holds s (some (record { base = t.base + at.rise; window = T })) m₁ m₂ held v,
+          starts_holds s (Some (record { base = t.base + at.rise; window = T })) m₁ m₂ held v,
           n,
           marks_after s t es is k row T i held n,
         );
@@ -217,7 +217,7 @@ module _ (h : Header) (at : Location) (kept own count had has : ℕ) (others : B
     marked,
     (λ k l. u'.only.others k (past_no_mark h.setting.width h.setting.size k l) (λ e. omega (arith, header-long, e)) ∙ f.past k l),
     λ k l g.
-        let none = header_no_mark h.setting.width h.setting.size k (omega (arith, header-long)) (λ e. omega (arith, e)) in
-        u'.only.others k none (λ e. omega (arith, e))
+        let None = header_no_mark h.setting.width h.setting.size k (omega (arith, header-long)) (λ e. omega (arith, e)) in
+        u'.only.others k None (λ e. omega (arith, e))
         ∙ f.flows k l g,
   )

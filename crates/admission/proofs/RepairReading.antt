@@ -2,12 +2,11 @@
 -- Laws:
 --   its fields: sized
 --   the reading: repair_form_lem, repair_range, repair_out, repair_draws, repair_passed
-use Rattle.std.specs.Prelude.{◌≡◌, ◌≤◌, ◌+◌, ◌%◌, ◌*◌, ◌++◌, ◌^◌}
-use Rattle.words.specs.Words.{arith, ℕ, length, List, refl, ◌∙◌, sym, ap, some, true, false, Bool, drop, eqb-true, le-leb}
+use Rattle.std.specs.Prelude.{◌≡◌, ◌≤◌, ◌+◌, ◌%◌, ◌*◌, ◌++◌, ◌^◌, Ok, Err}
+use Rattle.words.specs.Words.{arith, ℕ, length, List, refl, ◌∙◌, sym, ap, Some, true, false, Bool, drop, eqb-true, le-leb}
 use Rattle.words.specs.Words.{leb, mul-le-mul}
 use Rattle.wire.specs.declared.Refusal.{Refusal}
 use Rattle.wire.specs.declared.RepairFields.{RepairFields}
-use Rattle.wire.specs.declared.RepairHeader.TheVariants.{Repair, NoRepair}
 use Rattle.wire.specs.Numbers.{within}
 use Rattle.wire.specs.Packets.{joined, chunks, repair_count, repair_form, repair_key, density_threshold, protected_count, first_esi, repair_symbols}
 use Rattle.wire.specs.Flows.{flows_in}
@@ -15,37 +14,29 @@ use Rattle.wire.specs.Headers.{repair_fields, repair_header_of}
 use Rattle.wire.proofs.Adui.{length-chunks}
 use Rattle.wire.proofs.Settings.{both, within_bounds}
 use Rattle.coefficients.specs.Coefficients.{keys, lists_of, all_ok, draws_of, packet_draws}
+use Rattle.coefficients.specs.Promises.{filled_of}
 use Rattle.coefficients.proofs.Lists.{length-keys, packet_draws_most}
 use Rattle.coefficients.proofs.Fills.{lists_cut}
 use Rattle.holding.specs.declared.Header.{Header}
 use Rattle.holding.specs.Header.{header_in}
 use Rattle.history.specs.History.{Located, repair, Call, repair-call, Reading, located, check, side_of, from_side, working_size, read_repair, reading}
 use Rattle.admission.specs.declared.packet.Location.{Location}
-use Rattle.admission.specs.declared.packet.LocationFound.TheVariants.{LocationIs, Out}
 use Rattle.admission.specs.Joining.{header_for}
 use Rattle.admission.specs.Steps.{location_found}
 use Rattle.admission.specs.Reading.{Failed, coefficient_lists, RepairPassed}
 use Rattle.holding.proofs.Headers.{headed}
-use Rattle.admission.proofs.Locating.{distance}
+use Rattle.admission.proofs.Locating.{cond_ok, cond_err, distance}
 use Rattle.admission.proofs.Reading.{failed, failed_stopped, failed_out, reading_at, passed}
 use Rattle.wire.specs.declared.Refusal.TheVariants as refusals
 
 -- ---- What reading the packet found
 
-has_form : (t : Bool) (E : ℕ) (p : List ℕ) → repair_form E p ≡ t → (f : RepairFields) → Repair f ≡ repair_header_of E p → t ≡ true
-has_form true E p e f q = refl
-has_form false E p e f q = cc
-
-no_form : (t : Bool) (E : ℕ) (p : List ℕ) → repair_form E p ≡ t → (x : Refusal) → NoRepair x ≡ repair_header_of E p → t ≡ false
-no_form true E p e x q = cc
-no_form false E p e x q = refl
-
-module _ (E : ℕ) (p : List ℕ) (f : RepairFields) (read : Repair f ≡ repair_header_of E p) where
+module _ (E : ℕ) (p : List ℕ) (f : RepairFields) (read : Ok f ≡ repair_header_of E p) where
   formed : repair_form E p ≡ true
-  formed = has_form (repair_form E p) E p refl f read
+  formed = (cond_ok (repair_form E p) _ _ read).0
 
   pub fields_are : f ≡ repair_fields E p
-  fields_are = let z : Repair f ≡ Repair (repair_fields E p) = rw formed at read in cc
+  fields_are = (cond_ok (repair_form E p) _ _ read).1
 
   -- It has at most 16 symbols, and all lie in it.
   pub sized : (f.count ≤ 16) × (length p ≡ 8 + f.count * E)
@@ -53,6 +44,11 @@ module _ (E : ℕ) (p : List ℕ) (f : RepairFields) (read : Repair f ≡ repair
   sized =
       let (a, b) = both (within 1 16 (repair_count E p)) _ formed in
       rw fields_are ((within_bounds 1 16 (repair_count E p) a).1, eqb-true (length p) (8 + repair_count E p * E) b)
+
+-- The lists were refused.
+not-filled : (t : Bool) (draws : ℕ) (x : Refusal) → Err x ≡ filled_of t draws → (t ≡ false) × (x ≡ refusals.Draws)
+not-filled true draws x q = (cc, cc)
+not-filled false draws x q = (refl, cc)
 
 count_is : (E : ℕ) (p : List ℕ) → length (repair_symbols E p) ≡ repair_count E p
 unfolding repair_symbols
@@ -64,7 +60,7 @@ symbols_are E p = refl
 
 -- ---- The reading, one law for each way that it ends
 
-module _ (p m : List ℕ) (room : ℕ) (h : Header) (has : header_in m ≡ some h) (lent : working_size h.setting ≤ room) where
+module _ (p m : List ℕ) (room : ℕ) (h : Header) (has : header_in m ≡ Some h) (lent : working_size h.setting ≤ room) where
   open h.setting use {scheme, size as E, width}
 
   abbrev c : Call
@@ -86,11 +82,13 @@ module _ (p m : List ℕ) (room : ℕ) (h : Header) (has : header_in m ≡ some 
   enough : leb (working_size h.setting) room ≡ true
   enough = le-leb (working_size h.setting) room lent
 
-  pub repair_form_lem : (x : Refusal) → NoRepair x ≡ repair_header_of E p → Failed c m room refusals.Form
+  pub repair_form_lem : (x : Refusal) → Err x ≡ repair_header_of E p → Failed c m room x
   unfolding reading check read_repair
-  repair_form_lem x q = failed c m room h has refusals.Form (λ z. omega arith) (λ b. rw (enough, no_form (repair_form E p) E p refl x q))
+  repair_form_lem x q =
+      let (a, k) = cond_err (repair_form E p) _ _ q in
+      rw k (failed c m room h has refusals.Form (λ z. omega arith) (λ b. rw (enough, a)))
 
-  module _ (f : RepairFields) (read : Repair f ≡ repair_header_of E p) where
+  module _ (f : RepairFields) (read : Ok f ≡ repair_header_of E p) where
     is : f ≡ repair_fields E p
     is = fields_are E p f read
 
@@ -107,7 +105,7 @@ module _ (p m : List ℕ) (room : ℕ) (h : Header) (has : header_in m ≡ some 
       abbrev g : Header
       g = header_for h (first_esi p)
 
-      pub repair_out : (x : Refusal) → Out x ≡ location_found g (first_esi p) f.nss → Failed c m room x
+      pub repair_out : (x : Refusal) → Err x ≡ location_found g (first_esi p) f.nss → Failed c m room x
       repair_out x q = failed_out c m room h has f.nss next says x q
 
       -- No more positions than the widest window has, and lists that fit the room for them.
@@ -117,7 +115,7 @@ module _ (p m : List ℕ) (room : ℕ) (h : Header) (has : header_in m ≡ some 
       pub lists_fit : f.count * f.nss ≤ 4080
       lists_fit = mul-le-mul (sized E p f read).0 few
 
-      module _ (at : Location) (found : LocationIs at ≡ location_found g (first_esi p) f.nss) where
+      module _ (at : Location) (found : Ok at ≡ location_found g (first_esi p) f.nss) where
         abbrev d : ℕ
         d = distance g (first_esi p) f.nss
 
@@ -127,9 +125,11 @@ module _ (p m : List ℕ) (room : ℕ) (h : Header) (has : header_in m ≡ some 
         ok_of : (t : Bool) → all_ok scheme f.dt f.nss (keys f.key.0 f.count) ≡ t → all_ok scheme (density_threshold p) n ks ≡ t
         ok_of t e = let z = rw is at e in rw (count_is E p) z
 
-        pub repair_draws : all_ok scheme f.dt f.nss (keys f.key.0 f.count) ≡ false → Failed c m room refusals.Draws
+        pub repair_draws : (x : Refusal) (draws : ℕ) → Err x ≡ filled_of (all_ok scheme f.dt f.nss (keys f.key.0 f.count)) draws → Failed c m room x
         unfolding check
-        repair_draws e = failed_stopped c m room h has refusals.Draws (λ z. omega arith) (λ b q. drawn_next b q ∙ rw (ok_of false e))
+        repair_draws x draws q =
+            let (e, k) = not-filled (all_ok scheme f.dt f.nss (keys f.key.0 f.count)) draws x q in
+            rw k (failed_stopped c m room h has refusals.Draws (λ z. omega arith) (λ b q. drawn_next b q ∙ rw (ok_of false e)))
 
         module _ (drawn : all_ok scheme f.dt f.nss (keys f.key.0 f.count) ≡ true) (lists rest : List ℕ)
             (bytes : lists ≡ joined (lists_of scheme f.dt f.nss (keys f.key.0 f.count)) ++ rest) where

@@ -1,6 +1,6 @@
 -- A repair packet's equations: a row with its coefficients and its symbol spells the model's equation, and all are the model's packet.
 use Rattle.std.specs.Prelude.{◌≡◌, ◌+◌, ◌-◌, ◌∷◌, ◌*◌}
-use Rattle.words.specs.Words.{arith, ℕ, length, List, refl, ◌∙◌, sym, ap, [], get_or, drop, ap₂}
+use Rattle.words.specs.Words.{arith, ℕ, length, List, refl, ◌∙◌, sym, ap, [], get_or, drop, ap₂, Option}
 use Rattle.memory.specs.Part.{part, splice}
 use Rattle.memory.proofs.Parts.{part-drop}
 use Rattle.wire.specs.Packets.{chunks}
@@ -12,7 +12,6 @@ use Rattle.table.specs.Window.{row_offset}
 use Rattle.table.specs.Packet.{Works}
 use Rattle.gather.proofs.Spelling.{spells}
 use Rattle.admission.specs.declared.packet.Location.{Location}
-use Rattle.admission.specs.declared.packet.Gathered.{Gathered}
 use Rattle.history.specs.Symbol.{Symbol}
 use Rattle.history.specs.History.{repair}
 use Rattle.history.specs.Model.{packet_of}
@@ -23,7 +22,7 @@ use Rattle.decoder.specs.Packets as packets
 
 -- ---- One symbol
 
-module _ (at : Location) (kept : ℕ) (list symbol m work work₁ work' : List ℕ) (r : Gathered) where
+module _ (at : Location) (kept : ℕ) (list symbol m work work₁ work' : List ℕ) (r : Option ℕ) where
   abbrev w : ℕ
   w = at.shape.width
 
@@ -43,7 +42,7 @@ module _ (at : Location) (kept : ℕ) (list symbol m work work₁ work' : List �
       ))
 
 -- Of the list and the symbol that the code lends.
-pub symbol_of_index : (at : Location) (kept n i : ℕ) (list lists bytes m work work' : List ℕ) (r : Gathered) → list ≡ part (i * n) n lists → length list ≡ n
+pub symbol_of_index : (at : Location) (kept n i : ℕ) (list lists bytes m work work' : List ℕ) (r : Option ℕ) → list ≡ part (i * n) n lists → length list ≡ n
     → Admits at (length list)
     (repair_equation at.shape.width at.shape.size (length list) list (part (8 + i * at.shape.size) at.shape.size bytes)) kept r m work work'
     → Admits at n (λ d. equation_at at.shape.width at.shape.size n lists bytes d i) kept r m work work'

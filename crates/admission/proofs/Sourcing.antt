@@ -1,6 +1,6 @@
 -- A source packet's equations: a row with the coefficient one at the symbol's position spells the model's equation, and all are the model's packet.
 use Rattle.std.specs.Prelude.{◌≡◌, ◌+◌, ◌<◌, ◌-◌, ◌%◌, ◌∷◌}
-use Rattle.words.specs.Words.{arith, ℕ, length, List, refl, ◌∙◌, sym, ap, [], suc, zero, get_or, map, ap₂, mod-add-mod}
+use Rattle.words.specs.Words.{arith, ℕ, length, List, refl, ◌∙◌, sym, ap, [], suc, zero, get_or, map, ap₂, mod-add-mod, Option}
 use Rattle.memory.specs.Part.{splice}
 use Rattle.wire.specs.Packets.{symbol_count, symbol_at, source_symbols}
 use Rattle.decoder.specs.Bytes.{Coded}
@@ -8,7 +8,6 @@ use Rattle.table.specs.Window.{row_offset}
 use Rattle.table.specs.RowSteps.{RowOf}
 use Rattle.gather.proofs.Spelling.{spells_one}
 use Rattle.admission.specs.declared.packet.Location.{Location}
-use Rattle.admission.specs.declared.packet.Gathered.{Gathered}
 use Rattle.history.specs.Symbol.{Symbol, symbol_of}
 use Rattle.history.specs.History.{source}
 use Rattle.history.specs.Model.{packet_of}
@@ -26,7 +25,7 @@ use Rattle.table.specs.Packet as packet
 pub length_symbol : (flow : ℕ) (adu : List ℕ) (E i : ℕ) → 0 < E → i < symbol_count E (length adu) → length (symbol_at flow adu E i) ≡ E
 length_symbol flow adu E i pos h = ap length (sym (adui.symbol_at_lem flow adu E i h)) ∙ adui.symbol_length flow adu E pos i h
 
-module _ (at : Location) (kept flow i r : ℕ) (adu m work work₁ work' : List ℕ) (answer : Gathered) where
+module _ (at : Location) (kept flow i r : ℕ) (adu m work work₁ work' : List ℕ) (answer : Option ℕ) where
   abbrev w : ℕ
   w = at.shape.width
 

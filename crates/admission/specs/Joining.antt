@@ -1,7 +1,7 @@
 -- Contracts of inner functions: a reader need not believe these.
 -- The header that a packet is worked on with, and the memory that has it.
 use Rattle.std.specs.Prelude.{◌≡◌, ◌≤◌, ◌<◌, ◌%◌, ◌^◌}
-use Rattle.words.specs.Words.{ℕ, length, List, some, true, cond}
+use Rattle.words.specs.Words.{ℕ, length, List, Some, true, cond}
 use Rattle.wire.specs.Settings.{Valid}
 use Rattle.wire.specs.Stored.{setting_in}
 use Rattle.history.specs.History.{memory_size}
@@ -18,7 +18,7 @@ header_for h e = record {
 
 -- The memory has the setting of a header with a base, and room for its rows.
 pub record Based (m : List ℕ) (h : Header) : Type 0 where
-  pub setting : setting_in 2 m ≡ some h.setting
+  pub setting : setting_in 2 m ≡ Some h.setting
   pub valid : Valid h.setting
   pub room : memory_size h.setting ≤ length m
   pub row_lt : h.oldest < h.setting.width

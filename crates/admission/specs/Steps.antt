@@ -1,7 +1,7 @@
 -- Contracts of inner functions: a reader need not believe these.
 -- The steps of a packet call: the packet's place, its equations in working memory, and the state after it.
-use Rattle.std.specs.Prelude.{◌≡◌, ◌≤◌, ◌+◌, ◌<◌, ◌-◌, ◌%◌, ◌∷◌, ◌*◌, ◌++◌}
-use Rattle.words.specs.Words.{ℕ, length, List, [], some, suc, zero, none, get_or, leb, cond}
+use Rattle.std.specs.Prelude.{◌≡◌, ◌≤◌, ◌+◌, ◌<◌, ◌-◌, ◌%◌, ◌∷◌, ◌*◌, ◌++◌, Result, Ok, Err}
+use Rattle.words.specs.Words.{ℕ, length, List, [], Some, suc, zero, None, get_or, leb, cond, Option}
 use Rattle.wire.specs.declared.Setting.{Setting}
 use Rattle.wire.specs.declared.Refusal.TheVariants.{Behind, Ahead}
 use Rattle.decoder.specs.Bytes.{Coded}
@@ -13,10 +13,6 @@ use Rattle.starts.specs.Starts.{Starts, owning, moved, pass, seen}
 use Rattle.marks.specs.Marks.{flag_at}
 use Rattle.holding.specs.declared.Header.{Header}
 use Rattle.admission.specs.declared.packet.Location.{Location}
-use Rattle.admission.specs.declared.packet.LocationFound.{LocationFound}
-use Rattle.admission.specs.declared.packet.LocationFound.TheVariants.{LocationIs, Out}
-use Rattle.admission.specs.declared.packet.Gathered.{Gathered}
-use Rattle.admission.specs.declared.packet.Gathered.TheVariants.{All, Contradiction}
 use Rattle.history.specs.Symbol.{Symbol}
 use Rattle.history.specs.History.{memory_size, Side, behind, ahead, side_of, farthest}
 use Rattle.history.specs.Model.{Joined, Origins, bringing}
@@ -27,6 +23,7 @@ use Rattle.decoder.specs.Model as model
 use Rattle.decoder.specs.Receiver as decoder
 use Rattle.gather.specs.declared.Verdict.TheVariants as verdict
 use Rattle.table.specs.Packet as packet
+use Rattle.wire.specs.declared.Refusal.{Refusal}
 
 -- ---- The packet's place
 
@@ -44,30 +41,30 @@ location_at h d n =
     }
 
 -- Where n symbols lie, the first of them on a side of the base: refusals 8 and 9; and the first of them with the ESI e.
-abbrev pub location_on : Header → (n : ℕ) → Side → LocationFound
-location_on h n behind = Out Behind
-location_on h n (ahead d) = cond (leb (d + n) farthest) (LocationIs (location_at h d n)) (Out Ahead)
+abbrev pub location_on : Header → (n : ℕ) → Side → Result Location Refusal
+location_on h n behind = Err Behind
+location_on h n (ahead d) = cond (leb (d + n) farthest) (Ok (location_at h d n)) (Err Ahead)
 
-unfoldable pub location_found : Header → (e n : ℕ) → LocationFound
+unfoldable pub location_found : Header → (e n : ℕ) → Result Location Refusal
 location_found h e n = location_on h n (side_of h.esi.0 e)
 
 -- ---- The packet's equations
 
 -- What the equations come to with one more.
-abbrev pub gathered_by : ℕ → Verdict → Gathered
-gathered_by kept verdict.Kept = All (kept + 1)
-gathered_by kept verdict.Implied = All kept
-gathered_by kept verdict.Contradiction = Contradiction
+abbrev pub gathered_by : ℕ → Verdict → Option ℕ
+gathered_by kept verdict.Kept = Some (kept + 1)
+gathered_by kept verdict.Implied = Some kept
+gathered_by kept verdict.Contradiction = None
 
 -- What the equations `es` come to: the system S agrees with them, and working memory keeps rows of them; or they contradict it.
-abbrev pub Comes : (w E b : ℕ) (S : model.State (Coded E) w) (work : List ℕ) (es : List (model.Row (Coded E) w)) → Gathered → Type 0
-Comes w E b S work es (All kept) = packet.Gathered w E b S work kept es
-Comes w E b S work es Contradiction = decoder.insert_all es S ≡ none
+abbrev pub Comes : (w E b : ℕ) (S : model.State (Coded E) w) (work : List ℕ) (es : List (model.Row (Coded E) w)) → Option ℕ → Type 0
+Comes w E b S work es (Some kept) = packet.Gathered w E b S work kept es
+Comes w E b S work es None = decoder.insert_all es S ≡ None
 
 -- The rows that are kept have their columns.
-abbrev pub WorksOn : (w E : ℕ) (work : List ℕ) → Gathered → Type 0
-WorksOn w E work (All kept) = packet.Works w E kept work
-WorksOn w E work Contradiction = Unit {0}
+abbrev pub WorksOn : (w E : ℕ) (work : List ℕ) → Option ℕ → Type 0
+WorksOn w E work (Some kept) = packet.Works w E kept work
+WorksOn w E work None = Unit {0}
 
 -- A row with these coefficients, laid from the column `first` on, and with this symbol spells the equation e over the window from b on.
 abbrev pub Spells : (w E b first : ℕ) (cs : List ℕ) (v : Symbol E) → model.Row (Coded E) w → Type 0
@@ -95,7 +92,7 @@ module _ (at : Location) where
 
   -- An equation with the coefficients `cs` from the column `first` on, and the symbol of the row `kept`, has been admitted or refused, after
   -- others of which `kept` rows are kept.
-  pub record EquationAdmitted (kept first : ℕ) (cs : List ℕ) (r : Gathered) (m work work' : List ℕ) : Type 0 where
+  pub record EquationAdmitted (kept first : ℕ) (cs : List ℕ) (r : Option ℕ) (m work work' : List ℕ) : Type 0 where
     pub contained : Contained (row_offset w E (w + 1)) work work'
     pub works : WorksOn w E work' r
     pub outcome : (b d : ℕ) (S : model.State (Coded E) w) (es : List (model.Row (Coded E) w)) (e : model.Row (Coded E) w) → Lies at first (length cs) b d
@@ -104,7 +101,7 @@ module _ (at : Location) where
         → Comes w E (b + at.rise) (decoder.advance_by at.rise S) work' (es ++ (e ∷ [])) r
 
   -- The next equation of a packet of n positions, which is e d where these are from the d-th of the window on, has been admitted or refused.
-  pub record Admits (n : ℕ) (e : ℕ → model.Row (Coded E) w) (kept : ℕ) (r : Gathered) (m work work' : List ℕ) : Type 0 where
+  pub record Admits (n : ℕ) (e : ℕ → model.Row (Coded E) w) (kept : ℕ) (r : Option ℕ) (m work work' : List ℕ) : Type 0 where
     pub contained : Contained (row_offset w E (w + 1)) work work'
     pub works : WorksOn w E work' r
     pub outcome : (b d : ℕ) (S : model.State (Coded E) w) (es : List (model.Row (Coded E) w)) → Lies at at.first n b d
@@ -112,7 +109,7 @@ module _ (at : Location) where
         → Comes w E (b + at.rise) (decoder.advance_by at.rise S) work' (es ++ (e d ∷ [])) r
 
   -- The first i of its equations g d have been admitted, or one of them refused.
-  pub record Gathers (n : ℕ) (g : ℕ → ℕ → model.Row (Coded E) w) (i : ℕ) (r : Gathered) (m work work' : List ℕ) : Type 0 where
+  pub record Gathers (n : ℕ) (g : ℕ → ℕ → model.Row (Coded E) w) (i : ℕ) (r : Option ℕ) (m work work' : List ℕ) : Type 0 where
     pub contained : Contained (row_offset w E (w + 1)) work work'
     pub works : WorksOn w E work' r
     pub outcome : (b d : ℕ) (S : model.State (Coded E) w) → Lies at at.first n b d → Window w E m b S → model.Rref S
@@ -152,8 +149,8 @@ pub record Finished (h : Header) (at : Location) (kept count : ℕ) (work m m' :
   pub outcome : (s : Setting) (t : Joined s) (es : List (model.Row (Coded s.size) s.width)) → h ≡ header_from s t → Stands m s t
       → at.shape.oldest ≡ (t.base + at.rise) % s.width
       → packet.Gathered s.width s.size (t.base + at.rise) (decoder.advance_by at.rise t.window) work kept es
-      → (T : model.State (Coded s.size) s.width) × (decoder.insert_all es (decoder.advance_by at.rise t.window) ≡ some T)
-      × Holds m' s (some (record { base = t.base + at.rise; window = T }))
+      → (T : model.State (Coded s.size) s.width) × (decoder.insert_all es (decoder.advance_by at.rise t.window) ≡ Some T)
+      × Holds m' s (Some (record { base = t.base + at.rise; window = T }))
       × (count ≡ decoder.newly t (record { base = t.base + at.rise; window = T }))
 
 -- And the marks are those that the packet with `own` symbols of its own makes.
@@ -163,8 +160,8 @@ pub record Marked (h : Header) (at : Location) (kept own count : ℕ) (work m m'
   pub outcome : (s : Setting) (t : Joined s) (es : List (model.Row (Coded s.size) s.width)) → h ≡ header_from s t → Stands m s t
       → at.shape.oldest ≡ (t.base + at.rise) % s.width
       → packet.Gathered s.width s.size (t.base + at.rise) (decoder.advance_by at.rise t.window) work kept es
-      → (T : model.State (Coded s.size) s.width) × (decoder.insert_all es (decoder.advance_by at.rise t.window) ≡ some T)
-      × Holds m' s (some (record { base = t.base + at.rise; window = T }))
+      → (T : model.State (Coded s.size) s.width) × (decoder.insert_all es (decoder.advance_by at.rise t.window) ≡ Some T)
+      × Holds m' s (Some (record { base = t.base + at.rise; window = T }))
       × (count ≡ decoder.newly t (record { base = t.base + at.rise; window = T }))
       × ((M : Starts) → MarksFrom m s t M → MarksFrom m' s (record { base = t.base + at.rise; window = T })
       (pass s.size (seen s.size s.width T) s.width (owning at.offset own (moved s.width at.rise M))))

@@ -6,10 +6,11 @@ ghost use Rattle.table.specs.Window.{Fits};
 ghost use Rattle.table.specs.Packet.{Works};
 ghost use Rattle.history.specs.History.{farthest};
 ghost use Rattle.admission.specs.Joining.{header_for, Based};
+ghost use Rattle.admission.specs.Reading.{Ready, Placed};
 ghost use Rattle.admission.specs.Steps.{location_found, gathered_by, EquationAdmitted, LocatedBy, Finished, Accepted};
 
 use gather::Verdict;
-use holding::{Header, Side, find};
+use holding::{Header, find, front};
 use table::Shape;
 use wire::{Esi, Refusal};
 
@@ -24,13 +25,6 @@ pub struct Location {
     pub offset: usize,
 }
 
-// Where a packet lies, or why it is refused.
-#[derive(Clone, Copy)]
-pub enum LocationFound {
-    LocationIs(Location),
-    Out(Refusal),
-}
-
 // A packet that passed its checks: the header for it, where it lies, how many positions it names, how many symbols it has, and the draws that its
 // coefficients took.
 #[derive(Clone, Copy)]
@@ -42,18 +36,15 @@ pub struct Passed {
     pub draws: u32,
 }
 
-// What reading a packet finds: it passed its checks, or why it is refused.
-#[derive(Clone, Copy)]
-pub enum Read {
-    Located(Passed),
-    Fails(Refusal),
-}
-
-// A packet's equations agree with the state, and so many rows of working memory are kept of them; or they contradict it.
-#[derive(Clone, Copy)]
-pub enum Gathered {
-    All(usize),
-    Contradiction,
+// The header of the receiver that the memory holds, where `room` bytes of working memory are enough for it.
+pub fn ready(mem: &[u8], room: usize) -> Result<Header, Refusal>
+    ensures { Ready mem.now room result }
+{
+    let header = front::read_header(mem).ok_or(Refusal::Unopened)?;
+    if room < front::working_size(header.setting) {
+        return Err(Refusal::Short);
+    }
+    Ok(header)
 }
 
 // The header for a packet whose first ESI is `first`: where there is no base yet, that is taken for it.
@@ -64,13 +55,11 @@ pub fn join(header: Header, first: Esi) -> Header
     if header.joined {
         return header;
     }
-    let setting = header.setting;
-    let oldest = first.0 as usize % setting.width;
     Header {
-        setting,
         joined: true,
-        oldest,
+        oldest: first.0 as usize % header.setting.width,
         esi: first,
+        ..header
     }
 }
 
@@ -78,42 +67,49 @@ pub fn join(header: Header, first: Esi) -> Header
 const FARTHEST: usize = 65536;
 
 // Where `n` symbols from the ESI `first` on lie.
-pub fn locate(header: Header, first: Esi, n: usize) -> LocationFound
+pub fn locate(header: Header, first: Esi, n: usize) -> Result<Location, Refusal>
     requires { Valid header.setting × (header.oldest < header.setting.width) × (n ≤ header.setting.width) }
     ensures { result ≡ location_found header first.0 n }
 {
-    let d = match find::side_of(header.esi, first) {
-        Side::Ahead(d) => d,
-        Side::Behind => return LocationFound::Out(Refusal::Behind),
-    };
+    let d = find::side_of(header.esi, first).ok_or(Refusal::Behind)?;
     if d + n > FARTHEST {
-        return LocationFound::Out(Refusal::Ahead);
+        return Err(Refusal::Ahead);
     }
     let width = header.setting.width;
-    let rise = memory::excess(d + n, width);
+    let rise = (d + n).saturating_sub(width);
     let shape = Shape {
         width,
         size: header.setting.size,
         oldest: (header.oldest + rise) % width,
     };
-    LocationFound::LocationIs(Location {
+    Ok(Location {
         shape,
         rise,
-        stay: memory::excess(width, rise),
+        stay: width.saturating_sub(rise),
         first: (header.oldest + d) % width,
         offset: d - rise,
     })
 }
 
+// The header for a packet whose `n` symbols begin at the ESI `first`, and where they lie by it.
+pub fn place(header: Header, first: Esi, n: usize) -> Result<(Header, Location), Refusal>
+    requires { Valid header.setting × (header.oldest < header.setting.width) × (n ≤ header.setting.width) }
+    ensures { Placed header first.0 n result }
+{
+    let based = join(header, first);
+    let location = locate(based, first, n)?;
+    Ok((based, location))
+}
+
 // What the equations come to, of which `kept` rows were kept, with one more that was found to be so.
-pub fn gathered_by(kept: usize, verdict: Verdict) -> Gathered
+pub fn gathered_by(kept: usize, verdict: Verdict) -> Option<usize>
     requires { kept ≤ 255 }
     ensures { result ≡ gathered_by kept verdict }
 {
     match verdict {
-        Verdict::Kept => Gathered::All(kept + 1),
-        Verdict::Implied => Gathered::All(kept),
-        Verdict::Contradiction => Gathered::Contradiction,
+        Verdict::Kept => Some(kept + 1),
+        Verdict::Implied => Some(kept),
+        Verdict::Contradiction => None,
     }
 }
 
@@ -126,7 +122,7 @@ pub fn admit_equation(
     location: Location,
     kept: usize,
     first: usize,
-) -> Gathered
+) -> Option<usize>
     requires { Fits location.shape.width location.shape.size mem.now × Works location.shape.width location.shape.size kept work.old
         × (location.shape.oldest < location.shape.width) × (first < location.shape.width) × (length coefficients.now ≤ location.shape.width) }
     ensures { EquationAdmitted location kept first coefficients.now result mem.now work.old work.new }
@@ -169,7 +165,7 @@ pub fn accept(
     let had = marks::known_among(mem, header.shape(), location.rise + location.offset, own);
     let known = finish(mem, work, header, location, kept);
     let has = marks::known_among(mem, location.shape, location.offset, own);
-    let others = known != memory::excess(has, had);
+    let others = known != has.saturating_sub(had);
     marks::update(
         mem,
         location.shape,

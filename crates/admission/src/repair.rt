@@ -8,43 +8,31 @@ ghost use Rattle.admission.specs.RepairSteps.{repair_equation, equation_at};
 ghost use Rattle.admission.specs.Reading.{RepairRead};
 
 use super::packet;
-use super::packet::{Gathered, Location, LocationFound, Passed, Read};
-use coefficients::Filled;
-use holding::{Found, front};
-use wire::{Refusal, RepairHeader};
+use super::packet::{Location, Passed};
+use wire::Refusal;
 
 // Reads a repair packet, where `room` bytes of working memory are lent. The lists of its coefficients go to the front of `lists`.
-pub fn read_repair(mem: &[u8], room: usize, packet: &[u8], lists: &mut [u8]) -> Read
+pub fn read_repair(
+    mem: &[u8],
+    room: usize,
+    packet: &[u8],
+    lists: &mut [u8],
+) -> Result<Passed, Refusal>
     requires { 4080 ≤ length lists.old }
     ensures { RepairRead packet.now mem.now room lists.new result }
 {
-    let Found::HeaderIs(header) = front::read_header(mem) else {
-        return Read::Fails(Refusal::Unopened);
-    };
+    let header = packet::ready(mem, room)?;
     let setting = header.setting;
-    if room < front::working_size(setting) {
-        return Read::Fails(Refusal::Short);
-    }
-    let RepairHeader::Repair(fields) = wire::read_repair(packet, setting.size) else {
-        return Read::Fails(Refusal::Form);
-    };
+    let fields = wire::read_repair(packet, setting.size)?;
     let named = fields.nss;
     let count = fields.count;
     if !wire::between(1, setting.width, named) {
-        return Read::Fails(Refusal::Range);
+        return Err(Refusal::Range);
     }
-    let based = packet::join(header, fields.first);
-    let location = match packet::locate(based, fields.first, named) {
-        LocationFound::LocationIs(at) => at,
-        LocationFound::Out(refusal) => return Read::Fails(refusal),
-    };
+    let (based, location) = packet::place(header, fields.first, named)?;
     let scheme = setting.scheme;
-    let Filled::Done(draws) = coefficients::fill_lists(
-        lists, named, scheme, fields.key, fields.dt, count,
-    ) else {
-        return Read::Fails(Refusal::Draws);
-    };
-    Read::Located(Passed {
+    let draws = coefficients::fill_lists(lists, named, scheme, fields.key, fields.dt, count)?;
+    Ok(Passed {
         header: based,
         location,
         named,
@@ -61,7 +49,7 @@ fn admit_symbol(
     symbol: &[u8],
     location: Location,
     kept: usize,
-) -> Gathered
+) -> Option<usize>
     requires { Fits location.shape.width location.shape.size mem.now × Works location.shape.width location.shape.size kept work.old
         × (location.shape.oldest < location.shape.width) × (location.first < location.shape.width)
         × (length list.now ≤ location.shape.width) × (length symbol.now ≡ location.shape.size) }
@@ -71,7 +59,7 @@ fn admit_symbol(
 {
     let shape = location.shape;
     let at = table::symbol_offset(shape, kept);
-    memory::copy_part(work, at, symbol, 0, shape.size);
+    work[at..at + shape.size].copy_from_slice(symbol);
     packet::admit_equation(mem, work, list, location, kept, location.first)
 }
 
@@ -84,7 +72,7 @@ pub fn gather_repair(
     location: Location,
     n: usize,
     count: usize,
-) -> Gathered
+) -> Option<usize>
     requires { Fits location.shape.width location.shape.size mem.now × Works location.shape.width location.shape.size 0 work.old
         × (location.shape.oldest < location.shape.width) × (location.first < location.shape.width) × (n ≤ location.shape.width)
         × (count * n ≤ length lists.now) × (8 + count * location.shape.size ≤ length packet.now) × (count ≤ 16) }
@@ -96,17 +84,14 @@ pub fn gather_repair(
     for i in 0..count {
         let from = i * n;
         let at = 8 + i * size;
-        let Gathered::All(now) = admit_symbol(
+        kept = admit_symbol(
             mem,
             work,
             &lists[from..from + n],
             &packet[at..at + size],
             location,
             kept,
-        ) else {
-            return Gathered::Contradiction;
-        };
-        kept = now;
+        )?;
     }
-    Gathered::All(kept)
+    Some(kept)
 }

@@ -10,46 +10,35 @@ ghost use Rattle.admission.specs.SourceSteps.{equation_of};
 ghost use Rattle.admission.specs.Reading.{SourceRead};
 
 use super::packet;
-use super::packet::{Gathered, Location, LocationFound, Passed, Read};
-use holding::{Found, front};
+use super::packet::{Location, Passed};
 use table::Shape;
-use wire::{Refusal, SourceHeader};
+use wire::Refusal;
 
 // Reads a source packet that came with a flow, where `room` bytes of working memory are lent.
-pub fn read_source(mem: &[u8], room: usize, flow: u8, packet: &[u8]) -> Read
+pub fn read_source(mem: &[u8], room: usize, flow: u8, packet: &[u8]) -> Result<Passed, Refusal>
     ensures { SourceRead flow packet.now mem.now room result }
 {
-    let Found::HeaderIs(header) = front::read_header(mem) else {
-        return Read::Fails(Refusal::Unopened);
-    };
-    let setting = header.setting;
-    if room < front::working_size(setting) {
-        return Read::Fails(Refusal::Short);
-    }
-    let SourceHeader::Source(fields) = wire::read_source(packet) else {
-        return Read::Fails(Refusal::Form);
-    };
+    let header = packet::ready(mem, room)?;
+    let fields = wire::read_source(packet)?;
     if !wire::is_announced(mem, flow) {
-        return Read::Fails(Refusal::Unannounced);
+        return Err(Refusal::Unannounced);
     }
     if wire::LONGEST_ADU < fields.len {
-        return Read::Fails(Refusal::Long);
+        return Err(Refusal::Long);
     }
+    let setting = header.setting;
     let count = wire::symbol_count(setting.size, fields.len);
     if setting.width < count {
-        return Read::Fails(Refusal::Long);
+        return Err(Refusal::Long);
     }
-    let based = packet::join(header, fields.first);
-    match packet::locate(based, fields.first, count) {
-        LocationFound::Out(refusal) => Read::Fails(refusal),
-        LocationFound::LocationIs(location) => Read::Located(Passed {
-            header: based,
-            location,
-            named: count,
-            count,
-            draws: 0,
-        }),
-    }
+    let (based, location) = packet::place(header, fields.first, count)?;
+    Ok(Passed {
+        header: based,
+        location,
+        named: count,
+        count,
+        draws: 0,
+    })
 }
 
 // The i-th symbol of an ADU in the row `k` of working memory.
@@ -71,7 +60,7 @@ fn admit_symbol(
     flow: u8,
     adu: &[u8],
     i: usize,
-) -> Gathered
+) -> Option<usize>
     requires { Fits location.shape.width location.shape.size mem.now × Works location.shape.width location.shape.size kept work.old
         × (location.shape.oldest < location.shape.width) × (location.first < location.shape.width) × (length adu.now ≤ 65535)
         × (i < symbol_count location.shape.size (length adu.now)) × (symbol_count location.shape.size (length adu.now) ≤ location.shape.width) }
@@ -93,7 +82,7 @@ pub fn gather_source(
     flow: u8,
     adu: &[u8],
     count: usize,
-) -> Gathered
+) -> Option<usize>
     requires { Fits location.shape.width location.shape.size mem.now × Works location.shape.width location.shape.size 0 work.old
         × (location.shape.oldest < location.shape.width) × (location.first < location.shape.width) × (length adu.now ≤ 65535)
         × (count ≡ symbol_count location.shape.size (length adu.now)) × (count ≤ location.shape.width) }
@@ -103,10 +92,7 @@ pub fn gather_source(
 {
     let mut kept: usize = 0;
     for i in 0..count {
-        let Gathered::All(now) = admit_symbol(mem, work, location, kept, flow, adu, i) else {
-            return Gathered::Contradiction;
-        };
-        kept = now;
+        kept = admit_symbol(mem, work, location, kept, flow, adu, i)?;
     }
-    Gathered::All(kept)
+    Some(kept)
 }

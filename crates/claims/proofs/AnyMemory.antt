@@ -1,34 +1,32 @@
 -- What the promises say of any memory: the header that it has, or its want, decides.
 use denote.Ref.{Bor}
-use Rattle.std.specs.Prelude.{◌≡◌, ◌≤◌, ◌+◌, ◌⊎◌}
-use Rattle.words.specs.Words.{arith, ℕ, List, length, refl, ◌∙◌, sym, ap, [], some, none, subst, Option, inl, inr}
+use Rattle.std.specs.Prelude.{◌≡◌, ◌≤◌, ◌+◌, ◌⊎◌, Result}
+use Rattle.words.specs.Words.{arith, ℕ, List, length, refl, ◌∙◌, sym, ap, [], Some, None, subst, Option, inl, inr}
 use Rattle.words.specs.Words.{length-take, length-drop}
 use Rattle.memory.specs.Part.{part, LiesAt}
 use Rattle.wire.specs.declared.Setting.{Setting}
-use Rattle.wire.specs.declared.Answer.{Answer}
 use Rattle.wire.specs.Answers.{value, said}
 use Rattle.sender.specs.State.{Sender, header_size}
 use Rattle.sender.specs.Calls.{Outcome}
 use Rattle.sender.specs.Promises.{Kept, Promise}
-use Rattle.starts.specs.declared.Handed.{Handed}
 use Rattle.starts.specs.Adu.{Leaves}
 use Rattle.history.specs.History.{IsValue, Call}
 use Rattle.holding.specs.declared.Header.{Header}
 use Rattle.holding.specs.Header.{header_in}
 use Rattle.holding.proofs.Finding.{by_header}
 use Rattle.holding.proofs.Headers.{headed}
-use Rattle.receiver.specs.declared.PacketAnswer.{PacketAnswer}
 use Rattle.receiver.specs.Promises.{Layout, Draws, PacketAnswered, PartShown, PlaceAnswered}
 use Rattle.claims.specs.AnyMemory.{ReceiverFits, SenderKeeps, PacketKeeps, AduKeeps, Lies, AnyMemory}
 use Rattle.sender.specs.declared.Header as sender-header
 use Rattle.sender.specs.State as sender-state
 use Rattle.sender.specs.Promises as sender
 use Rattle.sender.proofs.Heads as heads
+use Rattle.wire.specs.declared.Refusal.{Refusal}
 
 -- ---- A sender's calls
 
-module _ (f : Sender → Outcome) (m out : List ℕ) (r : Answer) (m' out' : List ℕ) where
-  with-header : (h : sender-header.Header) → sender-state.header_in m ≡ some h → Kept h m out r m' out' → SenderKeeps (said r) m out m' out'
+module _ (f : Sender → Outcome) (m out : List ℕ) (r : Result ℕ Refusal) (m' out' : List ℕ) where
+  with-header : (h : sender-header.Header) → sender-state.header_in m ≡ Some h → Kept h m out r m' out' → SenderKeeps (said r) m out m' out'
   unfolding header_size
   with-header h e k = record {
     refused = λ n z. let l = subst (λ x. sender.Leaves x m out m' out') z k.leaves in (l.1, l.2);
@@ -40,22 +38,22 @@ module _ (f : Sender → Outcome) (m out : List ℕ) (r : Answer) (m' out' : Lis
   sender_keeps p = go (sender-state.header_in m) refl
     where
       go : (o : Option sender-header.Header) → sender-state.header_in m ≡ o → SenderKeeps (said r) m out m' out'
-      go none e =
+      go None e =
           let k = p.unopened e in
           record {
             refused = λ n z. (k.memory, k.output);
             output = λ n z. absurd (subst IsValue (sym z ∙ k.answer) tt);
             memory = λ n z. absurd (subst IsValue (sym z ∙ k.answer) tt);
           }
-      go (some h) e = with-header h e (p.kept h e)
+      go (Some h) e = with-header h e (p.kept h e)
 
 -- ---- A receiver's
 
-fits : (m : List ℕ) (h : Header) → header_in m ≡ some h → ReceiverFits h.setting (length m)
+fits : (m : List ℕ) (h : Header) → header_in m ≡ Some h → ReceiverFits h.setting (length m)
 fits m h e = let k = headed m h e in record { values = k.valid; room = k.room }
 
 module _ (L : Layout) where
-  packet_keeps : (c : Call) (m m' v v' : List ℕ) (a : PacketAnswer) → PacketAnswered L c m m' v v' a → PacketKeeps a m v m' v'
+  packet_keeps : (c : Call) (m m' v v' : List ℕ) (a : Result (ℕ × ℕ) Refusal) → PacketAnswered L c m m' v v' a → PacketKeeps a m v m' v'
   packet_keeps c m m' v v' a p =
       let q = p.received in
       record {
@@ -74,7 +72,7 @@ module _ (L : Layout) where
       → (r.now ≡ []) ⊎ ((at : ℕ) × (s : Setting) × Lies at s (length m.now) × LiesAt r m at s.size)
   part_lies m r e p = by_header m.now _ (λ h k. go h k (p.within h k) (p.whole h k)) (λ k. inl (p.unopened k))
     where
-      go : (h : Header) → header_in m.now ≡ some h → (r.now ≡ []) ⊎ ((at : ℕ) × LiesAt r m at h.setting.size)
+      go : (h : Header) → header_in m.now ≡ Some h → (r.now ≡ []) ⊎ ((at : ℕ) × LiesAt r m at h.setting.size)
           → (r.now ≡ []) ⊎ (length r.now ≡ h.setting.size)
           → (r.now ≡ []) ⊎ ((at : ℕ) × (s : Setting) × Lies at s (length m.now) × LiesAt r m at s.size)
       go h k (inl z) w = inl z
@@ -84,12 +82,12 @@ module _ (L : Layout) where
           let i = whole-inside at h.setting.size m.now (omega (arith, f.values.size_least)) (sym (ap length l.bytes) ∙ w) in
           inr (at, h.setting, record { fits = f; inside = i }, l)
 
-  place_lies : (m : List ℕ) (e : ℕ) (a : Answer) → PlaceAnswered L m e a → (at : ℕ) → said a ≡ value at → (s : Setting) × Lies at s (length m)
+  place_lies : (m : List ℕ) (e : ℕ) (a : Result ℕ Refusal) → PlaceAnswered L m e a → (at : ℕ) → said a ≡ value at → (s : Setting) × Lies at s (length m)
   place_lies m e a p at z =
       by_header m _ (λ h k. (h.setting, record { fits = fits m h k; inside = p.within h at k z }))
       (λ k. absurd (subst IsValue (sym z ∙ p.unopened.1 k) tt))
 
-  adu_keeps : (out out' : List ℕ) (a : Handed) → Leaves out out' a → AduKeeps a out out'
+  adu_keeps : (out out' : List ℕ) (a : Result (ℕ × ℕ) Refusal) → Leaves out out' a → AduKeeps a out out'
   adu_keeps out out' a p = record {
     refused = λ r z. subst (Leaves out out') z p;
     output = λ flow n z. let (k, l, s, d) = subst (Leaves out out') z p in (k, l, record { same = s; past = d });

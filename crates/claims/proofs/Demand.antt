@@ -13,15 +13,14 @@
 --   had_setting: an opening that answers 0 had a setting
 --   demand_3
 use denote.Ref.{Bor}
-use Rattle.std.specs.Prelude.{◌≡◌, ◌≤◌, ◌+◌, ◌<◌, ◌%◌, ◌∷◌, ◌++◌, ◌^◌, ◌↔◌, ◌⊎◌}
-use Rattle.words.specs.Words.{arith, ℕ, List, length, refl, ◌∙◌, sym, ap, [], some, none, subst, Option}
+use Rattle.std.specs.Prelude.{◌≡◌, ◌≤◌, ◌+◌, ◌<◌, ◌%◌, ◌∷◌, ◌++◌, ◌^◌, ◌↔◌, ◌⊎◌, Result}
+use Rattle.words.specs.Words.{arith, ℕ, List, length, refl, ◌∙◌, sym, ap, [], Some, None, subst, Option}
 use Rattle.words.specs.Words.{some-injective, none-ne-some, dec_lt, inr, inl}
 use mathlib.Core.Logic.Iff
 use Rattle.wire.specs.declared.Setting.{Setting}
 use Rattle.wire.specs.Settings.{setting_of, Valid}
 use Rattle.wire.proofs.Settings.{setting-names}
 use Rattle.decoder.specs.Model.{known}
-use Rattle.wire.specs.declared.Answer.{Answer}
 use Rattle.history.specs.Symbol.{Symbol, bytes_of}
 use Rattle.history.specs.History.{IsValue, Located, Filling, All, Known, located, reading, Log, fresh, OfBytes, esi_of, base_of, logged, Judged}
 use Rattle.history.specs.History.{halfway}
@@ -35,6 +34,7 @@ use Rattle.history.proofs.Sides.{limits, found_inside, found-past, found_behind}
 use Rattle.claims.specs.Run.{Step, Run, final, read, goes_on, history}
 use Rattle.claims.specs.Demand.{esi, ShownExactly, HiddenBefore, HiddenOutside, Demand3, EveryList}
 use Rattle.decoder.specs.Receiver as decoder
+use Rattle.wire.specs.declared.Refusal.{Refusal}
 
 module _ (L : Layout) (s : Setting) (flows : List ℕ) (v : Valid s) where
   open s use {size as E, width}
@@ -50,7 +50,7 @@ module _ (L : Layout) (s : Setting) (flows : List ℕ) (v : Valid s) where
 
   -- ---- The calls
 
-  did : (m m' : List ℕ) (a : Answer) (t : State s) (o : Outcome s) → Follows L s flows o m m' a → L.Holds m s flows t
+  did : (m m' : List ℕ) (a : Result ℕ Refusal) (t : State s) (o : Outcome s) → Follows L s flows o m m' a → L.Holds m s flows t
       → (said a ≡ said_of o) × L.Holds m' s flows (state_after t o)
   did m m' a t (refused n) (e, q) h = (e, subst (λ x. L.Holds x s flows t) (sym q) h)
   did m m' a t (done n t') p h = p
@@ -103,46 +103,46 @@ module _ (L : Layout) (s : Setting) (flows : List ℕ) (v : Valid s) where
   -- ---- The symbol calls
 
   -- Before any base the memory holds that; after it, a receiver with the base.
-  pub held_fresh : (m : List ℕ) (l : Log) → Stands m l → base_of s l ≡ none → L.Holds m s flows none
+  pub held_fresh : (m : List ℕ) (l : Log) → Stands m l → base_of s l ≡ None → L.Holds m s flows None
   held_fresh m l g e = go g.state g.held (sym g.tracks.base_is ∙ e)
     where
-      go : (x : State s) → L.Holds m s flows x → base_in s some_bytes x ≡ none → L.Holds m s flows none
-      go none h e = h
-      go (some t) h e = absurd (none-ne-some t.base (sym e))
+      go : (x : State s) → L.Holds m s flows x → base_in s some_bytes x ≡ None → L.Holds m s flows None
+      go None h e = h
+      go (Some t) h e = absurd (none-ne-some t.base (sym e))
 
   pub record From (m : List ℕ) (qs : List Located) (b : ℕ) : Type 0 where
     pub state : Joined s
     pub base_is : state.base ≡ b
-    pub held : L.Holds m s flows (some state)
+    pub held : L.Holds m s flows (Some state)
     pub tracks : TracksFrom s some_bytes qs state
 
-  pub held_from : (m : List ℕ) (l : Log) → Stands m l → (b : ℕ) → base_of s l ≡ some b → From m l b
+  pub held_from : (m : List ℕ) (l : Log) → Stands m l → (b : ℕ) → base_of s l ≡ Some b → From m l b
   held_from m l g b e = go g.state g.held (sym g.tracks.base_is ∙ e) (g.tracks.from b)
     where
-      go : (x : State s) → L.Holds m s flows x → base_in s some_bytes x ≡ some b → TracksFrom s some_bytes l (found_by s x b) → From m l b
-      go none h e k = absurd (none-ne-some b e)
-      go (some t) h e k = record { state = t; base_is = some-injective _ _ e; held = h; tracks = k }
+      go : (x : State s) → L.Holds m s flows x → base_in s some_bytes x ≡ Some b → TracksFrom s some_bytes l (found_by s x b) → From m l b
+      go None h e k = absurd (none-ne-some b e)
+      go (Some t) h e k = record { state = t; base_is = some-injective _ _ e; held = h; tracks = k }
 
-  hidden_before : (m : List ℕ) → L.Holds m s flows none → (e : ℕ) → HiddenBefore L s m e
+  hidden_before : (m : List ℕ) → L.Holds m s flows None → (e : ℕ) → HiddenBefore L s m e
   unfolding finding
   hidden_before m h e = record {
-    answer = λ a p. p.finds s flows none h;
-    nothing = λ memory part q p. p.shows s flows none (subst (λ x. L.Holds x s flows none) (sym q) h);
+    answer = λ a p. p.finds s flows None h;
+    nothing = λ memory part q p. p.shows s flows None (subst (λ x. L.Holds x s flows None) (sym q) h);
   }
 
   module _ (m : List ℕ) (qs : List Located) (b : ℕ) (g : From m qs b) where
     -- What the two calls find at the ESI of the position b + d.
-    pub at_base : (d : ℕ) (o : Finding E) → finding s (some g.state) ((g.state.base + d) % 2 ^ 32) ≡ o → finding s (some g.state) (esi (b + d)) ≡ o
-    at_base d o e = subst (λ x. finding s (some g.state) ((x + d) % 2 ^ 32) ≡ o) g.base_is e
+    pub at_base : (d : ℕ) (o : Finding E) → finding s (Some g.state) ((g.state.base + d) % 2 ^ 32) ≡ o → finding s (Some g.state) (esi (b + d)) ≡ o
+    at_base d o e = subst (λ x. finding s (Some g.state) ((x + d) % 2 ^ 32) ≡ o) g.base_is e
 
-    answer_is : (d : ℕ) (o : Finding E) → finding s (some g.state) (esi (b + d)) ≡ o → (a : Answer) → SymbolAnswered L m (esi (b + d)) a
+    answer_is : (d : ℕ) (o : Finding E) → finding s (Some g.state) (esi (b + d)) ≡ o → (a : Result ℕ Refusal) → SymbolAnswered L m (esi (b + d)) a
         → Finds L o a
-    answer_is d o e a p = subst (λ x. Finds L x a) e (p.finds s flows (some g.state) g.held)
+    answer_is d o e a p = subst (λ x. Finds L x a) e (p.finds s flows (Some g.state) g.held)
 
-    part-is : (d : ℕ) (o : Finding E) → finding s (some g.state) (esi (b + d)) ≡ o → (memory part : Bor (List ℕ)) → memory.now ≡ m
+    part-is : (d : ℕ) (o : Finding E) → finding s (Some g.state) (esi (b + d)) ≡ o → (memory part : Bor (List ℕ)) → memory.now ≡ m
         → PartShown L memory part (esi (b + d)) → Shows L s o memory part
     part-is d o e memory part q p =
-        subst (λ x. Shows L s x memory part) e (p.shows s flows (some g.state) (subst (λ x. L.Holds x s flows (some g.state)) (sym q) g.held))
+        subst (λ x. Shows L s x memory part) e (p.shows s flows (Some g.state) (subst (λ x. L.Holds x s flows (Some g.state)) (sym q) g.held))
 
     outside : (d : ℕ) → width ≤ d → d < 2 ^ 32 → HiddenOutside L s m b d
     outside d w h = record {
@@ -162,31 +162,31 @@ module _ (L : Layout) (s : Setting) (flows : List ℕ) (v : Valid s) where
       abbrev pub found : Option (Symbol E) → Finding E
       found o = shown s (g.state.base + i) o
 
-      pub here : finding s (some g.state) (esi (b + i)) ≡ found symbol
+      pub here : finding s (Some g.state) (esi (b + i)) ≡ found symbol
       here = let n = v.width_most in at_base i (found symbol) (found_inside s g.state i (omega (arith, limits)) (omega (arith, limits)) within)
 
       pub exactly : decoder.Accepted symbol ↔ Known E qs (b + i)
       exactly = subst (λ x. decoder.Accepted symbol ↔ Known E qs (x + i)) g.base_is (known_exactly s some_bytes qs g.state g.tracks i)
 
-      pub value-is : (x : Symbol E) → symbol ≡ some x → (f : Filling E) → All E qs f → f (b + i) ≡ x
+      pub value-is : (x : Symbol E) → symbol ≡ Some x → (f : Filling E) → All E qs f → f (b + i) ≡ x
       value-is x k f h = subst (λ y. f (y + i) ≡ x) g.base_is (known-value s some_bytes qs g.state g.tracks i x k f h)
 
-      zero-or_twelve : (o : Option (Symbol E)) (a : Answer) → Finds L (found o) a → (said a ≡ value 0) ⊎ (said a ≡ refusal 12)
-      zero-or_twelve none a e = inr e
-      zero-or_twelve (some x) a e = inl e
+      zero-or_twelve : (o : Option (Symbol E)) (a : Result ℕ Refusal) → Finds L (found o) a → (said a ≡ value 0) ⊎ (said a ≡ refusal 12)
+      zero-or_twelve None a e = inr e
+      zero-or_twelve (Some x) a e = inl e
 
-      zero_exactly : (o : Option (Symbol E)) (a : Answer) → Finds L (found o) a → (said a ≡ value 0) ↔ decoder.Accepted o
-      zero_exactly none a e = ((λ h. absurd (subst IsValue (sym h ∙ e) tt)), (λ h. absurd h))
-      zero_exactly (some x) a e = ((λ _. tt), (λ _. e))
+      zero_exactly : (o : Option (Symbol E)) (a : Result ℕ Refusal) → Finds L (found o) a → (said a ≡ value 0) ↔ decoder.Accepted o
+      zero_exactly None a e = ((λ h. absurd (subst IsValue (sym h ∙ e) tt)), (λ h. absurd h))
+      zero_exactly (Some x) a e = ((λ _. tt), (λ _. e))
 
       bytes_here : (memory part : Bor (List ℕ)) (o : Option (Symbol E)) → symbol ≡ o → Shows L s (found o) memory part
           → decoder.Accepted o → (f : Filling E) → All E qs f → part.now ≡ bytes_of E (f (b + i))
-      bytes_here memory part none k p a f h = absurd a
-      bytes_here memory part (some x) k p a f h = p.0 ∙ ap (bytes_of E) (sym (value-is x k f h))
+      bytes_here memory part None k p a f h = absurd a
+      bytes_here memory part (Some x) k p a f h = p.0 ∙ ap (bytes_of E) (sym (value-is x k f h))
 
       nothing_here : (memory part : Bor (List ℕ)) (o : Option (Symbol E)) → Shows L s (found o) memory part → ¬ decoder.Accepted o → part.now ≡ []
-      nothing_here memory part none p n = p
-      nothing_here memory part (some x) p n = absurd (n tt)
+      nothing_here memory part None p n = p
+      nothing_here memory part (Some x) p n = absurd (n tt)
 
       bytes-shown : (memory part : Bor (List ℕ)) → memory.now ≡ m → PartShown L memory part (esi (b + i))
           → Known E qs (b + i) → (f : Filling E) → All E qs f → part.now ≡ bytes_of E (f (b + i))
@@ -201,8 +201,8 @@ module _ (L : Layout) (s : Setting) (flows : List ℕ) (v : Valid s) where
         sender = λ memory part q p k all join offset f h c l n. bytes-shown memory part q p k f h ∙ c (b + i) l n;
       }
 
-  pub opened_stands : (scheme size w : ℕ) (m₀ m : List ℕ) (a : Answer) → Opened L scheme size w flows m₀ m a → said a ≡ value 0
-      → setting_of scheme size w ≡ some s → Stands m fresh
+  pub opened_stands : (scheme size w : ℕ) (m₀ m : List ℕ) (a : Result ℕ Refusal) → Opened L scheme size w flows m₀ m a → said a ≡ value 0
+      → setting_of scheme size w ≡ Some s → Stands m fresh
   opened_stands scheme size w m₀ m a p e h = record { state = opened s; held = p.holds s h e; tracks = fresh_tracks s some_bytes }
 
   pub demand : (m : List ℕ) → Stands m fresh → (ts : List Step) → Run L m ts → Demand3 L s flows ts (final m ts)
@@ -217,9 +217,9 @@ module _ (L : Layout) (s : Setting) (flows : List ℕ) (v : Valid s) where
       }
 
 -- An opening that answers 0 had a setting.
-pub had_setting : (o : Option Setting) (room : ℕ) → opening o room ≡ value 0 → (s : Setting) × (o ≡ some s)
-had_setting none room e = absurd (subst IsValue (sym e) tt)
-had_setting (some s) room e = (s, refl)
+pub had_setting : (o : Option Setting) (room : ℕ) → opening o room ≡ value 0 → (s : Setting) × (o ≡ Some s)
+had_setting None room e = absurd (subst IsValue (sym e) tt)
+had_setting (Some s) room e = (s, refl)
 
 pub demand_3 : (L : Layout) → EveryList L
 demand_3 L scheme E w flows m₀ m a p e ts r =

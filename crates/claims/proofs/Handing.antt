@@ -1,6 +1,6 @@
 -- The ADU call hands out what the history says, after every list of calls that the promises allow.
-use Rattle.std.specs.Prelude.{◌≡◌, ◌≤◌, ◌+◌, ◌<◌, ◌%◌, ◌∷◌, ◌++◌, ◌^◌, ◌↔◌}
-use Rattle.words.specs.Words.{arith, ℕ, List, length, ◌∙◌, sym, ap, [], some, none, true, subst, drop, take, ap₂}
+use Rattle.std.specs.Prelude.{◌≡◌, ◌≤◌, ◌+◌, ◌<◌, ◌%◌, ◌∷◌, ◌++◌, ◌^◌, ◌↔◌, Result, Ok, Err}
+use Rattle.words.specs.Words.{arith, ℕ, List, length, ◌∙◌, sym, ap, [], Some, None, true, subst, drop, take, ap₂}
 use Rattle.words.specs.Words.{some-injective, none-ne-some, take-append_seam}
 use mathlib.Core.Logic.Iff
 use Rattle.wire.specs.declared.Setting.{Setting}
@@ -9,12 +9,9 @@ use Rattle.wire.specs.Packets.{source_symbols}
 use Rattle.wire.specs.Flows.{announced}
 use Rattle.wire.proofs.Adui.{symbols_count}
 use Rattle.wire.proofs.Settings.{setting-names}
-use Rattle.starts.specs.declared.Handed.{Handed}
-use Rattle.starts.specs.declared.Handed.TheVariants.{Adu, Withheld}
 use Rattle.starts.specs.Adu.{View, Handing, hands, withholds, handing, HandedAs}
 use Rattle.starts.specs.Starts.{Starts, nowhere, seen}
 use Rattle.starts.proofs.Handing.{flow_handed, adu-of, withheld, handing_exactly}
-use Rattle.wire.specs.declared.Answer.{Answer}
 use Rattle.wire.specs.Answers.{value, said}
 use Rattle.history.specs.History.{Located, reading, base_for, Log, fresh, base_of, OfBytes, esi_of, logged, Start, symbols_at}
 use Rattle.history.specs.Model.{Joined, State, opened, found_by, state_after, responds, answering, marking, adu_at}
@@ -27,45 +24,46 @@ use Rattle.claims.specs.Run.{Step, Run, final, read, goes_on, history}
 use Rattle.claims.specs.Demand.{esi}
 use Rattle.claims.specs.Handing.{Told, HoldsAdu, IsHandedOut, HandingTold, HandsOut}
 use Rattle.claims.proofs.Demand.{some_bytes, read_found, read_passes, called, had_setting}
+use Rattle.wire.specs.declared.Refusal.{Refusal}
 
 -- ---- What a call returned, and what it handed out
 
-abbrev IsAdu : Handed → Type 0
-IsAdu (Adu flow L) = Unit {0}
-IsAdu (Withheld x) = ⊥
+abbrev IsAdu : Result (ℕ × ℕ) Refusal → Type 0
+IsAdu (Ok (flow, L)) = Unit {0}
+IsAdu (Err x) = ⊥
 
-abbrev pub its_flow : Handed → ℕ
-its_flow (Adu flow L) = flow
-its_flow (Withheld x) = 0
+abbrev pub its_flow : Result (ℕ × ℕ) Refusal → ℕ
+its_flow (Ok (flow, L)) = flow
+its_flow (Err x) = 0
 
-abbrev its_length : Handed → ℕ
-its_length (Adu flow L) = L
-its_length (Withheld x) = 0
+abbrev its_length : Result (ℕ × ℕ) Refusal → ℕ
+its_length (Ok (flow, L)) = L
+its_length (Err x) = 0
 
-returned : (h : Handing) (out out' : List ℕ) (a : Handed) → HandedAs h out out' a → (flow : ℕ) (adu : List ℕ)
-    → ((a ≡ Adu flow (length adu)) × (out' ≡ adu ++ drop (length adu) out)) ↔ (h ≡ hands flow adu)
+returned : (h : Handing) (out out' : List ℕ) (a : Result (ℕ × ℕ) Refusal) → HandedAs h out out' a → (flow : ℕ) (adu : List ℕ)
+    → ((a ≡ Ok (flow, length adu)) × (out' ≡ adu ++ drop (length adu) out)) ↔ (h ≡ hands flow adu)
 returned (hands f x) out out' a (e, o) flow adu = (
   (λ (e', o').
-      let same : Adu f (length x) ≡ Adu flow (length adu) = sym e ∙ e' in
+      let same : Ok (f, length x) ≡ Ok (flow, length adu) = sym e ∙ e' in
       let l : length x ≡ length adu = ap its_length same in
       let front : x ≡ adu =
       sym (take-append_seam x (drop (length x) out)) ∙ ap₂ take l (sym o ∙ o') ∙ take-append_seam adu (drop (length adu) out) in
       ap₂ hands (ap its_flow same) front),
   (λ h.
       let x≡ : x ≡ adu = ap adu-of h in (
-        e ∙ ap₂ Adu (ap flow_handed h) (ap length x≡),
+        e ∙ ap₂ (λ x y. Ok (x, y)) (ap flow_handed h) (ap length x≡),
         o ∙ ap (λ (l : List ℕ). l ++ drop (length l) out) x≡,
       )),
 )
-returned (withholds n) out out' (Adu f l) p flow adu = absurd p
-returned (withholds n) out out' (Withheld r) p flow adu = ((λ (e, o). absurd (subst IsAdu (sym e) tt)), (λ e. absurd (withheld n flow adu e)))
+returned (withholds n) out out' (Ok (f, l)) p flow adu = absurd p
+returned (withholds n) out out' (Err r) p flow adu = ((λ (e, o). absurd (subst IsAdu (sym e) tt)), (λ e. absurd (withheld n flow adu e)))
 
 -- ---- The history's words
 
 module _ (s : Setting) (flows : List ℕ) (v : Valid s) (qs : List Located) (base : ℕ) (see : View) (M : Starts) where
   open s use {size as E, width}
 
-  module _ (sees : Sees E qs base see) (outside : (i : ℕ) → width ≤ i → see i ≡ none) (starts : AreStarts s qs base M) where
+  module _ (sees : Sees E qs base see) (outside : (i : ℕ) → width ≤ i → see i ≡ None) (starts : AreStarts s qs base M) where
     told : Told s qs base see M
     told = record {
       known = λ i l k f a. sees.shown i k f a;
@@ -140,8 +138,8 @@ module _ (L : Layout) (s : Setting) (flows : List ℕ) (v : Valid s) where
   marked-on [] m l g p = g
   marked-on (t ∷ ts) m l g p = marked-on ts t.memory _ (step m l t g p.0 p.1) p.2
 
-  pub opened-marked : (scheme size w : ℕ) (m₀ m : List ℕ) (a : Answer) → Opened L scheme size w flows m₀ m a → said a ≡ value 0
-      → setting_of scheme size w ≡ some s → Marked m fresh
+  pub opened-marked : (scheme size w : ℕ) (m₀ m : List ℕ) (a : Result ℕ Refusal) → Opened L scheme size w flows m₀ m a → said a ≡ value 0
+      → setting_of scheme size w ≡ Some s → Marked m fresh
   opened-marked scheme size w m₀ m a p e h = record {
     state = opened s;
     held = p.holds s h e;
@@ -153,13 +151,13 @@ module _ (L : Layout) (s : Setting) (flows : List ℕ) (v : Valid s) where
 
   -- ---- The ADU call
 
-  adu-before : (m : List ℕ) (M : Starts) → L.Holds m s flows none → L.Marks m s none M → (e : ℕ) (out out' : List ℕ) (a : Handed)
+  adu-before : (m : List ℕ) (M : Starts) → L.Holds m s flows None → L.Marks m s None M → (e : ℕ) (out out' : List ℕ) (a : Result (ℕ × ℕ) Refusal)
       → AduAnswered L m e out out' a → HandedAs (withholds 12) out out' a
   unfolding adu_at
-  adu-before m M h k e out out' a p = p.hands s flows none M h k
+  adu-before m M h k e out out' a p = p.hands s flows None M h k
 
-  module _ (m : List ℕ) (qs : List Located) (t : Joined s) (held : L.Holds m s flows (some t)) (tracks : TracksFrom s (some_bytes L s flows v) qs t)
-      (M : Starts) (marks : L.Marks m s (some t) M) (starts : AreStarts s qs t.base M) where
+  module _ (m : List ℕ) (qs : List Located) (t : Joined s) (held : L.Holds m s flows (Some t)) (tracks : TracksFrom s (some_bytes L s flows v) qs t)
+      (M : Starts) (marks : L.Marks m s (Some t) M) (starts : AreStarts s qs t.base M) where
     abbrev see : View
     see = seen E width t.window
 
@@ -167,11 +165,11 @@ module _ (L : Layout) (s : Setting) (flows : List ℕ) (v : Valid s) where
     sees = tracks_sees s (some_bytes L s flows v) qs t tracks
 
     -- What it came to.
-    answered : (d : ℕ) (out out' : List ℕ) (a : Handed) (h : Handing) → adu_at s flows (some t) M (length out) ((t.base + d) % 2 ^ 32) ≡ h
+    answered : (d : ℕ) (out out' : List ℕ) (a : Result (ℕ × ℕ) Refusal) (h : Handing) → adu_at s flows (Some t) M (length out) ((t.base + d) % 2 ^ 32) ≡ h
         → AduAnswered L m (esi (t.base + d)) out out' a → HandedAs h out out' a
-    answered d out out' a h e p = subst (λ x. HandedAs x out out' a) e (p.hands s flows (some t) M held marks)
+    answered d out out' a h e p = subst (λ x. HandedAs x out out' a) e (p.hands s flows (Some t) M held marks)
 
-    in_order : (d : ℕ) → d < width → (out out' : List ℕ) (a : Handed) → AduAnswered L m (esi (t.base + d)) out out' a
+    in_order : (d : ℕ) → d < width → (out out' : List ℕ) (a : Result (ℕ × ℕ) Refusal) → AduAnswered L m (esi (t.base + d)) out out' a
         → HandedAs (handing E width flows (length out) M see d) out out' a
     in_order d k out out' a p =
         let n = v.width_most in
@@ -201,15 +199,15 @@ module _ (L : Layout) (s : Setting) (flows : List ℕ) (v : Valid s) where
     after = λ b n. joined-one b n g.state g.held g.marks (sym g.tracks.base_is ∙ n) (g.tracks.from b);
   }
     where
-      fresh-one : (x : State s) → L.Holds m s flows x → L.Marks m s x g.starts → base_in s (some_bytes L s flows v) x ≡ none
-          → (e : ℕ) (out out' : List ℕ) (a : Handed) → AduAnswered L m e out out' a → HandedAs (withholds 12) out out' a
-      fresh-one none h k n = adu-before m g.starts h k
-      fresh-one (some t) h k n = absurd (none-ne-some t.base (sym n))
+      fresh-one : (x : State s) → L.Holds m s flows x → L.Marks m s x g.starts → base_in s (some_bytes L s flows v) x ≡ None
+          → (e : ℕ) (out out' : List ℕ) (a : Result (ℕ × ℕ) Refusal) → AduAnswered L m e out out' a → HandedAs (withholds 12) out out' a
+      fresh-one None h k n = adu-before m g.starts h k
+      fresh-one (Some t) h k n = absurd (none-ne-some t.base (sym n))
 
-      joined-one : (b : ℕ) → base_of s l ≡ some b → (x : State s) → L.Holds m s flows x → L.Marks m s x g.starts
-          → base_in s (some_bytes L s flows v) x ≡ some b → TracksFrom s (some_bytes L s flows v) l (found_by s x b) → IsHandedOut L s flows m l b
-      joined-one b e none h k n f = absurd (none-ne-some b n)
-      joined-one b e (some t) h k n f =
+      joined-one : (b : ℕ) → base_of s l ≡ Some b → (x : State s) → L.Holds m s flows x → L.Marks m s x g.starts
+          → base_in s (some_bytes L s flows v) x ≡ Some b → TracksFrom s (some_bytes L s flows v) l (found_by s x b) → IsHandedOut L s flows m l b
+      joined-one b e None h k n f = absurd (none-ne-some b n)
+      joined-one b e (Some t) h k n f =
           let i : b ≡ t.base = sym (some-injective _ _ n) in
           subst (IsHandedOut L s flows m l) (sym i)
           (handed_out m l t h f g.starts k

@@ -1,6 +1,6 @@
 -- Positions become starts: after an ADU that is held at one, and where a source packet was accepted.
-use Rattle.std.specs.Prelude.{◌≡◌, ◌≤◌, ◌+◌, ◌<◌, ◌-◌, ◌∷◌, ◌++◌}
-use Rattle.words.specs.Words.{arith, ℕ, List, length, refl, ◌∙◌, sym, ap, [], some, true, get_or, subst, Option, drop, leb}
+use Rattle.std.specs.Prelude.{◌≡◌, ◌≤◌, ◌+◌, ◌<◌, ◌-◌, ◌∷◌, ◌++◌, Result, Ok}
+use Rattle.words.specs.Words.{arith, ℕ, List, length, refl, ◌∙◌, sym, ap, [], Some, true, get_or, subst, Option, drop, leb}
 use Rattle.words.specs.Words.{some-injective, inr, inl, append_assoc, leb-true}
 use Rattle.wire.specs.declared.Setting.{Setting}
 use Rattle.wire.specs.Settings.{Valid}
@@ -8,8 +8,6 @@ use Rattle.wire.specs.Packets.{symbol_count, source_symbols, source_adu}
 use Rattle.wire.specs.Flows.{announced}
 use Rattle.wire.proofs.Adui.{symbols_count}
 use Rattle.wire.proofs.Settings.{both}
-use Rattle.starts.specs.declared.Handed.{Handed}
-use Rattle.starts.specs.declared.Handed.TheVariants.{Adu}
 use Rattle.starts.proofs.Chaining.{symbols-some}
 use Rattle.history.specs.Symbol.{bytes_of, symbol_of}
 use Rattle.history.specs.History.{Filling, symbols_at, Located, source, repair, Satisfied, All, Consistent, Known, Reading, fails, located, first, esi_of}
@@ -24,6 +22,7 @@ use Rattle.claims.specs.Demand.{esi}
 use Rattle.claims.specs.Handing.{HoldsAdu, IsHandedOut}
 use Rattle.claims.specs.Heard.{GoesOn, Heard, HeardHanded}
 use Rattle.claims.proofs.SentAdus.{first_here, length_here}
+use Rattle.wire.specs.declared.Refusal.{Refusal}
 
 module _ (s : Setting) where
   open s use {size as E, width}
@@ -38,17 +37,17 @@ module _ (s : Setting) where
         λ k b. first_here E (omega (arith, v.size_least)) k p flow adu (h.held k b) in
         sym (symbol_bytes E (f p)) ∙ ap (symbol_of E) (first f a ∙ sym (first g c)) ∙ symbol_bytes E (g p)
 
-    on : (qs : List Located) (b : ℕ) → base_of s qs ≡ some b → Consistent E qs → Start s qs p → HoldsAdu s qs b p flow adu
+    on : (qs : List Located) (b : ℕ) → base_of s qs ≡ Some b → Consistent E qs → Start s qs p → HoldsAdu s qs b p flow adu
         → Start s qs (p + symbol_count E (length adu))
     on [] b e c r h = absurd r
     on (q ∷ qs) b e (f, a) r h =
         let base = raised s (base_of s qs) q in
         let is : base ≡ b = some-injective _ _ e in
         let n = ap (symbol_count E) (length_here E v.size_least f p flow adu h.long (h.held f a)) in
-        let some = symbols-some E (length adu) (omega (arith, v.size_least)) in
+        let Some = symbols-some E (length adu) (omega (arith, v.size_least)) in
         let span = start_spanned s (q ∷ qs) 0 p r in
         subst (λ (i : ℕ). Start s (q ∷ qs) (p + i)) n
-        (later r (omega (arith, some, h.inside, is)) (held_known (q ∷ qs) b h) f a
+        (later r (omega (arith, Some, h.inside, is)) (held_known (q ∷ qs) b h) f a
         (subst (λ (i : ℕ). Spanned s base (p + i)) (sym n)
         (record { low = omega (arith, span.low); high = omega (arith, h.inside, is) })))
 
@@ -61,15 +60,15 @@ module _ (s : Setting) where
   named_high o (repair x n coefficients symbols) p e = absurd e
 
   -- There is a base once a packet was accepted.
-  has_base : (newer older : List Located) (q : Located) → (b : ℕ) × (base_of s (newer ++ (q ∷ older)) ≡ some b)
+  has_base : (newer older : List Located) (q : Located) → (b : ℕ) × (base_of s (newer ++ (q ∷ older)) ≡ Some b)
   has_base [] older q = (_, refl)
   has_base (x ∷ newer) older q = (_, refl)
 
   -- A base rises only.
-  rises : (o : Option ℕ) (b : ℕ) (q : Located) → o ≡ some b → b ≤ raised s o q
+  rises : (o : Option ℕ) (b : ℕ) (q : Located) → o ≡ Some b → b ≤ raised s o q
   rises o b q e = subst (λ (y : ℕ). y ≤ raised s o q) (ap (λ (u : Option ℕ). base_for u (first q)) e) (omega arith)
 
-  stays : (newer older : List Located) (q : Located) (p : ℕ) → MarkedBy s q p → (b : ℕ) → base_of s (newer ++ (q ∷ older)) ≡ some b → b ≤ p
+  stays : (newer older : List Located) (q : Located) (p : ℕ) → MarkedBy s q p → (b : ℕ) → base_of s (newer ++ (q ∷ older)) ≡ Some b → b ≤ p
       → Start s (newer ++ (q ∷ older)) p
   stays [] older q p e b i h = already (inr e) (record { low = omega (arith, h, some-injective _ _ i); high = named_high (base_of s older) q p e })
   stays (x ∷ newer) older q p e b i h =
@@ -87,7 +86,7 @@ module _ (s : Setting) where
   satisfied [] older q f a = a.0
   satisfied (x ∷ newer) older q f a = satisfied newer older q f a.1
 
-  reaches : (newer older : List Located) (p : ℕ) (symbols : List (List ℕ)) (b : ℕ) → base_of s (newer ++ (source p symbols ∷ older)) ≡ some b
+  reaches : (newer older : List Located) (p : ℕ) (symbols : List (List ℕ)) (b : ℕ) → base_of s (newer ++ (source p symbols ∷ older)) ≡ Some b
       → p + length symbols ≤ b + width
   reaches [] older p symbols b i = omega (arith, some-injective _ _ i)
   reaches (x ∷ newer) older p symbols b i =
@@ -104,24 +103,24 @@ heard s flows ts newer older q e p n b i h =
     subst (λ qs. Start s qs p) (sym e) (stays s newer older q p n b (sym (ap (base_of s) e) ∙ i) h)
 
 -- An ADU whose symbols are those of an accepted source packet.
-held_handed : (L : Layout) (s : Setting) (flows : List ℕ) → Valid s → (ts : List Step) (m : List ℕ) (base : ℕ) → base_of s (history s flows ts) ≡ some base
+held_handed : (L : Layout) (s : Setting) (flows : List ℕ) → Valid s → (ts : List Step) (m : List ℕ) (base : ℕ) → base_of s (history s flows ts) ≡ Some base
     → IsHandedOut L s flows m (history s flows ts) base
     → (newer older : List Located) (p flow : ℕ) (adu : List ℕ) → length adu ≤ 65535 → announced flows flow ≡ true
     → history s flows ts ≡ newer ++ (source p (source_symbols flow adu s.size) ∷ older) → base ≤ p
-    → (out out' : List ℕ) (a : Handed) → AduAnswered L m (esi p) out out' a → length adu ≤ length out
-    → (a ≡ Adu flow (length adu)) × (out' ≡ adu ++ drop (length adu) out)
+    → (out out' : List ℕ) (a : Result (ℕ × ℕ) Refusal) → AduAnswered L m (esi p) out out' a → length adu ≤ length out
+    → (a ≡ Ok (flow, length adu)) × (out' ≡ adu ++ drop (length adu) out)
 held_handed L s flows v ts m base b g newer older p flow adu short known e h out out' a k room =
     let E = s.size in
     let qs = history s flows ts in
     let symbols = source_symbols flow adu E in
     let q = source p symbols in
     let count : length symbols ≡ symbol_count E (length adu) = symbols_count flow adu E in
-    let some = symbols-some E (length adu) (omega (arith, v.size_least)) in
+    let Some = symbols-some E (length adu) (omega (arith, v.size_least)) in
     let r : p + length symbols ≤ base + s.width =
     reaches s newer older p symbols base (sym (ap (base_of s) e) ∙ b) in
     let d = p - base in
     let here : base + d ≡ p = omega (arith, h) in
-    let inside : d < s.width = omega (arith, some, count, r, h) in
+    let inside : d < s.width = omega (arith, Some, count, r, h) in
     let start = heard s flows ts newer older q e p (inl refl) base b h in
     let held : HoldsAdu s qs base p flow adu = record {
       long = short;

@@ -1,6 +1,6 @@
 -- Joining a stream: 8 and 9 can't stop the first packet, its first ESI is the base, and no repair packet marks a start.
 use Rattle.std.specs.Prelude.{◌≡◌, ◌≤◌, ◌∷◌, ◌++◌, ◌⊎◌}
-use Rattle.words.specs.Words.{arith, ℕ, List, length, refl, ◌∙◌, sym, ap, [], some, none, subst, inr, inl}
+use Rattle.words.specs.Words.{arith, ℕ, List, length, refl, ◌∙◌, sym, ap, [], Some, None, subst, inr, inl}
 use Rattle.wire.specs.declared.Setting.{Setting}
 use Rattle.wire.specs.Settings.{Valid}
 use Rattle.wire.proofs.Settings.{setting-names}
@@ -26,7 +26,7 @@ pub last_bytes : (L : Layout) (ts : List Step) (t : Step) (m : List ℕ) → Run
 last_bytes L [] t m r = r.0
 last_bytes L (u ∷ ts) t m r = last_bytes L ts t u.memory r.2
 
-module _ (s : Setting) (flows : List ℕ) (v : Valid s) (ts : List Step) (t : Step) (b : OfBytes t.call) (e : base_of s (history s flows ts) ≡ none)
+module _ (s : Setting) (flows : List ℕ) (v : Valid s) (ts : List Step) (t : Step) (b : OfBytes t.call) (e : base_of s (history s flows ts) ≡ None)
     (judged : Judged s (history s flows ts) (read s flows (history s flows ts) t) (said t.answer)) where
   abbrev l : Log
   l = history s flows ts
@@ -61,12 +61,12 @@ module _ (s : Setting) (flows : List ℕ) (v : Valid s) (ts : List Step) (t : St
     begins : first q ≡ esi_of t.call
     begins = joins_at s flows (length t.working) t.call q b (sym at_esi ∙ x)
 
-    based : raised s none q ≡ esi_of t.call
+    based : raised s None q ≡ esi_of t.call
     based =
         let w = (reading_fits s flows (omega (arith, v.size_least)) (esi_of t.call) (length t.working) t.call q b (sym at_esi ∙ x)).short in
         omega (arith, begins, w)
 
-  refused_base : (r : Reading) (n : ℕ) → base_of s (logged s l r (refusal n)) ≡ none
+  refused_base : (r : Reading) (n : ℕ) → base_of s (logged s l r (refusal n)) ≡ None
   refused_base (fails m) n = e
   refused_base (located q) n = e
 
@@ -77,7 +77,7 @@ module _ (s : Setting) (flows : List ℕ) (v : Valid s) (ts : List Step) (t : St
     joins = λ a.
         let (q, x, c) = judged.accepted.0 a in
         let is = after q x a in
-        (ap joined_at is ∙ ap some (begins q x a), ap (base_of s) is ∙ ap some (based q x a));
+        (ap joined_at is ∙ ap Some (begins q x a), ap (base_of s) is ∙ ap Some (based q x a));
     stays = λ n h. ap (base_of s) (goes_one s flows ts fresh t ∙ ap (logged s l (read s flows l t)) h) ∙ refused_base (read s flows l t) n;
   }
 

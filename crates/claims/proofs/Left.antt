@@ -1,6 +1,6 @@
 -- Memory that an end has opened and only its calls have changed since has its header, with the setting of the opening.
 use Rattle.std.specs.Prelude.{◌≡◌}
-use Rattle.words.specs.Words.{ℕ, List, length, ◌∙◌, sym, ap, some, subst, ap₂}
+use Rattle.words.specs.Words.{ℕ, List, length, ◌∙◌, sym, ap, Some, subst, ap₂}
 use Rattle.memory.specs.Contained.{Contained}
 use Rattle.wire.specs.declared.Setting.{Setting}
 use Rattle.wire.specs.Settings.{setting_of}
@@ -53,7 +53,7 @@ receiver_held E width m r =
 
 pub record Has (E width : ℕ) (m : List ℕ) : Type 0 where
   pub header : Header
-  pub here : header_in m ≡ some header
+  pub here : header_in m ≡ Some header
   pub size : header.setting.size ≡ E
   pub wide : header.setting.width ≡ width
 

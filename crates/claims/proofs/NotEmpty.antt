@@ -1,12 +1,10 @@
 -- Every list of packet calls has a run: each call has an answer, and a memory to leave, that its promise allows.
-use Rattle.std.specs.Prelude.{◌≡◌, ◌≤◌, ◌<◌, ◌%◌, ◌∷◌, ◌≢◌, ◌+◌, ◌&&◌}
-use Rattle.words.specs.Words.{arith, ℕ, List, length, refl, ◌∙◌, sym, ap, [], some, none, subst, drop, some-injective}
+use Rattle.std.specs.Prelude.{◌≡◌, ◌≤◌, ◌<◌, ◌%◌, ◌∷◌, ◌≢◌, ◌+◌, ◌&&◌, Result, Ok, Err}
+use Rattle.words.specs.Words.{arith, ℕ, List, length, refl, ◌∙◌, sym, ap, [], Some, None, subst, drop, some-injective}
 use Rattle.words.specs.Words.{get_or, false, ltb, lt-ltb, le-ltb, dec_lt, mod-add-mod, none-ne-some, map, length-drop}
 use Rattle.wire.specs.declared.Setting.{Setting}
 use Rattle.wire.specs.Settings.{setting_of, Valid}
 use Rattle.wire.proofs.Settings.{setting-names}
-use Rattle.wire.specs.declared.Answer.{Answer}
-use Rattle.wire.specs.declared.Answer.TheVariants.{Done, Refused}
 use Rattle.holding.specs.declared.Header.{Header}
 use Rattle.starts.specs.Starts.{Starts, seen}
 use Rattle.marks.specs.Marks.{marked, noted_in}
@@ -40,6 +38,7 @@ use Rattle.claims.specs.NotEmpty.{Asked, asked, AllOfBytes, RunsExist}
 use Rattle.claims.proofs.Demand.{had_setting}
 use Rattle.marks.specs.Marks as stored
 use Rattle.origins.specs.Origins as origins
+use Rattle.wire.specs.declared.Refusal.{Refusal}
 
 module _ (s : Setting) (flows : List ℕ) (v : Valid s) where
   abbrev some_bytes : 0 < s.size
@@ -61,7 +60,7 @@ module _ (s : Setting) (flows : List ℕ) (v : Valid s) where
   receiving_alike t u room c k = answering_alike s flows (found_by s t (esi_of c)) (found_by s u (esi_of c)) room c (found_same s t u (esi_of c) k)
 
   -- The call does, of every state that the memory holds, what it does of one.
-  follows_all : (m m' : List ℕ) (a : Answer) (t : State s) (room : ℕ) (c : Call) → HoldsWith m s flows t
+  follows_all : (m m' : List ℕ) (a : Result ℕ Refusal) (t : State s) (room : ℕ) (c : Call) → HoldsWith m s flows t
       → Follows receiver_layout s flows (receiving s flows t room c) m m' a
       → (u : Setting) (f : List ℕ) (x : State u) → HoldsWith m u f x → Follows receiver_layout u f (receiving u f x room c) m m' a
   follows_all m m' a t room c h d =
@@ -84,8 +83,8 @@ module _ (s : Setting) (flows : List ℕ) (v : Valid s) where
       Marks m u x M → Marks m' u (state_after x o) (marking u j M (reading u f j.base room c) o)
 
   found-bytes : (m : List ℕ) (x : State s) (e : ℕ) (M : Starts) → Marks m s x M → stored.Marks s.width s.size ((found_by s x e).base % s.width) m M
-  found-bytes m none e M k = k (e % s.width)
-  found-bytes m (some t) e M k = k.bytes
+  found-bytes m None e M k = k (e % s.width)
+  found-bytes m (Some t) e M k = k.bytes
 
   -- A refusal leaves all marks.
   refused_marks : (j : Joined s) (M : Starts) (n : ℕ) (r : Reading) → marking s j M r (refused n) ≡ M
@@ -229,7 +228,7 @@ module _ (s : Setting) (flows : List ℕ) (v : Valid s) where
             later = none_later i room c n z H is (found_hears m s x (esi_of c) H g).later;
           })
 
-  contained : (m m' w : List ℕ) (t : State s) → Holds m s t → Contained (memory_size s) m m' → (h : Header) → header_in m ≡ some h
+  contained : (m m' w : List ℕ) (t : State s) → Holds m s t → Contained (memory_size s) m m' → (h : Header) → header_in m ≡ Some h
       → Contained (memory_size h.setting) m m' × Contained (working_size h.setting) w w
   contained m m' w t k d h e =
       (subst (λ y. Contained (memory_size y) m m') (sym (setting_held m h s t e k)) d, record { same = refl; past = refl })
@@ -249,7 +248,7 @@ module _ (s : Setting) (flows : List ℕ) (v : Valid s) where
 
   -- The next call.
   record Next (m : List ℕ) (t : State s) (c : Call) (w : List ℕ) : Type 0 where
-    answer : Answer
+    answer : Result ℕ Refusal
     memory : List ℕ
     received : Received receiver_layout c m memory w w answer
     state : State s
@@ -260,20 +259,20 @@ module _ (s : Setting) (flows : List ℕ) (v : Valid s) where
       go (receiving s flows t (length w) c) refl
       (answering_sound s some_bytes flows (found_by s t (esi_of c)) (found_stands m s t (esi_of c) some_bytes h.holds).reduced (length w) c)
     where
-      is-headed : header_in m ≡ none → ⊥
+      is-headed : header_in m ≡ None → ⊥
       is-headed e = none-ne-some _ (sym e ∙ h.holds.header)
 
       go : (o : Outcome s) → receiving s flows t (length w) c ≡ o → Sound s some_bytes o → Next m t c w
       go (refused n) e g = record {
-        answer = Refused g.refusal;
+        answer = Err g.refusal;
         memory = m;
         received = record {
           unopened = ((λ q. absurd (g.other (sym g.number ∙ ap number q))), (λ q. absurd (is-headed q)));
           untouched = λ _. refl;
           refused = λ k q. refl;
           contained = contained m m w t h.holds (record { same = refl; past = refl });
-          follows = follows_all m m (Refused g.refusal) t (length w) c h
-              (subst (λ x. Follows receiver_layout s flows x m m (Refused g.refusal)) (sym e) (ap refusal g.number, refl));
+          follows = follows_all m m (Err g.refusal) t (length w) c h
+              (subst (λ x. Follows receiver_layout s flows x m m (Err g.refusal)) (sym e) (ap refusal g.number, refl));
           starts = starts-refused m t (length w) c n h e;
           origins = heard_refused m t (length w) c n h e;
         };
@@ -290,12 +289,12 @@ module _ (s : Setting) (flows : List ℕ) (v : Valid s) where
           let H = origins_after {s = s} r (done n x) (now_heard m j) in
           let b = built s flows v (flows-length m s flows t h) x g H (drop (memory_size s) m) in
           let room : memory_size s ≤ length m = subst (λ y. memory_size y ≤ length m) (setting-of s t) (header-room m (header_of s t) h.holds.header) in
-          let fits = header_fits b.memory (header_of s (some x)) b.holds.holds.header in
+          let fits = header_fits b.memory (header_of s (Some x)) b.holds.holds.header in
           let M = marking s j (now_marked m j) r (done n x) in
           let (m', only, marks, noted) = with-starts s.width s.size (x.base % s.width) M fits.some_width b.memory fits.room in
-          let held = starts_keep (some x) b.memory m' b.holds (omega (arith, fits.room, header-long)) only in
+          let held = starts_keep (Some x) b.memory m' b.holds (omega (arith, fits.room, header-long)) only in
           record {
-            answer = Done n;
+            answer = Ok n;
             memory = m';
             received = record {
               unopened = ((λ q. absurd (subst IsValue q tt)), (λ q. absurd (is-headed q)));
@@ -305,11 +304,11 @@ module _ (s : Setting) (flows : List ℕ) (v : Valid s) where
                 same = only.size ∙ b.same ∙ omega (arith, length-drop (memory_size s) m, room);
                 past = (starts_contained s b.memory m' only).past ∙ b.rest;
               });
-              follows = follows_all m m' (Done n) t (length w) c h (subst (λ y. Follows receiver_layout s flows y m m' (Done n)) (sym e) (refl, held));
+              follows = follows_all m m' (Ok n) t (length w) c h (subst (λ y. Follows receiver_layout s flows y m m' (Ok n)) (sym e) (refl, held));
               starts = starts_done m m' t (length w) c n x h e (λ q. absurd (omega (arith, noted, q))) marks;
               origins = heard_done m m' t (length w) c n x h e (λ i l. ap (ltb 0) (untouched s.width s.size only _) ∙ b.heard i l);
             };
-            state = some x;
+            state = Some x;
             held = held;
           }
 

@@ -1,6 +1,6 @@
 -- Heard or solved: beside its 0 the symbol call says what the history says, after every list of calls that the promises allow.
-use Rattle.std.specs.Prelude.{◌≡◌, ◌≤◌, ◌+◌, ◌<◌, ◌-◌, ◌∷◌, ◌++◌, ◌≢◌, ◌↔◌}
-use Rattle.words.specs.Words.{arith, ℕ, List, length, refl, ◌∙◌, sym, ap, [], some, none, true, get_or, false, subst, Bool}
+use Rattle.std.specs.Prelude.{◌≡◌, ◌≤◌, ◌+◌, ◌<◌, ◌-◌, ◌∷◌, ◌++◌, ◌≢◌, ◌↔◌, Result, Ok, Err}
+use Rattle.words.specs.Words.{arith, ℕ, List, length, refl, ◌∙◌, sym, ap, [], Some, None, true, get_or, false, subst, Bool}
 use Rattle.words.specs.Words.{Option, ap₂, inl, inr, ⊎_elim, some-injective, none-ne-some}
 use mathlib.Core.List.Memᴰ
 use mathlib.Core.List.{Memᴰ}
@@ -9,10 +9,7 @@ use mathlib.Core.Logic.Iff
 use Rattle.wire.specs.declared.Setting.{Setting}
 use Rattle.wire.specs.Settings.{setting_of, Valid}
 use Rattle.wire.proofs.Settings.{setting-names}
-use Rattle.wire.specs.declared.Answer.{Answer}
 use Rattle.wire.specs.Answers.{value, said}
-use Rattle.receiver.specs.declared.SymbolAnswer.{SymbolAnswer}
-use Rattle.receiver.specs.declared.SymbolAnswer.TheVariants.{Shown, Hidden}
 use Rattle.history.specs.Symbol.{Symbol, bytes_of, symbol_of}
 use Rattle.history.specs.History.{Filling, Located, source, repair, All, Known, reading, Log, fresh, OfBytes, esi_of, IsValue, base_of}
 use Rattle.history.specs.History.{logged}
@@ -28,6 +25,7 @@ use Rattle.claims.specs.Origins.{ToldOrigin, Origins, BroughtBy, AreBroughtBy, S
 use Rattle.claims.proofs.Accepted.{AcceptedAs, keeps_on, accepted_as}
 use Rattle.claims.proofs.Demand.{some_bytes, Stands, read_found, called, From, symbol, found, here, exactly, had_setting}
 use Rattle.decoder.specs.Receiver as decoder
+use Rattle.wire.specs.declared.Refusal.{Refusal}
 
 -- ---- The history's words
 
@@ -104,13 +102,13 @@ brought_by s flows ts p = (
 -- ---- The calls
 
 -- What an answer is.
-abbrev IsShown : SymbolAnswer → Type 0
-IsShown (Shown heard) = Unit {0}
-IsShown (Hidden r) = ⊥
+abbrev IsShown : Result Bool Refusal → Type 0
+IsShown (Ok heard) = Unit {0}
+IsShown (Err r) = ⊥
 
-abbrev its_origin : SymbolAnswer → Bool
-its_origin (Shown heard) = heard
-its_origin (Hidden r) = false
+abbrev its_origin : Result Bool Refusal → Bool
+its_origin (Ok heard) = heard
+its_origin (Err r) = false
 
 not_so : (h : Bool) → h ≢ true → h ≡ false
 not_so true n = absurd (n refl)
@@ -145,8 +143,8 @@ module _ (L : Layout) (s : Setting) (flows : List ℕ) (v : Valid s) where
   heard_on [] m l g p = g
   heard_on (t ∷ ts) m l g p = heard_on ts t.memory _ (step m l t g p.0 p.1) p.2
 
-  pub opened_heard : (scheme size w : ℕ) (m₀ m : List ℕ) (a : Answer) → Opened L scheme size w flows m₀ m a → said a ≡ value 0
-      → setting_of scheme size w ≡ some s → Heard m fresh
+  pub opened_heard : (scheme size w : ℕ) (m₀ m : List ℕ) (a : Result ℕ Refusal) → Opened L scheme size w flows m₀ m a → said a ≡ value 0
+      → setting_of scheme size w ≡ Some s → Heard m fresh
   opened_heard scheme size w m₀ m a p e h = record {
     stands = record { state = opened s; held = p.holds s h e; tracks = fresh_tracks s (some_bytes L s flows v) };
     hears = p.origins s h e;
@@ -154,27 +152,27 @@ module _ (L : Layout) (s : Setting) (flows : List ℕ) (v : Valid s) where
 
   -- ---- The symbol call
 
-  module _ (m : List ℕ) (qs : List Located) (b : ℕ) (g : From L s flows v m qs b) (hears : L.Hears m s (some g.state) (brought qs)) (i : ℕ)
+  module _ (m : List ℕ) (qs : List Located) (b : ℕ) (g : From L s flows v m qs b) (hears : L.Hears m s (Some g.state) (brought qs)) (i : ℕ)
       (within : i < width) where
     -- What it answers, by whether the position is known.
-    answers : (h : Bool) (a : SymbolAnswer) → SymbolShown L m (esi (b + i)) a → (o : Option (Symbol E)) → symbol L s flows v m qs b g i within ≡ o
-        → Finds L (found L s flows v m qs b g i within o) (shown_of a) → (a ≡ Shown h) ↔ (decoder.Accepted o × (brought qs (b + i) ≡ h))
-    answers h (Shown heard) p none k f = absurd (subst IsValue f tt)
-    answers h (Hidden r) p none k f = ((λ e. absurd (subst IsShown (sym e) tt)), (λ c. absurd c.0))
-    answers h (Hidden r) p (some x) k f = absurd (subst IsValue (sym f) tt)
-    answers h (Shown heard) p (some x) k f =
+    answers : (h : Bool) (a : Result Bool Refusal) → SymbolShown L m (esi (b + i)) a → (o : Option (Symbol E)) → symbol L s flows v m qs b g i within ≡ o
+        → Finds L (found L s flows v m qs b g i within o) (shown_of a) → (a ≡ Ok h) ↔ (decoder.Accepted o × (brought qs (b + i) ≡ h))
+    answers h (Ok heard) p None k f = absurd (subst IsValue f tt)
+    answers h (Err r) p None k f = ((λ e. absurd (subst IsShown (sym e) tt)), (λ c. absurd c.0))
+    answers h (Err r) p (Some x) k f = absurd (subst IsValue (sym f) tt)
+    answers h (Ok heard) p (Some x) k f =
         let is : heard ≡ brought qs (b + i) =
-        p.origin s flows (some g.state) (brought qs) g.held hears (g.state.base + i) x heard
+        p.origin s flows (Some g.state) (brought qs) g.held hears (g.state.base + i) x heard
         (here L s flows v m qs b g i within ∙ ap (found L s flows v m qs b g i within) k) refl
         ∙ ap (λ y. brought qs (y + i)) g.base_is in
-        ((λ e. (tt, sym is ∙ ap its_origin e)), (λ (_, e). ap Shown (is ∙ e)))
+        ((λ e. (tt, sym is ∙ ap its_origin e)), (λ (_, e). ap Ok (is ∙ e)))
 
     -- It says h beside its 0 exactly where the position is known and the history says h of it.
-    told : (h : Bool) (a : SymbolAnswer) → SymbolShown L m (esi (b + i)) a → (a ≡ Shown h) ↔ (Known E qs (b + i) × (brought qs (b + i) ≡ h))
+    told : (h : Bool) (a : Result Bool Refusal) → SymbolShown L m (esi (b + i)) a → (a ≡ Ok h) ↔ (Known E qs (b + i) × (brought qs (b + i) ≡ h))
     told h a p =
         Iff.trans
         (answers h a p _ refl
-        (subst (λ y. Finds L y (shown_of a)) (here L s flows v m qs b g i within) (p.answered.finds s flows (some g.state) g.held)))
+        (subst (λ y. Finds L y (shown_of a)) (here L s flows v m qs b g i within) (p.answered.finds s flows (Some g.state) g.held)))
         (Iff.and (exactly L s flows v m qs b g i within) Iff.rfl)
 
     told_origin : ToldOrigin L s m qs (b + i)
@@ -188,15 +186,15 @@ module _ (L : Layout) (s : Setting) (flows : List ℕ) (v : Valid s) where
         }
 
   -- From the base on, up to the width; and by the position itself.
-  heard_origin : (m : List ℕ) (l : Log) → Heard m l → (b : ℕ) → base_of s l ≡ some b → (i : ℕ) → i < width → ToldOrigin L s m l (b + i)
+  heard_origin : (m : List ℕ) (l : Log) → Heard m l → (b : ℕ) → base_of s l ≡ Some b → (i : ℕ) → i < width → ToldOrigin L s m l (b + i)
   heard_origin m l g b e i h = go g.stands.state g.stands.held g.hears (sym g.stands.tracks.base_is ∙ e) (g.stands.tracks.from b)
     where
-      go : (x : State s) → L.Holds m s flows x → L.Hears m s x (brought l) → base_in s (some_bytes L s flows v) x ≡ some b
+      go : (x : State s) → L.Holds m s flows x → L.Hears m s x (brought l) → base_in s (some_bytes L s flows v) x ≡ Some b
           → TracksFrom s (some_bytes L s flows v) l (found_by s x b) → ToldOrigin L s m l (b + i)
-      go none k y n f = absurd (none-ne-some b n)
-      go (some t) k y n f = told_origin m l b (record { state = t; base_is = some-injective _ _ n; held = k; tracks = f }) y i h
+      go None k y n f = absurd (none-ne-some b n)
+      go (Some t) k y n f = told_origin m l b (record { state = t; base_is = some-injective _ _ n; held = k; tracks = f }) y i h
 
-  origin_at_lem : (m : List ℕ) (l : Log) → Heard m l → (b : ℕ) → base_of s l ≡ some b → (p : ℕ) → b ≤ p → p < b + width → ToldOrigin L s m l p
+  origin_at_lem : (m : List ℕ) (l : Log) → Heard m l → (b : ℕ) → base_of s l ≡ Some b → (p : ℕ) → b ≤ p → p < b + width → ToldOrigin L s m l p
   origin_at_lem m l g b e p low high =
       let at : b + (p - b) ≡ p = omega arith in
       subst (ToldOrigin L s m l) at (heard_origin m l g b e (p - b) (omega arith))

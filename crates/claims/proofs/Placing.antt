@@ -1,12 +1,11 @@
 -- The place of a symbol holds what the history says, after every list of calls that the promises allow.
 use denote.Ref.{Bor}
-use Rattle.std.specs.Prelude.{◌≡◌, ◌+◌, ◌<◌}
-use Rattle.words.specs.Words.{arith, ℕ, List, length, refl, ◌∙◌, sym, ap, some, none, subst, Option}
+use Rattle.std.specs.Prelude.{◌≡◌, ◌+◌, ◌<◌, Result}
+use Rattle.words.specs.Words.{arith, ℕ, List, length, refl, ◌∙◌, sym, ap, Some, None, subst, Option}
 use Rattle.memory.specs.Part.{part, LiesAt}
 use Rattle.wire.specs.declared.Setting.{Setting}
 use Rattle.wire.specs.Settings.{setting_of, Valid}
 use Rattle.wire.proofs.Settings.{setting-names}
-use Rattle.wire.specs.declared.Answer.{Answer}
 use Rattle.history.specs.Symbol.{Symbol, bytes_of}
 use Rattle.wire.specs.Answers.{value, refusal, said}
 use Rattle.history.specs.History.{IsValue, Filling, Located, All, fresh}
@@ -20,38 +19,39 @@ use Rattle.claims.specs.Placing.{PlacedExactly, Placed, EveryPlace, PartPlaced}
 use Rattle.claims.proofs.Demand.{stands, From, held_fresh, held_from, at_base, symbol, found, here, exactly, value-is, opened_stands, had_setting}
 use Rattle.claims.proofs.Left.{receiver_held}
 use Rattle.decoder.specs.Receiver as decoder
+use Rattle.wire.specs.declared.Refusal.{Refusal}
 
 module _ (L : Layout) (s : Setting) (flows : List ℕ) (v : Valid s) (m : List ℕ) where
   open s use {size as E, width}
 
-  place_before : L.Holds m s flows none → (e : ℕ) (a : Answer) → PlaceAnswered L m e a → said a ≡ refusal 12
+  place_before : L.Holds m s flows None → (e : ℕ) (a : Result ℕ Refusal) → PlaceAnswered L m e a → said a ≡ refusal 12
   unfolding finding
-  place_before h e a p = p.places s flows none h
+  place_before h e a p = p.places s flows None h
 
   module _ (qs : List Located) (b : ℕ) (g : From L s flows v m qs b) where
     -- What the call found.
-    place_is : (d : ℕ) (o : Finding E) → finding s (some g.state) (esi (b + d)) ≡ o → (a : Answer) → PlaceAnswered L m (esi (b + d)) a
+    place_is : (d : ℕ) (o : Finding E) → finding s (Some g.state) (esi (b + d)) ≡ o → (a : Result ℕ Refusal) → PlaceAnswered L m (esi (b + d)) a
         → Places L s o m a
-    place_is d o e a p = subst (λ x. Places L s x m a) e (p.places s flows (some g.state) g.held)
+    place_is d o e a p = subst (λ x. Places L s x m a) e (p.places s flows (Some g.state) g.held)
 
     module _ (i : ℕ) (within : i < width) where
-      placed_at : (o : Option (Symbol E)) → symbol L s flows v m qs b g i within ≡ o → (a : Answer) → Places L s (found L s flows v m qs b g i within o) m a
+      placed_at : (o : Option (Symbol E)) → symbol L s flows v m qs b g i within ≡ o → (a : Result ℕ Refusal) → Places L s (found L s flows v m qs b g i within o) m a
           → decoder.Accepted o → (at : ℕ) × (said a ≡ value at) × ((f : Filling E) → All E qs f → part at E m ≡ bytes_of E (f (b + i)))
-      placed_at none k a p h = absurd h
-      placed_at (some x) k a p h = (
+      placed_at None k a p h = absurd h
+      placed_at (Some x) k a p h = (
         L.symbol_start s (g.state.base + i),
         p.0,
         (λ f c. p.1 ∙ ap (bytes_of E) (sym (value-is L s flows v m qs b g i within x k f c))),
       )
 
-      lost : (o : Option (Symbol E)) (a : Answer) → Places L s (found L s flows v m qs b g i within o) m a → ¬ decoder.Accepted o → said a ≡ refusal 12
-      lost none a p h = p
-      lost (some x) a p h = absurd (h tt)
+      lost : (o : Option (Symbol E)) (a : Result ℕ Refusal) → Places L s (found L s flows v m qs b g i within o) m a → ¬ decoder.Accepted o → said a ≡ refusal 12
+      lost None a p h = p
+      lost (Some x) a p h = absurd (h tt)
 
       placed_exactly : PlacedExactly L s m qs (b + i)
       placed_exactly =
           let o = symbol L s flows v m qs b g i within in
-          let is : (a : Answer) → PlaceAnswered L m (esi (b + i)) a → Places L s (found L s flows v m qs b g i within o) m a =
+          let is : (a : Result ℕ Refusal) → PlaceAnswered L m (esi (b + i)) a → Places L s (found L s flows v m qs b g i within o) m a =
           place_is i (found L s flows v m qs b g i within o) (here L s flows v m qs b g i within) in
           record {
             known = λ a p k. placed_at o refl a (is a p) ((exactly L s flows v m qs b g i within).1 k);
@@ -80,7 +80,7 @@ every_place L scheme E w flows m₀ m a p e ts r =
     )
 
 -- What was found at once tells the part and its place.
-placed_part : (s : Setting) (o : Finding s.size) (m r : Bor (List ℕ)) (a : Answer) (at : ℕ) → said a ≡ value at
+placed_part : (s : Setting) (o : Finding s.size) (m r : Bor (List ℕ)) (a : Result ℕ Refusal) (at : ℕ) → said a ≡ value at
     → Shows receiver_layout s o m r → Places receiver_layout s o m.now a → LiesAt r m at s.size
 placed_part s (shows p v) m r a at z (b, l) (x, y) =
     let i : receiver_layout.symbol_start s p ≡ at = cc in

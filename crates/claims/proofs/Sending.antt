@@ -4,7 +4,7 @@
 --   sender_sends: every packet of a list of calls
 --   Taken, begun, begun-symbols: an ADU that was taken, and its symbols among the sender's
 --   sent_wrote: a packet of the sender's is of its symbols
-use Rattle.std.specs.Prelude.{◌≡◌, ◌≤◌, ◌+◌, ◌<◌, ◌%◌, ◌∷◌, ◌*◌, ◌++◌, ◌^◌}
+use Rattle.std.specs.Prelude.{◌≡◌, ◌≤◌, ◌+◌, ◌<◌, ◌%◌, ◌∷◌, ◌*◌, ◌++◌, ◌^◌, Ok, Err}
 use Rattle.words.specs.Words.{arith, ℕ, List, length, refl, ◌∙◌, sym, ap, [], true, false, Bool, drop, take, map}
 use Rattle.words.specs.Words.{ap₂, append_assoc, length-drop, length-take, take-append-drop, take_at}
 use lib.Seq.{append_snoc}
@@ -12,11 +12,9 @@ use Rattle.memory.specs.Number.{Bytes}
 use Rattle.wire.specs.declared.Setting.{Setting}
 use Rattle.wire.specs.Settings.{Valid}
 use Rattle.wire.specs.Packets.{source_symbols, source_packet, repair_packet}
-use Rattle.wire.specs.declared.Answer.TheVariants.{Done, Refused}
 use Rattle.wire.specs.Answers.{value}
 use Rattle.rows.specs.Combination.{combination}
 use Rattle.coefficients.specs.Coefficients.{lists_of, all_ok}
-use Rattle.sender.specs.declared.RepairAnswer.TheVariants.{Made, NotMade}
 use Rattle.sender.specs.Run.{SenderCall, added, repaired, Calls, SenderRun, symbols_of}
 use Rattle.sender.specs.Judged.{Writes, Ranged, AduJudged, key_in, keys_in, covered, older, packet_of, RepairJudged}
 use Rattle.wire.specs.Flows.{Announced}
@@ -102,26 +100,26 @@ module _ (t : Setting) (v : Valid t) (l : List SenderCall) (r : SenderRun t l) w
 
   sends : (before after : List SenderCall) → l ≡ before ++ after → OfBytes (map given after) → AllSent t.scheme t.size l (packets_of after)
   sends before [] e b = tt
-  sends before (added flow adu out (Done n) m' out' ∷ after) e (f, a, b) =
+  sends before (added flow adu out (Ok n) m' out' ∷ after) e (f, a, b) =
       let xs = symbols_of t.size before in
-      let x = added flow adu out (Done n) m' out' in
+      let x = added flow adu out (Ok n) m' out' in
       let g : Begins t.size l (length xs) flow adu
       = record { before = before; after = after; out = out; answer = n; m' = m'; out' = out'; split = e; place = refl } in
       let known = announced-only t l r before flow adu out n m' out' after e in
       let p = adu-packet t v r.flows xs _ flow adu out n m' out' known (sender_judged t l r before x after e) in
       ((length xs, rw p (sent-source g)), sends (before ++ (x ∷ [])) after (moved before x after e) b)
-  sends before (added flow adu out (Refused k) m' out' ∷ after) e (f, a, b) =
-      let x = added flow adu out (Refused k) m' out' in sends (before ++ (x ∷ [])) after (moved before x after e) b
-  sends before (repaired key dt count out (Made n d) out' ∷ after) e (k, b) =
+  sends before (added flow adu out (Err k) m' out' ∷ after) e (f, a, b) =
+      let x = added flow adu out (Err k) m' out' in sends (before ++ (x ∷ [])) after (moved before x after e) b
+  sends before (repaired key dt count out (Ok (n, d)) out' ∷ after) e (k, b) =
       let xs = symbols_of t.size before in
-      let x = repaired key dt count out (Made n d) out' in
+      let x = repaired key dt count out (Ok (n, d)) out' in
       let p = repair-packet t v r.flows xs _ key dt count out n d out' (sender_judged t l r before x after e) in
       let w = repair_wrote t v r.flows xs _ (symbols_of t.size after) key dt count (take n out') k p in
       let s : symbols_of t.size l ≡ xs ++ symbols_of t.size after = ap (symbols_of t.size) e ∙ symbols-append t.size before (x ∷ after) in
       let p = length (take (older t xs) xs) in
       ((p, sent-repair {p = p} {x = take n out'} (rw s w)), sends (before ++ (x ∷ [])) after (moved before x after e) b)
-  sends before (repaired key dt count out (NotMade k) out' ∷ after) e (i, b) =
-      let x = repaired key dt count out (NotMade k) out' in sends (before ++ (x ∷ [])) after (moved before x after e) b
+  sends before (repaired key dt count out (Err k) out' ∷ after) e (i, b) =
+      let x = repaired key dt count out (Err k) out' in sends (before ++ (x ∷ [])) after (moved before x after e) b
 
 of-bytes : (m : List ℕ) (l : List SenderCall) → Calls m l → OfBytes (map given l)
 of-bytes m [] c = tt
@@ -141,7 +139,7 @@ pub record Taken (flow : ℕ) (adu : List ℕ) : Type 0 where
 
 pub begun : (t : Setting) (l : List SenderCall) → SenderRun t l → (p flow : ℕ) (adu : List ℕ) → Begins t.size l p flow adu → Taken flow adu
 begun t l r p flow adu b =
-    let x = added flow adu b.out (Done b.answer) b.m' b.out' in
+    let x = added flow adu b.out (Ok b.answer) b.m' b.out' in
     let (h, c) = ran t r.flows [] r.after b.before (x ∷ b.after) (run_holds t l r) (rw b.split at r.calls) in
     let (f, g, q, d) = c in
     let j = sender_judged t l r b.before x b.after b.split in

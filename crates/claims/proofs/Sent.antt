@@ -9,7 +9,7 @@
 --   none_accepted: without a base there is no packet
 --   sender_fills, peer_size, peer_symbols, sent_accepted, sent_behind, sent-shown
 use Rattle.std.specs.Prelude.{◌≡◌, ◌≤◌, ◌+◌, ◌<◌, ◌-◌, ◌%◌, ◌∷◌, ◌++◌, ◌^◌}
-use Rattle.words.specs.Words.{arith, ℕ, List, length, refl, ◌∙◌, sym, ap, [], some, none, subst, Option, mod-lt}
+use Rattle.words.specs.Words.{arith, ℕ, List, length, refl, ◌∙◌, sym, ap, [], Some, None, subst, Option, mod-lt}
 use Rattle.words.specs.Words.{none-ne-some, map, lit<}
 use lib.ListN.{length-map}
 use Rattle.wire.specs.declared.Scheme.{Scheme}
@@ -49,12 +49,12 @@ found_again p base offset w n h = omega (arith, w, n.ahead, n.behind)
 
 -- What arrives is near the base for it, and the offset is a number of whole rounds of ESIs.
 abbrev pub Rounds : (offset : ℕ) → Option ℕ → Type 0
-Rounds offset o = (b : ℕ) → o ≡ some b → offset % 2 ^ 32 ≡ 0
+Rounds offset o = (b : ℕ) → o ≡ Some b → offset % 2 ^ 32 ≡ 0
 
 pub arrived : (o : Option ℕ) (offset p : ℕ) → Rounds offset o → Arrives o offset p
     → (offset % 2 ^ 32 ≡ 0) × Near p (base_for o (p % 2 ^ 32) + offset)
-arrived none offset p w a = (omega (arith, a), record { ahead = omega (arith, a, limits); behind = omega (arith, a, limits) })
-arrived (some b) offset p w a = (w b refl, a)
+arrived None offset p w a = (omega (arith, a), record { ahead = omega (arith, a, limits); behind = omega (arith, a, limits) })
+arrived (Some b) offset p w a = (w b refl, a)
 
 -- A sender's packet has the ESI of its position.
 pub esi_wrote : (scheme : Scheme) (E : ℕ) (all : List (List ℕ)) (x : Packet) (p : ℕ) → Wrote scheme E all x p → esi_of (call_of x) ≡ p % 2 ^ 32
@@ -238,8 +238,8 @@ module _ (s : Setting) (flows : List ℕ) where
   begins base (repair-call p) q h = subst (λ x. base ≤ first x) (repair-read s base p q h).says (omega arith)
 
   begins_after : (o : Option ℕ) (room : ℕ) (c : Call) (q : Located) → reading s flows (base_for o (esi_of c)) room c ≡ located q → base_for o (first q) ≤ first q
-  begins_after none room c q h = omega arith
-  begins_after (some b) room c q h = begins b c q (reading_passed s flows b room c q h)
+  begins_after None room c q h = omega arith
+  begins_after (Some b) room c q h = begins b c q (reading_passed s flows b room c q h)
 
   logged_led : (l : Log) (r : Reading) (a : Said) → ((q : Located) → r ≡ located q → base_for (base_of s l) (first q) ≤ first q) → Led l → Led (logged s l r a)
   logged_led l (fails m) a h k = k
@@ -251,12 +251,12 @@ module _ (s : Setting) (flows : List ℕ) where
   led [] l k = k
   led (t ∷ ts) l k = led ts _ (logged_led l (read s flows l t) (said t.answer) (begins_after (base_of s l) (length t.working) t.call) k)
 
-  pub joined_from : (ts : List Step) (join : ℕ) → joined_at (history s flows ts) ≡ some join → From join (history s flows ts)
+  pub joined_from : (ts : List Step) (join : ℕ) → joined_at (history s flows ts) ≡ Some join → From join (history s flows ts)
   joined_from ts join e =
       subst (λ o. From (base_for o 0) (history s flows ts)) e (led ts fresh (λ e. (tt, omega arith)) 0).0
 
 -- Without a base there is no packet.
-pub none_accepted : (s : Setting) (l : Log) → base_of s l ≡ none → l ≡ []
+pub none_accepted : (s : Setting) (l : Log) → base_of s l ≡ None → l ≡ []
 none_accepted s [] e = refl
 none_accepted s (q ∷ l) e = absurd (none-ne-some _ (sym e))
 
@@ -307,14 +307,14 @@ sent_accepted t s l k v flows offset ts w x p o known within c room enough a j =
     few = omega (arith, c, v.width_most)
 
     go : (u : Option ℕ) → base_of s (history s flows ts) ≡ u → InReach u offset p (named s.size x) → IsValue a
-    go none e h =
+    go None e h =
         let n = p - p % 2 ^ 32 in
         let sum : p % 2 ^ 32 + n ≡ p = omega arith in
         taken t s l k flows ts x p o known v c room enough a j (p % 2 ^ 32) n (omega arith)
         (ap (λ u. base_for u (esi_of (call_of x))) e ∙ esi_wrote s.scheme s.size (symbols_of s.size l) x p o) (omega (arith, sum))
         (omega (arith, sum, few, limits))
         (subst (λ qs. All s.size qs (filler s.size n (symbols_of s.size l))) (sym (none_accepted s (history s flows ts) e)) tt)
-    go (some b) e (h, g) =
+    go (Some b) e (h, g) =
         taken t s l k flows ts x p o known v c room enough a j b offset
         ((written_filled s flows (omega (arith, v.size_least)) (symbols_of s.size l) offset ts w).0 b e) (ap (λ u. base_for u (esi_of (call_of x))) e) h g
         (accepted t s l k flows offset ts w)

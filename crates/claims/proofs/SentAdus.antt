@@ -3,7 +3,7 @@
 --   junk_gives
 --   first_here: where a filling holds an ADU from a position on, its first symbol stands there, and says its length
 --   length_here, start_gives, sent-written, sent-starts, sent-handed
-use Rattle.std.specs.Prelude.{◌≡◌, ◌≤◌, ◌+◌, ◌<◌, ◌%◌, ◌∷◌, ◌++◌, ◌^◌, ◌⊎◌}
+use Rattle.std.specs.Prelude.{◌≡◌, ◌≤◌, ◌+◌, ◌<◌, ◌%◌, ◌∷◌, ◌++◌, ◌^◌, ◌⊎◌, Ok, Err}
 use Rattle.words.specs.Words.{arith, ℕ, List, length, refl, ◌∙◌, sym, ap, [], get_or, subst, mod-lt, none-ne-some}
 use Rattle.words.specs.Words.{add-zero, length-append, inr, inl, lit<, append-nil}
 use lib.Seq.{append_snoc}
@@ -13,7 +13,6 @@ use Rattle.wire.specs.Packets.{symbol_count, source_symbols}
 use Rattle.wire.proofs.Adui.{symbols_count}
 use Rattle.wire.proofs.Reading.{source-adu, source-esi}
 use Rattle.starts.specs.Adu.{length_in, needs}
-use Rattle.wire.specs.declared.Answer.TheVariants.{Done, Refused}
 use Rattle.history.specs.Symbol.{bytes_of, symbol_of}
 use Rattle.history.specs.History.{Filling, symbols_at, Located, Satisfied, All, Known, Reading, fails, located, read_packet, esi_of, base_for, base_of, Log, fresh}
 use Rattle.history.specs.History.{IsValue, logged, MarkedBy, Reached, already, later, Start}
@@ -77,7 +76,7 @@ module _ (E : ℕ) (l : List SenderCall) where
 
   end_boundary : (p flow : ℕ) (adu : List ℕ) → Begins E l p flow adu → Boundary E l (p + symbol_count E (length adu))
   end_boundary p flow adu b =
-      let x = added flow adu b.out (Done b.answer) b.m' b.out' in
+      let x = added flow adu b.out (Ok b.answer) b.m' b.out' in
       let n = ap length (symbols-append E b.before (x ∷ [])) ∙ length-append (symbols_of E b.before) (source_symbols flow adu E ++ [])
       ∙ ap (λ (ys : List (List ℕ)). length (symbols_of E b.before) + length ys) (append-nil (source_symbols flow adu E)) in
       record {
@@ -96,10 +95,10 @@ module _ (E : ℕ) (l : List SenderCall) where
   begins_or_ends : (p : ℕ) (before after : List SenderCall) → l ≡ before ++ after → p ≡ length (symbols_of E before)
       → ((flow : ℕ) × (adu : List ℕ) × Begins E l p flow adu) ⊎ (p ≡ length (symbols_of E l))
   begins_or_ends p before [] e h = inr (h ∙ ap (λ (k : List SenderCall). length (symbols_of E k)) (sym (append-nil before) ∙ sym e))
-  begins_or_ends p before (added flow adu out (Done n) m' out' ∷ after) e h =
+  begins_or_ends p before (added flow adu out (Ok n) m' out' ∷ after) e h =
       inl (flow, adu, record { before = before; after = after; out = out; answer = n; m' = m'; out' = out'; split = e; place = h })
-  begins_or_ends p before (added flow adu out (Refused n) m' out' ∷ after) e h =
-      let x = added flow adu out (Refused n) m' out' in
+  begins_or_ends p before (added flow adu out (Err n) m' out' ∷ after) e h =
+      let x = added flow adu out (Err n) m' out' in
       begins_or_ends p (before ++ (x ∷ [])) after (e ∙ sym (append_snoc before x after)) (pass p before x refl h)
   begins_or_ends p before (repaired key dt count out r out' ∷ after) e h =
       let x = repaired key dt count out r out' in

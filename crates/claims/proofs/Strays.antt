@@ -1,6 +1,6 @@
 -- Flows that are not announced leave no trace: their packets are refused and change nothing, and none of their ADUs is handed out.
-use Rattle.std.specs.Prelude.{◌≡◌, ◌+◌, ◌<◌, ◌%◌, ◌∷◌, ◌^◌, ◌⊎◌}
-use Rattle.words.specs.Words.{arith, ℕ, List, length, refl, ◌∙◌, sym, ap, [], some, none, true, false, Bool, subst, Option, cond}
+use Rattle.std.specs.Prelude.{◌≡◌, ◌+◌, ◌<◌, ◌%◌, ◌∷◌, ◌^◌, ◌⊎◌, Ok}
+use Rattle.words.specs.Words.{arith, ℕ, List, length, refl, ◌∙◌, sym, ap, [], Some, None, true, false, Bool, subst, Option, cond}
 use Rattle.words.specs.Words.{ltb, not, dec_lt, inl, inr}
 use mathlib.Core.Bool.{false≢true}
 use Rattle.wire.specs.declared.Setting.{Setting}
@@ -11,7 +11,6 @@ use Rattle.wire.specs.Flows.{announced}
 use Rattle.wire.specs.Answers.{Said, refusal, said}
 use Rattle.wire.proofs.Settings.{setting-names}
 use Rattle.wire.proofs.Flows.{announced_exactly}
-use Rattle.starts.specs.declared.Handed.TheVariants.{Adu}
 use Rattle.starts.specs.Adu.{Handing, hands, withholds, handing, HandedAs}
 use Rattle.starts.specs.Starts.{Starts}
 use Rattle.history.specs.History.{ahead, behind, side_of, Call, source-call, repair-call, Reading, fails, reading, Log, fresh, base_of, logged, Judged, halfway}
@@ -97,16 +96,16 @@ side_esi base e =
 
 adu-esi : (s : Setting) (flows : List ℕ) (t : State s) (M : Starts) (room e : ℕ) → adu_at s flows t M room e ≡ adu_at s flows t M room (e % 2 ^ 32)
 unfolding adu_at
-adu-esi s flows none M room e = refl
-adu-esi s flows (some t) M room e = ap (adu_in s flows t M room) (sym (side_esi t.base e))
+adu-esi s flows None M room e = refl
+adu-esi s flows (Some t) M room e = ap (adu_in s flows t M room) (sym (side_esi t.base e))
 
-module _ (L : Layout) (s : Setting) (flows m : List ℕ) (e : ℕ) (out out' : List ℕ) (flow n : ℕ) (p : AduAnswered L m e out out' (Adu flow n)) where
-  answered : (i : ℕ) → e % 2 ^ 32 ≡ i → AduAnswered L m i out out' (Adu flow n)
+module _ (L : Layout) (s : Setting) (flows m : List ℕ) (e : ℕ) (out out' : List ℕ) (flow n : ℕ) (p : AduAnswered L m e out out' (Ok (flow, n))) where
+  answered : (i : ℕ) → e % 2 ^ 32 ≡ i → AduAnswered L m i out out' (Ok (flow, n))
   answered i z = record {
     unopened = p.unopened;
     leaves = p.leaves;
     hands = λ u f t M h k.
-        subst (λ x. HandedAs x out out' (Adu flow n)) (adu-esi u f t M (length out) e ∙ ap (adu_at u f t M (length out)) z) (p.hands u f t M h k);
+        subst (λ x. HandedAs x out out' (Ok (flow, n))) (adu-esi u f t M (length out) e ∙ ap (adu_at u f t M (length out)) z) (p.hands u f t M h k);
   }
 
   after : (l : Log) (b : ℕ) → IsHandedOut L s flows m l b → announced flows flow ≡ true
@@ -115,26 +114,26 @@ module _ (L : Layout) (s : Setting) (flows m : List ℕ) (e : ℕ) (out out' : L
       d : ℕ
       d = distance_of e (b % 2 ^ 32)
 
-      here : AduAnswered L m (esi (b + d)) out out' (Adu flow n)
+      here : AduAnswered L m (esi (b + d)) out out' (Ok (flow, n))
       here = answered (esi (b + d)) (omega arith)
 
-      of_flow : d < s.width → (h : Handing) → HandedAs h out out' (Adu flow n) → announced flows flow ≡ true
+      of_flow : d < s.width → (h : Handing) → HandedAs h out out' (Ok (flow, n)) → announced flows flow ≡ true
       of_flow w (hands f adu) k =
-          subst (λ x. announced flows x ≡ true) (ap its_flow (sym k.0)) (((o.calls d (omega arith)).handed w out out' (Adu flow n) here f adu).0 k).2
+          subst (λ x. announced flows x ≡ true) (ap its_flow (sym k.0)) (((o.calls d (omega arith)).handed w out out' (Ok (flow, n)) here f adu).0 k).2
       of_flow w (withholds x) k = absurd k
 
       go : Dec (d < halfway) → Dec (d < s.width) → announced flows flow ≡ true
-      go (no x) w = absurd ((o.calls d (omega arith)).behind (omega (arith, x)) out out' (Adu flow n) here)
-      go (yes x) (no w) = absurd ((o.calls d (omega arith)).past (omega (arith, w)) x out out' (Adu flow n) here)
+      go (no x) w = absurd ((o.calls d (omega arith)).behind (omega (arith, x)) out out' (Ok (flow, n)) here)
+      go (yes x) (no w) = absurd ((o.calls d (omega arith)).past (omega (arith, w)) x out out' (Ok (flow, n)) here)
       go (yes x) (yes w) = of_flow w (handing s.size s.width flows (length out) o.marked o.see d)
-          ((o.calls d (omega arith)).order w out out' (Adu flow n) here)
+          ((o.calls d (omega arith)).order w out out' (Ok (flow, n)) here)
 
   announced-handed : (l : Log) → HandingTold L s flows m l → announced flows flow ≡ true
   announced-handed l h = go (base_of s l) refl
     where
       go : (o : Option ℕ) → base_of s l ≡ o → announced flows flow ≡ true
-      go none z = absurd (h.before z e out out' (Adu flow n) p)
-      go (some b) z = after l b (h.after b z)
+      go None z = absurd (h.before z e out out' (Ok (flow, n)) p)
+      go (Some b) z = after l b (h.after b z)
 
 pub strays : (L : Layout) → Strays L
 strays L scheme E w flows m₀ m a p e ts r =

@@ -1,16 +1,16 @@
 -- Demand 3: what is claimed of every list of packet calls from a fresh receiver.
 use Rattle.std.specs.Borrow.{Bor}
-use Rattle.std.specs.Prelude.{◌≡◌, ◌≤◌, ◌+◌, ◌<◌, ◌%◌, ◌∷◌, ◌++◌, ◌^◌, ◌↔◌, ◌⊎◌}
-use Rattle.words.specs.Words.{ℕ, List, length, [], some, none, get_or}
+use Rattle.std.specs.Prelude.{◌≡◌, ◌≤◌, ◌+◌, ◌<◌, ◌%◌, ◌∷◌, ◌++◌, ◌^◌, ◌↔◌, ◌⊎◌, Result}
+use Rattle.words.specs.Words.{ℕ, List, length, [], Some, None, get_or}
 use Rattle.wire.specs.declared.Setting.{Setting}
 use Rattle.wire.specs.Settings.{setting_of}
-use Rattle.wire.specs.declared.Answer.{Answer}
 use Rattle.history.specs.Symbol.{bytes_of}
 use Rattle.wire.specs.Answers.{value, refusal, said}
 use Rattle.history.specs.History.{Filling, Located, All, Consistent, Known, base_of, Judged, halfway}
 use Rattle.receiver.specs.Promises.{Layout, Opened, SymbolAnswered, PartShown}
 use Rattle.claims.specs.Run.{Step, Run, final, read, history}
 use Rattle.claims.specs.Carrying.{Carries}
+use Rattle.wire.specs.declared.Refusal.{Refusal}
 
 -- The ESI of a position.
 abbrev pub esi : ℕ → ℕ
@@ -24,8 +24,8 @@ module _ (L : Layout) (s : Setting) (m : List ℕ) where
   -- A position in the window.
   pub record ShownExactly (qs : List Located) (p : ℕ) : Type 0 where
     -- The symbol call answers 0 or 12; 0 exactly when all fillings that satisfy every accepted packet hold the same bytes there.
-    pub answers : (a : Answer) → SymbolAnswered L m (esi p) a → (said a ≡ value 0) ⊎ (said a ≡ refusal 12)
-    pub shown : (a : Answer) → SymbolAnswered L m (esi p) a → (said a ≡ value 0) ↔ Known E qs p
+    pub answers : (a : Result ℕ Refusal) → SymbolAnswered L m (esi p) a → (said a ≡ value 0) ⊎ (said a ≡ refusal 12)
+    pub shown : (a : Result ℕ Refusal) → SymbolAnswered L m (esi p) a → (said a ≡ value 0) ↔ Known E qs p
     -- Then those are shown; else the part is empty.
     pub bytes : (memory part : Bor (List ℕ)) → memory.now ≡ m → PartShown L memory part (esi p) → Known E qs p
         → (f : Filling E) → All E qs f → part.now ≡ bytes_of E (f p)
@@ -37,13 +37,13 @@ module _ (L : Layout) (s : Setting) (m : List ℕ) where
 
   -- Before any base, whatever the ESI: 12, and the part is empty.
   pub record HiddenBefore (e : ℕ) : Type 0 where
-    pub answer : (a : Answer) → SymbolAnswered L m e a → said a ≡ refusal 12
+    pub answer : (a : Result ℕ Refusal) → SymbolAnswered L m e a → said a ≡ refusal 12
     pub nothing : (memory part : Bor (List ℕ)) → memory.now ≡ m → PartShown L memory part e → part.now ≡ []
 
   -- Outside the window: 8 from halfway on, else 12, and the part is empty.
   pub record HiddenOutside (base d : ℕ) : Type 0 where
-    pub past : d < halfway → (a : Answer) → SymbolAnswered L m (esi (base + d)) a → said a ≡ refusal 12
-    pub behind : halfway ≤ d → (a : Answer) → SymbolAnswered L m (esi (base + d)) a → said a ≡ refusal 8
+    pub past : d < halfway → (a : Result ℕ Refusal) → SymbolAnswered L m (esi (base + d)) a → said a ≡ refusal 12
+    pub behind : halfway ≤ d → (a : Result ℕ Refusal) → SymbolAnswered L m (esi (base + d)) a → said a ≡ refusal 8
     pub nothing : (memory part : Bor (List ℕ)) → memory.now ≡ m → PartShown L memory part (esi (base + d)) → part.now ≡ []
 
 -- Each call of the list, after the calls before it, is answered as the history asks.
@@ -61,18 +61,18 @@ pub record Demand3 (L : Layout) (s : Setting) (flows : List ℕ) (ts : List Step
   -- At least one filling satisfies every accepted packet.
   pub consistent : Consistent s.size (history s flows ts)
   -- Before any base the window is empty.
-  pub before : base_of s (history s flows ts) ≡ none → (e : ℕ) → HiddenBefore L s m e
+  pub before : base_of s (history s flows ts) ≡ None → (e : ℕ) → HiddenBefore L s m e
   -- A position in the window has its symbol shown exactly when all such fillings hold the same bytes there, and those
   -- are shown.
-  pub window : (b : ℕ) → base_of s (history s flows ts) ≡ some b → (i : ℕ) → i < s.width
+  pub window : (b : ℕ) → base_of s (history s flows ts) ≡ Some b → (i : ℕ) → i < s.width
       → ShownExactly L s m (history s flows ts) (b + i)
-  pub outside : (b : ℕ) → base_of s (history s flows ts) ≡ some b → (d : ℕ) → s.width ≤ d → d < 2 ^ 32
+  pub outside : (b : ℕ) → base_of s (history s flows ts) ≡ Some b → (d : ℕ) → s.width ≤ d → d < 2 ^ 32
       → HiddenOutside L s m b d
 
 -- From memory on which opening has just answered 0, with any scheme, E, width and flows, demand 3 holds of every list
 -- of packet calls.
 abbrev pub EveryList : Layout → Type 0
 EveryList L =
-    (scheme E w : ℕ) (flows m₀ m : List ℕ) (a : Answer) → Opened L scheme E w flows m₀ m a → said a ≡ value 0
+    (scheme E w : ℕ) (flows m₀ m : List ℕ) (a : Result ℕ Refusal) → Opened L scheme E w flows m₀ m a → said a ≡ value 0
     → (ts : List Step) → Run L m ts
-    → (s : Setting) × (setting_of scheme E w ≡ some s) × Demand3 L s flows ts (final m ts)
+    → (s : Setting) × (setting_of scheme E w ≡ Some s) × Demand3 L s flows ts (final m ts)

@@ -1,12 +1,12 @@
 -- The claims are not empty: from every opened memory, every list of packet calls has a run.
-use Rattle.std.specs.Prelude.{◌≡◌, ◌∷◌}
+use Rattle.std.specs.Prelude.{◌≡◌, ◌∷◌, Result}
 use Rattle.words.specs.Words.{ℕ, List, [], map}
-use Rattle.wire.specs.declared.Answer.{Answer}
 use Rattle.wire.specs.Answers.{value, said}
 use Rattle.history.specs.History.{Call, OfBytes}
 use Rattle.receiver.specs.Promises.{Opened}
 use Rattle.receiver.specs.Layout.{receiver_layout}
 use Rattle.claims.specs.Run.{Step, Run}
+use Rattle.wire.specs.declared.Refusal.{Refusal}
 
 -- A call to come: the packet with its flow, and the working memory.
 pub record Asked : Type 0 where
@@ -22,5 +22,5 @@ AllOfBytes (c ∷ cs) = OfBytes c.call × AllOfBytes cs
 
 abbrev pub RunsExist : Type 0
 RunsExist =
-    (scheme E w : ℕ) (flows m₀ m : List ℕ) (a : Answer) → Opened receiver_layout scheme E w flows m₀ m a → said a ≡ value 0
+    (scheme E w : ℕ) (flows m₀ m : List ℕ) (a : Result ℕ Refusal) → Opened receiver_layout scheme E w flows m₀ m a → said a ≡ value 0
     → (cs : List Asked) → AllOfBytes cs → (ts : List Step) × Run receiver_layout m ts × (map asked ts ≡ cs)

@@ -1,34 +1,32 @@
 -- Heard or solved (document 02, No. 6): what is claimed of the symbol call after every list of packet calls from a fresh receiver.
-use Rattle.std.specs.Prelude.{◌≡◌, ◌≤◌, ◌+◌, ◌<◌, ◌∷◌, ◌++◌, ◌↔◌}
-use Rattle.words.specs.Words.{ℕ, List, length, some, true, false}
+use Rattle.std.specs.Prelude.{◌≡◌, ◌≤◌, ◌+◌, ◌<◌, ◌∷◌, ◌++◌, ◌↔◌, Result, Ok}
+use Rattle.words.specs.Words.{ℕ, List, length, Some, true, false, Bool}
 use Rattle.wire.specs.declared.Setting.{Setting}
 use Rattle.wire.specs.Settings.{setting_of}
-use Rattle.wire.specs.declared.Answer.{Answer}
 use Rattle.wire.specs.Answers.{value, said}
-use Rattle.receiver.specs.declared.SymbolAnswer.{SymbolAnswer}
-use Rattle.receiver.specs.declared.SymbolAnswer.TheVariants.{Shown}
 use Rattle.history.specs.History.{Located, source, Known, located, IsValue, base_of}
 use Rattle.history.specs.Origins.{Brought}
 use Rattle.receiver.specs.Promises.{Layout, Opened, SymbolShown}
 use Rattle.claims.specs.Run.{Step, Run, final, read, history}
 use Rattle.claims.specs.Demand.{esi}
+use Rattle.wire.specs.declared.Refusal.{Refusal}
 
 -- A position in the window, after the packets `qs` were accepted, when the receiver's memory is m: of whatever the
 -- symbol call may answer by its promise.
 pub record ToldOrigin (L : Layout) (s : Setting) (m : List ℕ) (qs : List Located) (p : ℕ) : Type 0 where
   -- Beside the 0 it says heard exactly when an accepted source packet has brought the position,
-  pub heard : (a : SymbolAnswer) → SymbolShown L m (esi p) a → (a ≡ Shown true) ↔ Brought qs p
+  pub heard : (a : Result Bool Refusal) → SymbolShown L m (esi p) a → (a ≡ Ok true) ↔ Brought qs p
   -- and solved exactly when it is known and none has.
-  pub solved : (a : SymbolAnswer) → SymbolShown L m (esi p) a
-      → (a ≡ Shown false) ↔ (Known s.size qs p × ¬ Brought qs p)
+  pub solved : (a : Result Bool Refusal) → SymbolShown L m (esi p) a
+      → (a ≡ Ok false) ↔ (Known s.size qs p × ¬ Brought qs p)
 
 -- From memory on which opening has just answered 0, after every list of packet calls.
 abbrev pub Origins : Layout → Type 0
 Origins L =
-    (scheme E w : ℕ) (flows m₀ m : List ℕ) (a : Answer) → Opened L scheme E w flows m₀ m a → said a ≡ value 0
+    (scheme E w : ℕ) (flows m₀ m : List ℕ) (a : Result ℕ Refusal) → Opened L scheme E w flows m₀ m a → said a ≡ value 0
     → (ts : List Step) → Run L m ts
-    → (s : Setting) × (setting_of scheme E w ≡ some s)
-    × ((b : ℕ) → base_of s (history s flows ts) ≡ some b → (i : ℕ) → i < s.width → ToldOrigin L s (final m ts) (history s flows ts) (b + i))
+    → (s : Setting) × (setting_of scheme E w ≡ Some s)
+    × ((b : ℕ) → base_of s (history s flows ts) ≡ Some b → (i : ℕ) → i < s.width → ToldOrigin L s (final m ts) (history s flows ts) (b + i))
 
 -- A packet of the history has brought a position exactly when a call of the list was accepted whose packet, read at its place, is a source packet with a
 -- symbol for it: whatever that call answered, and none that was refused.
@@ -50,9 +48,9 @@ AreBroughtBy = (s : Setting) (flows : List ℕ) (ts : List Step) (p : ℕ) → B
 -- One heard never becomes solved: after more calls it is heard, as long as it is in the window.
 abbrev pub StaysHeard : Layout → Type 0
 StaysHeard L =
-    (scheme E w : ℕ) (flows m₀ m : List ℕ) (a : Answer) → Opened L scheme E w flows m₀ m a → said a ≡ value 0
+    (scheme E w : ℕ) (flows m₀ m : List ℕ) (a : Result ℕ Refusal) → Opened L scheme E w flows m₀ m a → said a ≡ value 0
     → (ts us : List Step) → Run L m (ts ++ us)
-    → (s : Setting) × (setting_of scheme E w ≡ some s)
-    × ((b c p : ℕ) → base_of s (history s flows ts) ≡ some b → base_of s (history s flows (ts ++ us)) ≡ some c
-    → b ≤ p → p < b + s.width → c ≤ p → p < c + s.width → (x : SymbolAnswer) → SymbolShown L (final m ts) (esi p) x → x ≡ Shown true
-    → (y : SymbolAnswer) → SymbolShown L (final m (ts ++ us)) (esi p) y → y ≡ Shown true)
+    → (s : Setting) × (setting_of scheme E w ≡ Some s)
+    × ((b c p : ℕ) → base_of s (history s flows ts) ≡ Some b → base_of s (history s flows (ts ++ us)) ≡ Some c
+    → b ≤ p → p < b + s.width → c ≤ p → p < c + s.width → (x : Result Bool Refusal) → SymbolShown L (final m ts) (esi p) x → x ≡ Ok true
+    → (y : Result Bool Refusal) → SymbolShown L (final m (ts ++ us)) (esi p) y → y ≡ Ok true)

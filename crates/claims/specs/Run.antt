@@ -1,18 +1,18 @@
 -- A list of packet calls from a fresh receiver, each as its promise allows (without the draws: `answer_of`), and the history that the list makes.
-use Rattle.std.specs.Prelude.{◌∷◌}
+use Rattle.std.specs.Prelude.{◌∷◌, Result}
 use Rattle.words.specs.Words.{ℕ, List, length, []}
 use Rattle.wire.specs.declared.Setting.{Setting}
-use Rattle.wire.specs.declared.Answer.{Answer}
 use Rattle.history.specs.History.{Call, OfBytes, Reading, Log, fresh, read_after, logged}
 use Rattle.wire.specs.Answers.{said}
 use Rattle.receiver.specs.Promises.{Layout, Received}
+use Rattle.wire.specs.declared.Refusal.{Refusal}
 
 -- A call: the packet with its flow, the working memory lent and as it is left, the answer, and the receiver's memory after it.
 pub record Step : Type 0 where
   pub call : Call
   pub working : List ℕ
   pub left : List ℕ
-  pub answer : Answer
+  pub answer : Result ℕ Refusal
   pub memory : List ℕ
 
 -- The calls one after the other, the first on the memory m, each on the memory that the last left.

@@ -1,12 +1,11 @@
 -- The sender's filling, and what becomes of a sender's packets at the receiver.
 use Rattle.std.specs.Borrow.{Bor}
-use Rattle.std.specs.Prelude.{◌≡◌, ◌≤◌, ◌+◌, ◌<◌, ◌∷◌}
-use Rattle.words.specs.Words.{ℕ, List, length, [], some, true, none, get_or, Option}
+use Rattle.std.specs.Prelude.{◌≡◌, ◌≤◌, ◌+◌, ◌<◌, ◌∷◌, Result}
+use Rattle.words.specs.Words.{ℕ, List, length, [], Some, true, None, get_or, Option}
 use Rattle.wire.specs.declared.Setting.{Setting}
 use Rattle.wire.specs.Settings.{Valid}
 use Rattle.wire.specs.Packets.{symbol_count, source_adu, protected_count}
 use Rattle.wire.specs.Flows.{announced}
-use Rattle.wire.specs.declared.Answer.{Answer}
 use Rattle.wire.specs.Answers.{Said, value, refusal, said}
 use Rattle.history.specs.History.{Filling, All, Call, source-call, repair-call, working_size, Log, fresh, IsValue, read_after, base_of, logged, Judged, joined_at}
 use Rattle.history.specs.History.{halfway, farthest}
@@ -16,6 +15,7 @@ use Rattle.claims.specs.Written.{Packet, source, repair, Wrote}
 use Rattle.claims.specs.Run.{Step, read, history}
 use Rattle.claims.specs.Carrying.{Carries}
 use Rattle.claims.specs.Demand.{esi, Demand3}
+use Rattle.wire.specs.declared.Refusal.{Refusal}
 
 -- The call that a packet is given to, and how many symbols it names.
 abbrev pub call_of : Packet → Call
@@ -34,8 +34,8 @@ pub record Near (p base : ℕ) : Type 0 where
 -- A packet arrives whose first symbol is the sender's p-th: it stands less than halfway from base, where the sender's symbols are numbered
 -- `offset` more than positions. Before any base it tells that offset: its first position is its ESI.
 abbrev pub Arrives : (base : Option ℕ) (offset p : ℕ) → Type 0
-Arrives none offset p = p ≡ esi p + offset
-Arrives (some b) offset p = Near p (b + offset)
+Arrives None offset p = p ≡ esi p + offset
+Arrives (Some b) offset p = Near p (b + offset)
 
 -- All packets that the list accepts are as a sender of the same scheme and E wrote them, F included, whose symbols are `all`, and stood less than
 -- halfway from base on arrival.
@@ -50,7 +50,7 @@ module _ (s : Setting) (flows : List ℕ) (all : List (List ℕ)) (offset : ℕ)
 abbrev pub SenderFills : Type 0
 SenderFills =
     (s : Setting) → Valid s → (flows : List ℕ) (all : List (List ℕ)) (offset : ℕ) (ts : List Step) → AsWritten s flows all offset fresh ts
-    → (join : ℕ) → joined_at (history s flows ts) ≡ some join
+    → (join : ℕ) → joined_at (history s flows ts) ≡ Some join
     → (f : Filling s.size) → Carries s.size join offset all f → All s.size (history s flows ts) f
 
 -- A list of a sender's calls, and a receiver of the same scheme and E.
@@ -61,8 +61,8 @@ pub record Peers (t s : Setting) (l : List SenderCall) : Type 0 where
 
 -- n symbols from the sender's p-th on lie ahead of the base, and not too far; before any base, anywhere.
 abbrev pub InReach : (base : Option ℕ) (offset p n : ℕ) → Type 0
-InReach none offset p n = Unit {0}
-InReach (some b) offset p n = (b + offset ≤ p) × (p + n ≤ b + offset + farthest)
+InReach None offset p n = Unit {0}
+InReach (Some b) offset p n = (b + offset ≤ p) × (p + n ≤ b + offset + farthest)
 
 -- The receiver announces the flow of a source packet.
 abbrev pub AnnouncedAt : (flows : List ℕ) → Packet → Type 0
@@ -84,7 +84,7 @@ abbrev pub SentBehind : Type 0
 SentBehind =
     (t s : Setting) (l : List SenderCall) → Peers t s l → Valid s
     → (flows : List ℕ) (offset : ℕ) (ts : List Step) → AsWritten s flows (symbols_of s.size l) offset fresh ts
-    → (b : ℕ) → base_of s (history s flows ts) ≡ some b
+    → (b : ℕ) → base_of s (history s flows ts) ≡ Some b
     → (x : Packet) (p : ℕ) → Wrote s.scheme s.size (symbols_of s.size l) x p → AnnouncedAt flows x
     → p < b + offset → b + offset ≤ p + halfway → named s.size x ≤ s.width
     → (room : ℕ) → working_size s ≤ room → (a : Said) → Judged s (history s flows ts) (read_after s flows (history s flows ts) room (call_of x)) a → a ≡ refusal 8
@@ -94,7 +94,7 @@ abbrev pub SentShown : Layout → Type 0
 SentShown L =
     (t s : Setting) (l : List SenderCall) → Peers t s l → (flows : List ℕ) (ts : List Step) (m : List ℕ) → Demand3 L s flows ts m
     → (offset : ℕ) → AsWritten s flows (symbols_of s.size l) offset fresh ts
-    → (b : ℕ) → base_of s (history s flows ts) ≡ some b → (i : ℕ) → i < s.width → b + i + offset < length (symbols_of s.size l)
-    → (a : Answer) → SymbolAnswered L m (esi (b + i)) a → said a ≡ value 0
+    → (b : ℕ) → base_of s (history s flows ts) ≡ Some b → (i : ℕ) → i < s.width → b + i + offset < length (symbols_of s.size l)
+    → (a : Result ℕ Refusal) → SymbolAnswered L m (esi (b + i)) a → said a ≡ value 0
     → (memory part : Bor (List ℕ)) → memory.now ≡ m → PartShown L memory part (esi (b + i))
     → part.now ≡ get_or (symbols_of s.size l) (b + i + offset) []

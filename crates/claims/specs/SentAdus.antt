@@ -1,10 +1,9 @@
 -- A sender's ADUs at the receiver: what is handed out at the start of one, and that packets of the sender's alone mark no other position.
-use Rattle.std.specs.Prelude.{◌≡◌, ◌≤◌, ◌+◌, ◌%◌, ◌∷◌, ◌++◌, ◌^◌}
+use Rattle.std.specs.Prelude.{◌≡◌, ◌≤◌, ◌+◌, ◌%◌, ◌∷◌, ◌++◌, ◌^◌, Ok}
 use Rattle.words.specs.Words.{ℕ, List, length, [], drop, take}
 use Rattle.wire.specs.declared.Scheme.{Scheme}
 use Rattle.wire.specs.declared.Setting.{Setting}
 use Rattle.wire.specs.Packets.{symbol_count, source_symbols, source_packet}
-use Rattle.wire.specs.declared.Answer.TheVariants.{Done}
 use Rattle.history.specs.History.{Filling, Located, All, Log, fresh, IsValue, base_of, logged, Start}
 use Rattle.wire.specs.Answers.{said}
 use Rattle.sender.specs.Run.{SenderCall, added, SenderRun, symbols_of}
@@ -23,7 +22,7 @@ module _ (E : ℕ) (l : List SenderCall) where
     pub answer : ℕ
     pub m' : List ℕ
     pub out' : List ℕ
-    pub split : l ≡ before ++ (added flow adu out (Done answer) m' out' ∷ after)
+    pub split : l ≡ before ++ (added flow adu out (Ok answer) m' out' ∷ after)
     pub place : p ≡ length (symbols_of E before)
 
   -- The sender's p-th symbol is the first of an ADU, or all ADUs end before it.

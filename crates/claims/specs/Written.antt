@@ -1,13 +1,11 @@
 -- The packets that a sender's calls wrote, and those that a sender can write: of some symbols.
-use Rattle.std.specs.Prelude.{◌≡◌, ◌≤◌, ◌<◌, ◌%◌, ◌∷◌, ◌++◌, ◌^◌}
+use Rattle.std.specs.Prelude.{◌≡◌, ◌≤◌, ◌<◌, ◌%◌, ◌∷◌, ◌++◌, ◌^◌, Ok, Err}
 use Rattle.words.specs.Words.{ℕ, List, length, [], true, take, map}
 use Rattle.memory.specs.Number.{Bytes}
 use Rattle.wire.specs.declared.Scheme.{Scheme}
 use Rattle.wire.specs.Packets.{longest_adu, source_symbols, source_packet, repair_packet}
-use Rattle.wire.specs.declared.Answer.TheVariants.{Done, Refused}
 use Rattle.coefficients.specs.Coefficients.{keys, lists_of, all_ok}
 use Rattle.rows.specs.Combination.{combination}
-use Rattle.sender.specs.declared.RepairAnswer.TheVariants.{Made, NotMade}
 use Rattle.sender.specs.Run.{SenderCall, added, repaired}
 
 -- a packet; F goes beside a source packet
@@ -18,10 +16,10 @@ pub data Packet : Type 0 where
 -- the packets written: as many bytes of the output as the call answered
 abbrev pub packets_of : List SenderCall → List Packet
 packets_of [] = []
-packets_of (added flow adu out (Done n) m' out' ∷ l) = source flow (take n out') ∷ packets_of l
-packets_of (added flow adu out (Refused n) m' out' ∷ l) = packets_of l
-packets_of (repaired key dt count out (Made n d) out' ∷ l) = repair (take n out') ∷ packets_of l
-packets_of (repaired key dt count out (NotMade n) out' ∷ l) = packets_of l
+packets_of (added flow adu out (Ok n) m' out' ∷ l) = source flow (take n out') ∷ packets_of l
+packets_of (added flow adu out (Err n) m' out' ∷ l) = packets_of l
+packets_of (repaired key dt count out (Ok (n, d)) out' ∷ l) = repair (take n out') ∷ packets_of l
+packets_of (repaired key dt count out (Err n) out' ∷ l) = packets_of l
 
 -- the packet is one that a sender of this scheme and E writes whose symbols are `all`: the source packet of an ADU whose symbols they hold, or a repair
 -- packet over a stretch of them. The first symbol that it names is the sender's p-th.

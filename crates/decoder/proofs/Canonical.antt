@@ -1,6 +1,6 @@
 -- The reduced form is canonical: two reduced systems with the same fillings are one.
 use Rattle.std.specs.Prelude.{◌≡◌, ◌↔◌}
-use Rattle.words.specs.Words.{ℕ, refl, ◌∙◌, sym, ap, zero, subst, ap₂}
+use Rattle.words.specs.Words.{ℕ, refl, ◌∙◌, sym, ap, subst, ap₂}
 use Rattle.decoder.specs.Field.{Ops, Laws}
 use Rattle.decoder.specs.Model.{ext, Filling, Row, State, end, free, pivot, Sat, Reduced, Rref, eval}
 use Rattle.decoder.proofs.Linear as lin

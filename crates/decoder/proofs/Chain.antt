@@ -10,7 +10,7 @@
 --   eliminate_same: only the first `k` rows count
 --   place_rows_same, chain_same, packet_implied, packet_contradicts, packet_places
 use Rattle.std.specs.Prelude.{◌≡◌, ◌<◌, ◌∷◌, ◌++◌, ◌≢◌}
-use Rattle.words.specs.Words.{arith, ℕ, List, refl, ◌∙◌, sym, ap, [], some, suc, zero, none, subst, Option, ap₂, dec_lt}
+use Rattle.words.specs.Words.{arith, ℕ, List, refl, ◌∙◌, sym, ap, [], Some, suc, zero, None, subst, Option, ap₂, dec_lt}
 use Rattle.decoder.specs.Field.{Ops, Laws}
 use Rattle.decoder.specs.Model.{Row, State, Reduced, Rref, eval, axpy, scale, lead, at, symbol, reduce, place, settle_by, settle, insert}
 use Rattle.decoder.specs.Receiver.{and_then, insert_all}
@@ -55,20 +55,20 @@ module _ {O : Ops} (L : Laws O) where
 
   -- What becomes of an equation, told by its reduction: implied, a contradiction, or a new row.
   module _ {n : ℕ} (T : State O n) (e : Row O n) where
-    pub reduced_implied : lead O n (reduce T e) ≡ 𝟘 → symbol O n (reduce T e) ≡ null → insert T e ≡ some T
+    pub reduced_implied : lead O n (reduce T e) ≡ 𝟘 → symbol O n (reduce T e) ≡ null → insert T e ≡ Some T
     unfolding insert settle settle_by
     reduced_implied z y = go (zero? (lead O n (reduce T e))) (null? (symbol O n (reduce T e)))
       where
-        go : (d : Dec (lead O n (reduce T e) ≡ 𝟘)) (d' : Dec (symbol O n (reduce T e) ≡ null)) → settle_by d d' T (reduce T e) ≡ some T
+        go : (d : Dec (lead O n (reduce T e) ≡ 𝟘)) (d' : Dec (symbol O n (reduce T e) ≡ null)) → settle_by d d' T (reduce T e) ≡ Some T
         go (yes _) (yes _) = refl
         go (yes _) (no q) = absurd (q y)
         go (no p) _ = absurd (p z)
 
-    pub reduced_contradicts : lead O n (reduce T e) ≡ 𝟘 → symbol O n (reduce T e) ≢ null → insert T e ≡ none
+    pub reduced_contradicts : lead O n (reduce T e) ≡ 𝟘 → symbol O n (reduce T e) ≢ null → insert T e ≡ None
     unfolding insert settle settle_by
     reduced_contradicts z y = go (zero? (lead O n (reduce T e))) (null? (symbol O n (reduce T e)))
       where
-        go : (d : Dec (lead O n (reduce T e) ≡ 𝟘)) (d' : Dec (symbol O n (reduce T e) ≡ null)) → settle_by d d' T (reduce T e) ≡ none
+        go : (d : Dec (lead O n (reduce T e) ≡ 𝟘)) (d' : Dec (symbol O n (reduce T e) ≡ null)) → settle_by d d' T (reduce T e) ≡ None
         go (yes _) (yes q) = absurd (y q)
         go (yes _) (no _) = refl
         go (no p) _ = absurd (p z)
@@ -88,11 +88,11 @@ module _ {O : Ops} (L : Laws O) where
           let a = lead O n (reduce T e) in
           elimination.lead_scale L n (inv a) (λ b. elimination.nonzero_cancel L a b z) (reduce T e) ∙ *-inv a z
 
-      pub reduced_places : insert T e ≡ some (place T normal)
+      pub reduced_places : insert T e ≡ Some (place T normal)
       unfolding insert settle settle_by normal
       reduced_places = go (zero? (lead O n (reduce T e)))
         where
-          go : (d : Dec (lead O n (reduce T e) ≡ 𝟘)) → settle_by d (null? (symbol O n (reduce T e))) T (reduce T e) ≡ some (place T normal)
+          go : (d : Dec (lead O n (reduce T e) ≡ 𝟘)) → settle_by d (null? (symbol O n (reduce T e))) T (reduce T e) ≡ Some (place T normal)
           go (yes p) = absurd (z p)
           go (no _) = refl
 
@@ -157,29 +157,29 @@ module _ {O : Ops} (L : Laws O) where
 
   -- One more equation of a packet: the equations `es` have become the first `k` rows of `g`.
   module _ {n : ℕ} (S : State O n) (g : ℕ → Row O n) (k : ℕ) (es : List (Row O n)) (c : Chain S g k)
-      (before : insert_all es S ≡ some (place_rows g k S)) (e : Row O n) where
+      (before : insert_all es S ≡ Some (place_rows g k S)) (e : Row O n) where
     next : (o : Option (State O n)) → insert (place_rows g k S) e ≡ o → insert_all (es ++ (e ∷ [])) S ≡ o
     unfolding insert_all
     next o i =
-        insert_all_append es (e ∷ []) S ∙ ap (λ a. and_then a (λ T. insert_all (e ∷ []) T)) before ∙ ap (λ a. and_then a some) i ∙ go o
+        insert_all_append es (e ∷ []) S ∙ ap (λ a. and_then a (λ T. insert_all (e ∷ []) T)) before ∙ ap (λ a. and_then a Some) i ∙ go o
       where
-        go : (o : Option (State O n)) → and_then o some ≡ o
-        go none = refl
-        go (some T) = refl
+        go : (o : Option (State O n)) → and_then o Some ≡ o
+        go None = refl
+        go (Some T) = refl
 
     pub packet_implied : lead O n (reduce (place_rows g k S) e) ≡ 𝟘 → symbol O n (reduce (place_rows g k S) e) ≡ null
-        → insert_all (es ++ (e ∷ [])) S ≡ some (place_rows g k S)
+        → insert_all (es ++ (e ∷ [])) S ≡ Some (place_rows g k S)
     packet_implied z y = next _ (reduced_implied (place_rows g k S) e z y)
 
     pub packet_contradicts : lead O n (reduce (place_rows g k S) e) ≡ 𝟘 → symbol O n (reduce (place_rows g k S) e) ≢ null
-        → insert_all (es ++ (e ∷ [])) S ≡ none
-    packet_contradicts z y = next none (reduced_contradicts (place_rows g k S) e z y)
+        → insert_all (es ++ (e ∷ [])) S ≡ None
+    packet_contradicts z y = next None (reduced_contradicts (place_rows g k S) e z y)
 
     pub packet_places : lead O n (reduce (place_rows g k S) e) ≢ 𝟘 → g k ≡ normal (place_rows g k S) e
-        → Chain S g (suc k) × (insert_all (es ++ (e ∷ [])) S ≡ some (place_rows g (suc k) S))
+        → Chain S g (suc k) × (insert_all (es ++ (e ∷ [])) S ≡ Some (place_rows g (suc k) S))
     unfolding place_rows
     packet_places z q =
         let T = place_rows g k S in (
           chain_more S g k c (subst (Reduced T) (sym q) (normal_reduced T e)) (ap (lead O n) q ∙ normal_leads T e z),
-          next _ (reduced_places T e z ∙ ap (λ r. some (place T r)) (sym q)),
+          next _ (reduced_places T e z ∙ ap (λ r. Some (place T r)) (sym q)),
         )

@@ -10,9 +10,9 @@
 --   known_sound: what is shown is what every filling has there
 --   known_complete: what is not shown differs between two fillings
 use Rattle.std.specs.Prelude.{◌≡◌, ◌≢◌, ◌↔◌}
-use Rattle.words.specs.Words.{ℕ, refl, ◌∙◌, sym, ap, some, suc, zero, none, subst, Option, ap₂, some-injective, none-ne-some}
+use Rattle.words.specs.Words.{ℕ, refl, ◌∙◌, sym, ap, Some, suc, zero, None, subst, Option, ap₂, some-injective, none-ne-some}
 use mathlib.Core.Logic.Iff
-use mathlib.Core.Option.{some-ne-none}
+use Rattle.words.specs.Words.{some-ne-none}
 use Rattle.decoder.specs.Field.{Ops, Laws}
 use Rattle.decoder.specs.Model.{tail, ext, only_if, Filling, Row, State, end, free, pivot, Sat, Reduced, Rref, eval, axpy, scale, lead, at, symbol, push}
 use Rattle.decoder.specs.Model.{reduce, place_free, place, settle_by, settle, insert, known, extend, advance}
@@ -144,8 +144,8 @@ module _ {O : Ops} (L : Laws O) where
   -- Adding an equation. It is refused where no filling of the system satisfies it; else the system gains just that.
 
   abbrev pub Added : {n : ℕ} → State O n → Row O n → Option (State O n) → Type 0
-  Added {n} S e none = (x : Filling O) → Sat S x → eval O n e x ≢ null
-  Added {n} S e (some S') = Rref S' × ((x : Filling O) → Sat S' x ↔ (Sat S x × (eval O n e x ≡ null)))
+  Added {n} S e None = (x : Filling O) → Sat S x → eval O n e x ≢ null
+  Added {n} S e (Some S') = Rref S' × ((x : Filling O) → Sat S' x ↔ (Sat S x × (eval O n e x ≡ null)))
 
   pub nonzero_null : (k : K) (v : Sym) → k ≢ 𝟘 → k • v ≡ null → v ≡ null
   nonzero_null k v h z =
@@ -181,8 +181,8 @@ module _ {O : Ops} (L : Laws O) where
   insert_added {n} S e f = go (settle S (reduce S e)) (settle_added S (reduce S e) f (reduce_reduced S e))
     where
       go : (o : Option (State O n)) → Added S (reduce S e) o → Added S e o
-      go none h = λ x s q. h x s (reduce_eval S e x s ∙ q)
-      go (some S') h = (
+      go None h = λ x s q. h x s (reduce_eval S e x s ∙ q)
+      go (Some S') h = (
         h.0,
         λ x. (
           (λ s. let t = (h.1 x).0 s in (t.0, sym (reduce_eval S e x t.0) ∙ t.1)),
@@ -268,20 +268,20 @@ module _ {O : Ops} (L : Laws O) where
       (u, v, (refl, s), (refl, t), λ p. q (sym (eval_zero n e u h.0) ∙ p ∙ eval_zero n e v h.0))
 
   -- What is shown is what every filling has there.
-  pub known_sound : {n : ℕ} (S : State O n) (i : ℕ) (v : Sym) → known S i ≡ some v → (x : Filling O) → Sat S x → x i ≡ v
+  pub known_sound : {n : ℕ} (S : State O n) (i : ℕ) (v : Sym) → known S i ≡ Some v → (x : Filling O) → Sat S x → x i ≡ v
   unfolding known
   known_sound end i v k x s = absurd (none-ne-some v k)
   known_sound (free S) zero v k x s = absurd (none-ne-some v k)
   known_sound (free S) (suc i) v k x s = known_sound S i v k (tail x) s
   known_sound (pivot {n} r S) zero v k x s = go (zero? (lead O n r)) k
     where
-      go : (d : Dec (lead O n r ≡ 𝟘)) → only_if d (symbol O n r) ≡ some v → x 0 ≡ v
+      go : (d : Dec (lead O n r ≡ 𝟘)) → only_if d (symbol O n r) ≡ Some v → x 0 ≡ v
       go (yes z) k = s.0 ∙ lin.eval_lead O L n r (tail x) z ∙ some-injective _ _ k
       go (no _) k = absurd (none-ne-some v k)
   known_sound (pivot r S) (suc i) v k x s = known_sound S i v k (tail x) s.1
 
   -- What is not shown differs between two fillings.
-  pub known_complete : {n : ℕ} (S : State O n) (i : ℕ) → Rref S → known S i ≡ none
+  pub known_complete : {n : ℕ} (S : State O n) (i : ℕ) → Rref S → known S i ≡ None
       → (x y : Filling O) × Sat S x × Sat S y × (x i ≢ y i)
   unfolding known
   known_complete end i f k = ((λ _. unit), (λ _. null), tt, tt, unit≢null)
@@ -290,7 +290,7 @@ module _ {O : Ops} (L : Laws O) where
       let (x, y, s, t, q) = known_complete S i f k in (ext null x, ext null y, s, t, q)
   known_complete (pivot {n} r S) zero f k = go (zero? (lead O n r)) k
     where
-      go : (d : Dec (lead O n r ≡ 𝟘)) → only_if d (symbol O n r) ≡ none
+      go : (d : Dec (lead O n r ≡ 𝟘)) → only_if d (symbol O n r) ≡ None
           → (x y : Filling O) × Sat (pivot r S) x × Sat (pivot r S) y × (x 0 ≢ y 0)
       go (yes _) k = absurd (some-ne-none _ k)
       go (no z) k =

@@ -1,6 +1,6 @@
 -- How many positions become known when rows are placed, counted row by row.
 use Rattle.std.specs.Prelude.{◌≡◌, ◌≤◌, ◌<◌, ◌-◌, ◌%◌, ◌≢◌, ◌+◌ as ◌+ₙ◌}
-use Rattle.words.specs.Words.{arith, ℕ, refl, ◌∙◌, sym, ap, suc, true, zero, none, false, Bool, Option, ap₂, dec_lt}
+use Rattle.words.specs.Words.{arith, ℕ, refl, ◌∙◌, sym, ap, suc, true, zero, None, false, Bool, Option, ap₂, dec_lt}
 use Rattle.words.specs.Words.{zero-add}
 use Rattle.decoder.specs.Field.{Ops, Laws}
 use Rattle.decoder.specs.Model.{Row, State, Reduced, Rref, place, known}
@@ -62,23 +62,23 @@ module _ {O : Ops} (L : Laws O) where
     -- The `i`th position of the window, `q`.
     module _ (i q : ℕ) (m : i < w) (at : b +ₙ i ≡ q) where
       -- A row that had a coefficient at `p` was not known: it had another than its own.
-      pub was_open : T.has q ≡ true → q ≢ p → (T.line q).cells p ≢ 𝟘 → known (view T w b) i ≡ none
+      pub was_open : T.has q ≡ true → q ≢ p → (T.line q).cells p ≢ 𝟘 → known (view T w b) i ≡ None
       was_open t n z = go (dec_lt q p)
         where
-          go : Dec (q < p) → known (view T w b) i ≡ none
+          go : Dec (q < p) → known (view T w b) i ≡ None
           go (yes k) = steps.known_open L T i w b q (w - suc i) at (omega arith) t p k l z
           go (no k) = absurd (z (h.zero-before q (omega arith) (omega arith) t p c (omega arith)))
 
   -- A chain of rows.
   module _ {n : ℕ} (S : State O n) (g : ℕ → Row O n) (f : Rref S) where
-    chain_step : (k : ℕ) → Chain S g (suc k) → (i : ℕ) → known (place_rows g (suc k) S) i ≡ none → known (place_rows g k S) i ≡ none
+    chain_step : (k : ℕ) → Chain S g (suc k) → (i : ℕ) → known (place_rows g (suc k) S) i ≡ None → known (place_rows g k S) i ≡ None
     unfolding place_rows
     chain_step k c i =
         known_grows L (place_rows g k S) (place_rows g (suc k) S) (chain_rref L S g (suc k) f c)
         (λ x s. ((elimination.place_sat L (place_rows g k S) (g k) (c.reduced k (omega arith)) (c.leads k (omega arith)) x).0 s).0) i
 
     -- What is known stays known.
-    pub chain_known : (k : ℕ) → Chain S g k → (i : ℕ) → known (place_rows g k S) i ≡ none → known S i ≡ none
+    pub chain_known : (k : ℕ) → Chain S g k → (i : ℕ) → known (place_rows g k S) i ≡ None → known S i ≡ None
     unfolding place_rows
     chain_known zero c i e = e
     chain_known (suc k) c i e = chain_known k (chain_before L S g k c) i (chain_step k c i e)

@@ -9,7 +9,7 @@
 --   same_known: two receivers with one base whose accepted packets have the same fillings
 --   known_advance_by, demand_3
 use Rattle.std.specs.Prelude.{◌≡◌, ◌≤◌, ◌+◌, ◌-◌, ◌∷◌, ◌≢◌, ◌↔◌}
-use Rattle.words.specs.Words.{arith, ℕ, List, refl, ◌∙◌, sym, ap, [], some, suc, zero, none, subst, Option, map, zero-add}
+use Rattle.words.specs.Words.{arith, ℕ, List, refl, ◌∙◌, sym, ap, [], Some, suc, zero, None, subst, Option, map, zero-add}
 use Rattle.words.specs.Words.{⊎_elim, suc-add}
 use mathlib.Core.Logic.Iff
 use mathlib.Core.List.Memᴰ
@@ -50,8 +50,8 @@ module _ {O : Ops} (L : Laws O) where
 
   -- Several equations at once.
   abbrev pub AddedAll : {n : ℕ} → State O n → List (Row O n) → Option (State O n) → Type 0
-  AddedAll {n} S es none = (x : Filling O) → Sat S x → ¬ Hold O n es x
-  AddedAll {n} S es (some S') = Rref S' × ((x : Filling O) → Sat S' x ↔ (Sat S x × Hold O n es x))
+  AddedAll {n} S es None = (x : Filling O) → Sat S x → ¬ Hold O n es x
+  AddedAll {n} S es (Some S') = Rref S' × ((x : Filling O) → Sat S' x ↔ (Sat S x × Hold O n es x))
 
   pub insert_all_added : {n : ℕ} (es : List (Row O n)) (S : State O n) → Rref S → AddedAll S es (insert_all es S)
   unfolding insert_all
@@ -60,8 +60,8 @@ module _ {O : Ops} (L : Laws O) where
     where
       rest : (S S' : State O n) → ((x : Filling O) → Sat S' x ↔ (Sat S x × (eval O n e x ≡ null)))
           → (o : Option (State O n)) → AddedAll S' es o → AddedAll S (e ∷ es) o
-      rest S S' a none h = λ x s q. h x ((a x).1 (s, q.0)) q.1
-      rest S S' a (some S'') h = (
+      rest S S' a None h = λ x s q. h x ((a x).1 (s, q.0)) q.1
+      rest S S' a (Some S'') h = (
         h.0,
         λ x. (
           (λ s. let t = (h.1 x).0 s in let u = (a x).0 t.0 in (u.0, (u.1, t.1))),
@@ -71,8 +71,8 @@ module _ {O : Ops} (L : Laws O) where
 
       go : (o : Option (State O n)) → elimination.Added L S e o → ((S' : State O n) → Rref S' → AddedAll S' es (insert_all es S'))
           → AddedAll S (e ∷ es) (and_then o (λ S'. insert_all es S'))
-      go none h ih = λ x s q. h x s q.0
-      go (some S') h ih = rest S S' h.1 (insert_all es S') (ih S' h.0)
+      go None h ih = λ x s q. h x s q.0
+      go (Some S') h ih = rest S S' h.1 (insert_all es S') (ih S' h.0)
 
   pub advance_by_sat : {n : ℕ} (d : ℕ) (S : State O n) (y : Filling O) → Sat (advance_by d S) y ↔ ((x : Filling O) × Sat S x × (shift d x ≡ y))
   unfolding advance_by
@@ -105,8 +105,8 @@ module _ {O : Ops} (L : Laws O) where
 
   -- A packet is refused where no filling satisfies it with all accepted before; else the receiver follows it too.
   abbrev pub Received : {w : ℕ} → List (Packet O) → Packet O → Option (Receiver O w) → Type 0
-  Received A p none = (f : Filling O) → SatisfiesAll O A f → ¬ Satisfies O p f
-  Received A p (some r) = Follows (p ∷ A) r
+  Received A p None = (f : Filling O) → SatisfiesAll O A f → ¬ Satisfies O p f
+  Received A p (Some r) = Follows (p ∷ A) r
 
   -- The packet over the window, which fits it.
   satisfies_embed : (w b : ℕ) (p : Packet O) (f : Filling O) → b ≤ p.first → p.first + p.count ≤ b + w
@@ -120,9 +120,9 @@ module _ {O : Ops} (L : Laws O) where
   insert_follows : {w : ℕ} (A : List (Packet O)) (r : Receiver O w) (p : Packet O) → Follows A r
       → r.base ≤ p.first → p.first + p.count ≤ r.base + w
       → (o : Option (State O w)) → AddedAll r.window (over O w r.base p) o
-      → Received A p (and_then o (λ S. some (record { base = r.base; window = S })))
-  insert_follows {w} A r p h b g none a = λ f s q. a (shift r.base f) (h.sound f s) ((satisfies_embed w r.base p f b g).1 q)
-  insert_follows {w} A r p h b g (some S) a = record {
+      → Received A p (and_then o (λ S. Some (record { base = r.base; window = S })))
+  insert_follows {w} A r p h b g None a = λ f s q. a (shift r.base f) (h.sound f s) ((satisfies_embed w r.base p f b g).1 q)
+  insert_follows {w} A r p h b g (Some S) a = record {
     rref = a.0;
     sound = λ f s. (a.1 _).1 (h.sound f s.1, (satisfies_embed w r.base p f b g).1 s.0);
     complete = λ x s.
@@ -182,10 +182,10 @@ module _ {O : Ops} (L : Laws O) where
       at : (i : ℕ) (f x : Filling O) → shift r.base f ≡ x → x i ≡ f (r.base + i)
       at i f x e = sym (ap (λ z. z i) e) ∙ shift_at r.base i f
 
-      shown : (i : ℕ) (v : Sym) → known r.window i ≡ some v → (f : Filling O) → SatisfiesAll O A f → f (r.base + i) ≡ v
+      shown : (i : ℕ) (v : Sym) → known r.window i ≡ Some v → (f : Filling O) → SatisfiesAll O A f → f (r.base + i) ≡ v
       shown i v k f a = sym (shift_at r.base i f) ∙ elimination.known_sound L r.window i v k (shift r.base f) (h.sound f a)
 
-      hidden : (i : ℕ) → known r.window i ≡ none
+      hidden : (i : ℕ) → known r.window i ≡ None
           → (f g : Filling O) × SatisfiesAll O A f × SatisfiesAll O A g × (f (r.base + i) ≢ g (r.base + i))
       hidden i k =
           let (x, y, s, t, q) = elimination.known_complete L r.window i h.rref k in
@@ -195,8 +195,8 @@ module _ {O : Ops} (L : Laws O) where
 
       agreed : (i : ℕ) (o : Option Sym) → known r.window i ≡ o
           → Accepted o ↔ ((f g : Filling O) → SatisfiesAll O A f → SatisfiesAll O A g → f (r.base + i) ≡ g (r.base + i))
-      agreed i none k = ((λ x. absurd x), (λ a. let (f, g, s, t, q) = hidden i k in q (a f g s t)))
-      agreed i (some v) k = ((λ _ f g s t. shown i v k f s ∙ sym (shown i v k g t)), (λ _. tt))
+      agreed i None k = ((λ x. absurd x), (λ a. let (f, g, s, t, q) = hidden i k in q (a f g s t)))
+      agreed i (Some v) k = ((λ _ f g s t. shown i v k f s ∙ sym (shown i v k g t)), (λ _. tt))
 
   -- All packets of a list, each by itself: the order is nothing to it.
   pub satisfies_members : (A : List (Packet O)) (f : Filling O)
@@ -218,16 +218,16 @@ module _ {O : Ops} (L : Laws O) where
       at f = ap (λ b. f (b + i)) e
 
       go : (o o' : Option Sym) → known r.window i ≡ o → known s.window i ≡ o' → o ≡ o'
-      go none none k l = refl
-      go none (some v) k l =
+      go None None k l = refl
+      go None (Some v) k l =
           let (x, y, a, b, q) = g.hidden i k in
           absurd (q (at x ∙ h.shown i v l x ((t x).0 a) ∙ sym (at y ∙ h.shown i v l y ((t y).0 b))))
-      go (some u) none k l =
+      go (Some u) None k l =
           let (x, y, a, b, q) = h.hidden i l in
           absurd (q (sym (at x) ∙ g.shown i u k x ((t x).1 a) ∙ sym (sym (at y) ∙ g.shown i u k y ((t y).1 b))))
-      go (some u) (some v) k l =
+      go (Some u) (Some v) k l =
           let (f, a) = g.filling in
-          ap some (sym (g.shown i u k f a) ∙ at f ∙ h.shown i v l f ((t f).0 a))
+          ap Some (sym (g.shown i u k f a) ∙ at f ∙ h.shown i v l f ((t f).0 a))
 
   -- The window moves on and knows what it knew.
 
@@ -263,18 +263,18 @@ module _ {O : Ops} (L : Laws O) where
     where
       go : (p : Packet O) (o : Option (Receiver O w)) → Received l.accepted p o
           → Accepted o ↔ ((f : Filling O) × Satisfies O p f × SatisfiesAll O l.accepted f)
-      go p none k = ((λ a. absurd a), (λ (f, s, t). k f t s))
-      go p (some r) k = ((λ _. let (f, s) = (faithful (p ∷ l.accepted) r k).filling in (f, s.0, s.1)), (λ _. tt))
+      go p None k = ((λ a. absurd a), (λ (f, s, t). k f t s))
+      go p (Some r) k = ((λ _. let (f, s) = (faithful (p ∷ l.accepted) r k).filling in (f, s.0, s.1)), (λ _. tt))
 
-  called_kept : {w : ℕ} (l : Log O w) (o : Option (Packet O)) → ((p : Packet O) → o ≡ some p → Fitting l.receiver p) → Kept l
+  called_kept : {w : ℕ} (l : Log O w) (o : Option (Packet O)) → ((p : Packet O) → o ≡ Some p → Fitting l.receiver p) → Kept l
       → Kept (called l o)
-  called_kept l none g h = h
-  called_kept {w} l (some p) g h =
+  called_kept l None g h = h
+  called_kept {w} l (Some p) g h =
       go (receive l.receiver p) (receive_follows l.accepted l.receiver p h (g p refl))
     where
       go : (o : Option (Receiver O w)) → Received l.accepted p o → Kept (answered l p o)
-      go none _ = h
-      go (some r) k = k
+      go None _ = h
+      go (Some r) k = k
 
   -- A list of calls.
   module _ {w : ℕ} {Call : Type 0} (locate : Call → ℕ → Option (Packet O)) (placed : Locates w locate) where

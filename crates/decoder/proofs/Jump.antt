@@ -1,6 +1,6 @@
 -- A packet's equations one after the other, and the base position by position.
 use Rattle.std.specs.Prelude.{◌≡◌, ◌≤◌, ◌∷◌, ◌++◌}
-use Rattle.words.specs.Words.{arith, ℕ, List, refl, ap, [], some, suc, zero, none, Option}
+use Rattle.words.specs.Words.{arith, ℕ, List, refl, ap, [], Some, suc, zero, None, Option}
 use Rattle.decoder.specs.Field.{Ops}
 use Rattle.decoder.specs.Model.{Row, insert, State, end, free, pivot, extend, advance}
 use Rattle.decoder.specs.Receiver.{advance_by, empty, insert_all, and_then}
@@ -15,8 +15,8 @@ module _ {O : Ops} where
     where
       go : (o : Option (State O n)) → ((S' : State O n) → insert_all (es ++ ds) S' ≡ and_then (insert_all es S') (λ S''. insert_all ds S''))
           → and_then o (λ S'. insert_all (es ++ ds) S') ≡ and_then (and_then o (λ S'. insert_all es S')) (λ S''. insert_all ds S'')
-      go none ih = refl
-      go (some S') ih = ih S'
+      go None ih = refl
+      go (Some S') ih = ih S'
 
   -- A loop that moves on one position a turn.
   pub advance_by_suc : {n : ℕ} (d : ℕ) (S : State O n) → advance_by (suc d) S ≡ advance (advance_by d S)

@@ -1,15 +1,15 @@
 -- The linear algebra of the affine form: row operations, and what they do to its value.
 use Rattle.std.specs.Prelude.{◌≡◌, ◌≢◌, ◌↔◌}
-use Rattle.words.specs.Words.{ℕ, refl, ◌∙◌, sym, ap, some, suc, zero, none}
+use Rattle.words.specs.Words.{ℕ, refl, ◌∙◌, sym, ap, Some, suc, zero, None}
 use mathlib.Core.Logic.{if_pos, if_neg}
 use Rattle.decoder.specs.Field.{Ops, Laws}
 use Rattle.decoder.specs.Model.{tail, only_if, Filling, Row, eval, axpy, scale, lead, at, symbol, push}
 
-pub only_if_holds : {P A : Type 0} (d : Dec P) (a : A) → P → only_if d a ≡ some a
+pub only_if_holds : {P A : Type 0} (d : Dec P) (a : A) → P → only_if d a ≡ Some a
 only_if_holds (yes _) a p = refl
 only_if_holds (no n) a p = absurd (n p)
 
-pub only_if_fails : {P A : Type 0} (d : Dec P) (a : A) → ¬ P → only_if d a ≡ none
+pub only_if_fails : {P A : Type 0} (d : Dec P) (a : A) → ¬ P → only_if d a ≡ None
 only_if_fails (yes p) a n = absurd (n p)
 only_if_fails (no _) a n = refl
 

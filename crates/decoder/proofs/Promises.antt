@@ -1,7 +1,7 @@
 -- The promises of the decoder, for any field and at the field of bytes.
 use Rattle.std.specs.Prelude.{◌≡◌, ◌<◌, ◌≢◌, ◌↔◌}
-use Rattle.words.specs.Words.{arith, ℕ, List, refl, ◌∙◌, sym, ap, some, none, subst, Option, xor_lt}
-use mathlib.Core.Option.{some-ne-none}
+use Rattle.words.specs.Words.{arith, ℕ, List, refl, ◌∙◌, sym, ap, Some, None, subst, Option, xor_lt}
+use Rattle.words.specs.Words.{some-ne-none}
 use lib.Bits.{and_lt}
 use Rattle.field.proofs.Binary.{product_binary}
 use Rattle.field.proofs.Laws.{inverse-is, product-one}
@@ -22,12 +22,12 @@ module _ {O : Ops} (L : Laws O) where
 
   -- A system has a filling, so an equation that some filling satisfies is not refused.
   contradiction : {n : ℕ} (S : State O n) (e : Row O n) → Rref S
-      → (insert S e ≡ none) ↔ ((x : Filling O) → Sat S x → eval O n e x ≢ null)
+      → (insert S e ≡ None) ↔ ((x : Filling O) → Sat S x → eval O n e x ≢ null)
   contradiction {n} S e f = go (insert S e) (elimination.insert_added L S e f)
     where
-      go : (o : Option (State O n)) → elimination.Added L S e o → (o ≡ none) ↔ ((x : Filling O) → Sat S x → eval O n e x ≢ null)
-      go none h = ((λ _. h), (λ _. refl))
-      go (some S') h = (
+      go : (o : Option (State O n)) → elimination.Added L S e o → (o ≡ None) ↔ ((x : Filling O) → Sat S x → eval O n e x ≢ null)
+      go None h = ((λ _. h), (λ _. refl))
+      go (Some S') h = (
         (λ i. absurd (some-ne-none S' i)),
         (λ no.
             let x = elimination.solution L S' in
@@ -40,8 +40,8 @@ module _ {O : Ops} (L : Laws O) where
   known_exactly {n} S f i = go (known S i) refl
     where
       go : (o : Option Sym) → known S i ≡ o → Accepted o ↔ ((x y : Filling O) → Sat S x → Sat S y → x i ≡ y i)
-      go none k = ((λ a. absurd a), (λ all. let (x, y, s, t, q) = elimination.known_complete L S i f k in q (all x y s t)))
-      go (some v) k = ((λ _ x y s t. elimination.known_sound L S i v k x s ∙ sym (elimination.known_sound L S i v k y t)), (λ _. tt))
+      go None k = ((λ a. absurd a), (λ all. let (x, y, s, t, q) = elimination.known_complete L S i f k in q (all x y s t)))
+      go (Some v) k = ((λ _ x y s t. elimination.known_sound L S i v k x s ∙ sym (elimination.known_sound L S i v k y t)), (λ _. tt))
 
   pub decoder : Decoder O
   decoder = record {

@@ -1,7 +1,7 @@
 -- What each step of the receiver does to the table, as a whole: place a row, move the base on, look a symbol up.
 use Rattle.std.specs.Prelude.{◌≡◌, ◌≤◌, ◌<◌, ◌≢◌, ◌+◌ as ◌+ₙ◌}
-use Rattle.words.specs.Words.{arith, ℕ, refl, ◌∙◌, sym, ap, some, suc, true, zero, none, false, Bool, ap₂, ℕ_discrete}
-use Rattle.words.specs.Words.{add-zero, dec_lt, true≢false}
+use Rattle.words.specs.Words.{arith, ℕ, refl, ◌∙◌, sym, ap, Some, suc, true, zero, None, false, Bool, ap₂, ℕ_discrete}
+use Rattle.words.specs.Words.{dec_lt, true≢false}
 use Rattle.decoder.specs.Field.{Ops, Laws}
 use Rattle.decoder.specs.Model.{Row, State, lead, symbol, known}
 use Rattle.decoder.specs.Table.{Line, Table, read, slot, view, Echelon}
@@ -111,18 +111,18 @@ module _ {O : Ops} (L : Laws O) where
       unfolding view
       known_slot t h = known_view i n q p m e f ∙ ap (λ y. known (slot y (read (T.line p) m (suc p)) (view T m (suc p))) 0) h
 
-      pub known-row : T.has p ≡ true → ((j : ℕ) → p < j → j < q +ₙ n → (T.line p).cells j ≡ 𝟘) → known (view T n q) i ≡ some (T.line p).sym
+      pub known-row : T.has p ≡ true → ((j : ℕ) → p < j → j < q +ₙ n → (T.line p).cells j ≡ 𝟘) → known (view T n q) i ≡ Some (T.line p).sym
       unfolding slot known
       known-row h z =
           known_slot true h
           ∙ lin.only_if_holds (zero? _) _ (refine.lead_none L (T.line p) m (suc p) (λ j g l. z j g (omega arith)))
-          ∙ ap some (symbol_read (T.line p) m (suc p))
+          ∙ ap Some (symbol_read (T.line p) m (suc p))
 
-      pub known_open : T.has p ≡ true → (j : ℕ) → p < j → j < q +ₙ n → (T.line p).cells j ≢ 𝟘 → known (view T n q) i ≡ none
+      pub known_open : T.has p ≡ true → (j : ℕ) → p < j → j < q +ₙ n → (T.line p).cells j ≢ 𝟘 → known (view T n q) i ≡ None
       unfolding slot known
       known_open h j g l z =
           known_slot true h ∙ lin.only_if_fails (zero? _) _ (lead_nonzero (T.line p) m (suc p) j g (omega arith) z)
 
-      pub known_free : T.has p ≡ false → known (view T n q) i ≡ none
+      pub known_free : T.has p ≡ false → known (view T n q) i ≡ None
       unfolding slot known
       known_free h = known_slot false h

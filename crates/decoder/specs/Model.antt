@@ -1,7 +1,7 @@
 -- The receiver's system of equations, in reduced row echelon form with the oldest position first:
 -- a window of positions, each free or the pivot of a row over the positions after it.
 use Rattle.std.specs.Prelude.{◌≡◌}
-use Rattle.words.specs.Words.{ℕ, some, suc, zero, none, Option}
+use Rattle.words.specs.Words.{ℕ, Some, suc, zero, None, Option}
 use Rattle.std.proofs.Math.Logic.{ite}
 use Rattle.decoder.specs.Field.{Ops}
 
@@ -15,8 +15,8 @@ ext a x (suc i) = x i
 
 -- A value, if a condition holds.
 abbrev pub only_if : {P A : Type 0} → Dec P → A → Option A
-only_if (yes _) a = some a
-only_if (no _) a = none
+only_if (yes _) a = Some a
+only_if (no _) a = None
 
 module _ (O : Ops) where
   open O use {K, Sym, 𝟘, ◌+◌, ◌*◌, zero?, ◌⊕◌, ◌•◌}
@@ -112,9 +112,9 @@ module _ {O : Ops} where
   -- What becomes of a reduced equation: implied where nothing is left of it, a contradiction, `none`, where only a symbol is left,
   -- else a new row, scaled to lead with one.
   unfoldable pub settle_by : {n : ℕ} {a : K} {v : Sym} → Dec (a ≡ 𝟘) → Dec (v ≡ null) → State O n → Row O n → Option (State O n)
-  settle_by (yes _) (yes _) S e = some S
-  settle_by (yes _) (no _) S e = none
-  settle_by {n} (no _) _ S e = some (place S (scale O n (inv (lead O n e)) e))
+  settle_by (yes _) (yes _) S e = Some S
+  settle_by (yes _) (no _) S e = None
+  settle_by {n} (no _) _ S e = Some (place S (scale O n (inv (lead O n e)) e))
 
   unfoldable pub settle : {n : ℕ} → State O n → Row O n → Option (State O n)
   settle {n} S e = settle_by (zero? (lead O n e)) (null? (symbol O n e)) S e
@@ -125,8 +125,8 @@ module _ {O : Ops} where
 
   -- The symbol at a position, where it is known: its row has no other coefficient.
   unfoldable pub known : {n : ℕ} → State O n → ℕ → Option Sym
-  known end i = none
-  known (free S) zero = none
+  known end i = None
+  known (free S) zero = None
   known (free S) (suc i) = known S i
   known (pivot {n} r S) zero = only_if (zero? (lead O n r)) (symbol O n r)
   known (pivot r S) (suc i) = known S i

@@ -1,7 +1,7 @@
 -- What is proved of the decoder (proofs/Promises): a system of equations says, at any time, exactly what the accepted packets say of the
 -- positions that are left, though the rows of those that have departed are gone.
 use Rattle.std.specs.Prelude.{◌≡◌, ◌≤◌, ◌+◌, ◌<◌, ◌≢◌, ◌↔◌}
-use Rattle.words.specs.Words.{ℕ, List, some, none, Option, bit_xor}
+use Rattle.words.specs.Words.{ℕ, List, Some, None, Option, bit_xor}
 use Rattle.std.specs.Int.Bits.{bit_and}
 use Rattle.decoder.specs.Field.{Ops}
 use Rattle.decoder.specs.Model.{Filling, Row, eval, State, Sat, Rref, insert, known}
@@ -25,9 +25,9 @@ module _ {O : Ops} where
     -- Some filling satisfies all accepted packets.
     pub filling : (f : Filling O) × SatisfiesAll O A f
     -- What is shown is what every such filling has there, a sender's among them.
-    pub shown : (i : ℕ) (v : Sym) → known r.window i ≡ some v → (f : Filling O) → SatisfiesAll O A f → f (r.base + i) ≡ v
+    pub shown : (i : ℕ) (v : Sym) → known r.window i ≡ Some v → (f : Filling O) → SatisfiesAll O A f → f (r.base + i) ≡ v
     -- Where nothing is shown, two such fillings differ.
-    pub hidden : (i : ℕ) → known r.window i ≡ none
+    pub hidden : (i : ℕ) → known r.window i ≡ None
         → (f g : Filling O) × SatisfiesAll O A f × SatisfiesAll O A g × (f (r.base + i) ≢ g (r.base + i))
     -- So a position is known exactly if all such fillings agree there.
     pub exactly : (i : ℕ)
@@ -43,7 +43,7 @@ module _ {O : Ops} where
 
   -- Every packet that a call locates lies ahead of the base and is no longer than the window.
   abbrev pub Locates : {Call : Type 0} → ℕ → (Call → ℕ → Option (Packet O)) → Type 0
-  Locates {Call} w locate = (c : Call) (b : ℕ) (p : Packet O) → locate c b ≡ some p → (b ≤ p.first) × (p.count ≤ w)
+  Locates {Call} w locate = (c : Call) (b : ℕ) (p : Packet O) → locate c b ≡ Some p → (b ≤ p.first) × (p.count ≤ w)
 
 -- What holds of every system of equations, and of every list of calls.
 pub record Decoder (O : Ops) : Type 1 where
@@ -51,9 +51,9 @@ pub record Decoder (O : Ops) : Type 1 where
   pub filling : {n : ℕ} (S : State O n) → (x : Filling O) × Sat S x
   -- An equation contradicts a reduced system exactly if no filling of the system satisfies it.
   pub contradiction : {n : ℕ} (S : State O n) (e : Row O n) → Rref S
-      → (insert S e ≡ none) ↔ ((x : Filling O) → Sat S x → eval O n e x ≢ O.null)
+      → (insert S e ≡ None) ↔ ((x : Filling O) → Sat S x → eval O n e x ≢ O.null)
   -- Else the system stays reduced, and its fillings are those that satisfy the equation too.
-  pub addition : {n : ℕ} (S S' : State O n) (e : Row O n) → Rref S → insert S e ≡ some S'
+  pub addition : {n : ℕ} (S S' : State O n) (e : Row O n) → Rref S → insert S e ≡ Some S'
       → Rref S' × ((x : Filling O) → Sat S' x ↔ (Sat S x × (eval O n e x ≡ O.null)))
   -- Projection: when the `d` oldest positions depart, the fillings of what is left are those of the system, without the first `d` symbols.
   pub projection : {n : ℕ} (d : ℕ) (S : State O n) (y : Filling O)
@@ -61,7 +61,7 @@ pub record Decoder (O : Ops) : Type 1 where
   -- A position is known exactly if all fillings agree there, and then with their symbol.
   pub known_exactly : {n : ℕ} (S : State O n) → Rref S → (i : ℕ)
       → Accepted (known S i) ↔ ((x y : Filling O) → Sat S x → Sat S y → x i ≡ y i)
-  pub known_right : {n : ℕ} (S : State O n) (i : ℕ) (v : O.Sym) → known S i ≡ some v → (x : Filling O) → Sat S x → x i ≡ v
+  pub known_right : {n : ℕ} (S : State O n) (i : ℕ) (v : O.Sym) → known S i ≡ Some v → (x : Filling O) → Sat S x → x i ≡ v
   -- Canonical form: two reduced systems with the same fillings are equal.
   pub canonical : {n : ℕ} (S T : State O n) → Rref S → Rref T → ((x : Filling O) → Sat S x ↔ Sat T x) → S ≡ T
   -- A source packet is satisfied exactly if its positions hold its symbols, a repair packet if each repair symbol is its combination.

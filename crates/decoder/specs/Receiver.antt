@@ -1,6 +1,6 @@
 -- The receiver: packets of equations over positions, all accepted or none, and the window that moves on to fit them.
 use Rattle.std.specs.Prelude.{◌≡◌, ◌≤◌, ◌+◌, ◌-◌, ◌∷◌}
-use Rattle.words.specs.Words.{ℕ, List, [], some, suc, zero, none, Option, map}
+use Rattle.words.specs.Words.{ℕ, List, [], Some, suc, zero, None, Option, map}
 use Rattle.decoder.specs.Field.{Ops}
 use Rattle.decoder.specs.Model.{tail, Filling, Row, eval, symbol, State, end, free, insert, known, advance}
 
@@ -11,19 +11,19 @@ shift (suc d) x = shift d (tail x)
 
 -- Go on with a value, if there is one.
 abbrev pub and_then : {A B : Type 0} → Option A → (A → Option B) → Option B
-and_then none g = none
-and_then (some a) g = g a
+and_then None g = None
+and_then (Some a) g = g a
 
 -- There is a value.
 abbrev pub Accepted : {A : Type 0} → Option A → Type 0
-Accepted none = ⊥
-Accepted (some _) = Unit {0}
+Accepted None = ⊥
+Accepted (Some _) = Unit {0}
 
 -- One if there is a value now and was none before; and how many of the first `m` are such.
 unfoldable pub is_new : {A : Type 0} → Option A → Option A → ℕ
-is_new none o = 0
-is_new (some _) none = 1
-is_new (some _) (some _) = 0
+is_new None o = 0
+is_new (Some _) None = 1
+is_new (Some _) (Some _) = 0
 
 unfoldable pub count_new : {A : Type 0} → (m : ℕ) → (ℕ → Option A) → (ℕ → Option A) → ℕ
 count_new zero now before = 0
@@ -84,7 +84,7 @@ module _ {O : Ops} where
 
   -- Add the equations, all or none.
   unfoldable pub insert_all : {n : ℕ} → List (Row O n) → State O n → Option (State O n)
-  insert_all [] S = some S
+  insert_all [] S = Some S
   insert_all (e ∷ es) S = and_then (insert S e) (λ S'. insert_all es S')
 
   -- By how much the base rises, least, so that the packet's last position fits.
@@ -97,7 +97,7 @@ module _ {O : Ops} where
       let d = rise r p in
       let base = r.base + d in
       and_then (insert_all (over O w base p) (advance_by d r.window))
-      (λ S. some (record { base = base; window = S }))
+      (λ S. Some (record { base = base; window = S }))
 
   -- Refusals that come before: 8 where it lies behind, 4 and 6 where it is longer than the window.
   abbrev pub Fitting : {w : ℕ} → Receiver O w → Packet O → Type 0
@@ -116,12 +116,12 @@ pub record Log (O : Ops) (w : ℕ) : Type 0 where
 module _ {O : Ops} {w : ℕ} where
   -- What a packet's answer adds to the log, what a call adds, and the log after all calls.
   abbrev pub answered : Log O w → Packet O → Option (Receiver O w) → Log O w
-  answered l p none = l
-  answered l p (some r) = record { receiver = r; accepted = p ∷ l.accepted }
+  answered l p None = l
+  answered l p (Some r) = record { receiver = r; accepted = p ∷ l.accepted }
 
   abbrev pub called : Log O w → Option (Packet O) → Log O w
-  called l none = l
-  called l (some p) = answered l p (receive l.receiver p)
+  called l None = l
+  called l (Some p) = answered l p (receive l.receiver p)
 
   abbrev pub run : {Call : Type 0} → (Call → ℕ → Option (Packet O)) → Log O w → List Call → Log O w
   run locate l [] = l

@@ -3,8 +3,8 @@
 -- What becomes of a reduced equation: settled_kept, settled_implied, settled_contradiction.
 -- The packet's rows: gathered_same, gathered_only, gathered_none. The whole call: admitted, admitted_zero.
 use Rattle.std.specs.Prelude.{◌≡◌, ◌≤◌, ◌+◌, ◌<◌, ◌-◌, ◌%◌, ◌∷◌, ◌++◌, ◌≢◌}
-use Rattle.words.specs.Words.{arith, ℕ, List, length, refl, ◌∙◌, sym, ap, [], some, get_or, subst, mod-lt}
-use Rattle.words.specs.Words.{ℕ_discrete, dec_lt, add-one, mod-add-mod, set, add-mod_right, lit<}
+use Rattle.words.specs.Words.{arith, ℕ, List, length, refl, ◌∙◌, sym, ap, [], Some, get_or, subst, mod-lt}
+use Rattle.words.specs.Words.{ℕ_discrete, dec_lt, add-one, mod-add-mod, set, add-mod_right, lit<, Bool, false}
 use Rattle.field.specs.Gf256.{product}
 use Rattle.field.specs.Powers.{inverse}
 use Rattle.field.proofs.Laws.{inverse-lt, inverse-is, product-one}
@@ -164,18 +164,8 @@ module _ (w E first k : ℕ) (m : List ℕ) (g : Works w E k m) (bytes : Bytes m
   row-bytes : Bytes (row w E k m)
   row-bytes = bytes-part (row_offset w E k) (stride w E) m bytes
 
-  module _ (r c i : ℕ) (m' : List ℕ) (from : k ≤ r) (to : r < k + 1) (room : r < w) (h : i < w) (e : c ≡ (first + i) % w)
-      (found : Leading w first i (row w E r m))
-      (f : Normalised w E r c m m') where
-    here : r ≡ k
-    here = omega arith
-
-    led : Leading w first i (row w E k m)
-    led = subst (λ x. Leading w first i (row w E x m)) here found
-
-    done : Normalised w E k c m m'
-    done = subst (λ x. Normalised w E x c m m') here f
-
+  module _ (c i : ℕ) (m' : List ℕ) (room : k < w) (h : i < w) (e : c ≡ (first + i) % w) (led : Leading w first i (row w E k m))
+      (done : Normalised w E k c m m') where
     works : Works w E (k + 1) m'
     works =
         let old = works_only {z = row_offset w E k + (w + E + 1)} (omega (arith, flags_fit w E)) done.only g in
@@ -283,7 +273,7 @@ gathered_same w E b kept S m m' es pos same f =
     record {
       chain = chain_same L (spelled w E b m) (spelled w E b m') kept S rows f.chain;
       marked = λ j l. subst (PivotMarked w E b) (sym (same j l)) (f.marked j l);
-      inserted = f.inserted ∙ ap some (place_rows_same L (spelled w E b m) (spelled w E b m') kept S rows);
+      inserted = f.inserted ∙ ap Some (place_rows_same L (spelled w E b m) (spelled w E b m') kept S rows);
     }
 
 -- So a change in the row `kept` leaves them.
@@ -383,7 +373,7 @@ module _ (w E oldest stay kept first count n : ℕ) (verdict : Verdict) (m work 
         record {
           chain = subst (Chain S₀ (spelled w E q work')) (sym (add-one kept)) more.0;
           marked = λ j l. go j l (ℕ_discrete j kept);
-          inserted = more.1 ∙ ap (λ j. some (place_rows (spelled w E q work') j S₀)) (sym (add-one kept));
+          inserted = more.1 ∙ ap (λ j. Some (place_rows (spelled w E q work') j S₀)) (sym (add-one kept));
         }
       where
         becomes : spelled w E q work' kept ≡ scale (Coded E) w ((Coded E).inv (lead (Coded E) w (spelled w E q work₂ kept))) (spelled w E q work₂ kept)
@@ -413,9 +403,9 @@ module _ (w E oldest stay kept first count n : ℕ) (verdict : Verdict) (m work 
   }
 
 -- With no rows before, a row that the state's rows make zero is implied at once.
-module _ (w E oldest stay kept first count n any : ℕ) (m work work' : List ℕ) (fits : Fits w E m) (bytes : Bytes m) (g : Works w E kept work)
+module _ (w E oldest stay kept first count n : ℕ) (any : Bool) (m work work' : List ℕ) (fits : Fits w E m) (bytes : Bytes m) (g : Works w E kept work)
     (small : Bytes work) (small' : Bytes work') (near : Staying w oldest first count stay n) (f : StateReduced w E kept first n m work work')
-    (zero : ZeroIf w E kept any work') (none : kept ≡ 0) (nothing : any ≡ 0) where
+    (zero : ZeroIf w E kept any work') (none : kept ≡ 0) (nothing : any ≡ false) where
   zero_row : ZeroFrom (row_offset w E kept) (row_offset w E kept + (w + E)) work'
   zero_row i l u =
       let e : row_offset w E kept + (i - row_offset w E kept) ≡ i = omega arith in

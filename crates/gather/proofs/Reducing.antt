@@ -5,9 +5,8 @@
 use Rattle.std.specs.Prelude.{◌≡◌, ◌≤◌, ◌+◌, ◌<◌, ◌-◌, ◌%◌, ◌∷◌, ◌++◌, ◌≢◌}
 use Rattle.words.specs.Words.{arith, ℕ, List, length, refl, ◌∙◌, sym, ap, [], suc, true, zero, get_or, false, subst}
 use Rattle.words.specs.Words.{drop, take, ap₂, mod-lt, dec_lt, add-one, bit_xor, mod-add-mod, lit<, replicate, add-mod_right, xor_lt, length-take-le}
-use Rattle.words.specs.Words.{get_or-take, set, ℕ_discrete, length-replicate, add-zero, mod-eq_of_lt}
+use Rattle.words.specs.Words.{get_or-take, set, ℕ_discrete, length-replicate, add-zero, mod-eq_of_lt, Bool, not, eqb, eqb-true, not-false}
 use lib.Seq.{get_or-set_same, get_or-set_other}
-use lib.Bits.{bit_or}
 use native.Mathlib.Decide.{dec_le}
 use Rattle.field.specs.Gf256.{product}
 use Rattle.field.proofs.Laws.{product_lt}
@@ -208,7 +207,7 @@ module _ (w E k a b s : ℕ) (m work cs x : List ℕ) where
       ∙ ap (λ y. splice y (summed header_size (stride w E) (w + E) w (part y (w + E) work)) work) here
 
 -- What `collect` has read is the row.
-module _ (w E k first n at any : ℕ) (m work cs cs' : List ℕ) (here : at ≡ row_offset w E k) (g : Works w E k work) (zeros : Zeros cs)
+module _ (w E k first n at : ℕ) (any : Bool) (m work cs cs' : List ℕ) (here : at ≡ row_offset w E k) (g : Works w E k work) (zeros : Zeros cs)
     (f : Collected w E first n any m (part at w work) cs cs') where
   same : (c : ℕ) → c < w → multiplier w E c m (part at w work) ≡ multiplier w E c m (row w E k work)
   same c h =
@@ -218,7 +217,7 @@ module _ (w E k first n at any : ℕ) (m work cs cs' : List ℕ) (here : at ≡ 
   inside : (i : ℕ) → (first + i) % w < w
   inside i = mod-lt (first + i) g.some_width
 
-  pub state_none : any ≡ 0 → StateReduced w E k first n m work work
+  pub state_none : any ≡ false → StateReduced w E k first n m work work
   state_none z = record {
     multipliers = [];
     small = λ i. lit< tt;
@@ -246,7 +245,7 @@ module _ (w E k first n at any : ℕ) (m work cs cs' : List ℕ) (here : at ≡ 
 -- No column, and one: the code adds the state's row from `from` on times `v`.
 pub state_empty : (w E k first : ℕ) (m work : List ℕ) → Works w E k work → StateReduced w E k first 0 m work work
 state_empty w E k first m work g =
-    state_none w E k first 0 (row_offset w E k) 0 m work [] [] refl g (λ i. refl)
+    state_none w E k first 0 (row_offset w E k) false m work [] [] refl g (λ i. refl)
     (collected_none w E first m (part (row_offset w E k) w work) [] (λ i. lit< tt)) refl
 
 pub state_one : (w E k c v at from : ℕ) (m work work' : List ℕ) → at ≡ row_offset w E k → from ≡ row_offset w E c → Works w E k work → c < w → v < 256
@@ -260,8 +259,8 @@ state_one w E k c v at from m work work' here there g h byte q s =
     let column : c ≡ (c + 0) % w = sym (ap (λ x. x % w) (add-zero c) ∙ mod-eq_of_lt h) in
     let on : get_or (take w cs) c 0 ≡ v = get_or-take w cs c 0 h ∙ get_or-set_same none c v 0 (omega arith) in
     let off : (j : ℕ) → j < w → j ≢ c → get_or (take w cs) j 0 ≡ 0 = (λ j l x. get_or-take w cs j 0 l ∙ get_or-set_other none c j v 0 x ∙ zeros w j) in
-    state_some w E k c 1 at (bit_or 0 v) m work none cs here g (zeros w)
-    (collected_more w E c m (part at w work) 0 0 c v none none (omega arith) (omega arith) byte column
+    state_some w E k c 1 at (not (eqb v 0)) m work none cs here g (zeros w)
+    (collected_more w E c m (part at w work) 0 c v false none none (omega arith) (omega arith) byte column
     (q ∙ ap (if_used (in_use w E (row w E c m))) (sym (get_or-part at w c work h)))
     (collected_none w E c m (part at w work) none (λ i. rw (zeros w i) (lit< tt)))) work'
     (s
@@ -272,8 +271,8 @@ state_one w E k c v at from m work work' here there g h byte q s =
 
 -- The code reads the row from `at` on.
 pub zero_if : (w E k any at : ℕ) (work : List ℕ) → at ≡ row_offset w E k → (any ≡ 0 → (i : ℕ) → i < w + E → get_or work (at + i) 0 ≡ 0)
-    → ZeroIf w E k any work
-zero_if w E k any at work here f z i h = ap (λ a. get_or work (a + i) 0) (sym here) ∙ f z i h
+    → ZeroIf w E k (not (eqb any 0)) work
+zero_if w E k any at work here f z i h = ap (λ a. get_or work (a + i) 0) (sym here) ∙ f (eqb-true any 0 (not-false _ z)) i h
 
 -- The sum of the rows as lines.
 module _ (w E : ℕ) (m : List ℕ) (fits : Fits w E m) (bytes : Bytes m) where

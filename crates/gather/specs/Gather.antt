@@ -1,7 +1,7 @@
 -- What `lay` and `admit` do to an equation of a packet: it is laid in a row of working memory, reduced there and kept, unless it is implied
 -- or contradicts.
 use Rattle.std.specs.Prelude.{◌≡◌, ◌≤◌, ◌+◌, ◌<◌, ◌-◌, ◌%◌, ◌∷◌, ◌++◌, ◌≢◌}
-use Rattle.words.specs.Words.{ℕ, List, length, [], none, get_or, drop, take}
+use Rattle.words.specs.Words.{ℕ, List, length, [], None, get_or, drop, take}
 use Rattle.decoder.specs.Bytes.{Coded}
 use Rattle.decoder.specs.Model.{Row, State, Rref}
 use Rattle.decoder.specs.Receiver.{advance_by, insert_all}
@@ -40,7 +40,7 @@ count_kept kept Contradiction = kept
 abbrev pub Agrees : (w E b : ℕ) (S : State (Coded E) w) (work : List ℕ) (kept : ℕ) (es : List (Row (Coded E) w)) → Verdict → Type 0
 Agrees w E b S work kept es Kept = Gathered w E b S work (kept + 1) es
 Agrees w E b S work kept es Implied = Gathered w E b S work kept es
-Agrees w E b S work kept es Contradiction = insert_all es S ≡ none
+Agrees w E b S work kept es Contradiction = insert_all es S ≡ None
 
 -- The equation in the row `kept` has been admitted or refused, for a window that is to move on to the one whose base has the row `base`, so that
 -- `stay` positions stay. Its coefficients stand in the `n` columns from `first` on: at positions of that window, from the `d`th on.

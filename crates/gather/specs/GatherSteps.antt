@@ -1,7 +1,7 @@
 -- Contracts of inner functions: a reader need not believe these.
 -- An equation is reduced by the state's rows and by the packet's, and its oldest coefficient is found and made one.
 use Rattle.std.specs.Prelude.{◌≡◌, ◌≤◌, ◌+◌, ◌<◌, ◌%◌, ◌≢◌}
-use Rattle.words.specs.Words.{ℕ, List, length, true, get_or, false, Bool}
+use Rattle.words.specs.Words.{ℕ, List, length, true, get_or, false, Bool, Option, Some, None}
 use Rattle.field.specs.Powers.{inverse}
 use Rattle.memory.specs.Part.{part, splice}
 use Rattle.memory.specs.Number.{Bytes}
@@ -15,8 +15,6 @@ use Rattle.decoder.specs.Chain.{eliminate}
 use Rattle.table.specs.Window.{header_size, stride, row_offset, row, in_use, line}
 use Rattle.table.specs.Packet.{Works, spelled, PivotMarked}
 use Rattle.gather.specs.Gather.{Only, count_kept}
-use Rattle.gather.specs.declared.Pivot.{Pivot}
-use Rattle.gather.specs.declared.Pivot.TheVariants.{At, Nothing}
 use Rattle.gather.specs.declared.Verdict.{Verdict}
 use Rattle.gather.specs.declared.Verdict.TheVariants.{Kept, Implied, Contradiction}
 
@@ -33,13 +31,13 @@ multiplier w E c m l = if_used (in_use w E (row w E c m)) (get_or l c 0)
 abbrev pub Zeros : List ℕ → Type 0
 Zeros l = (i : ℕ) → get_or l i 0 ≡ 0
 
--- The multipliers for the `n` columns from `first` on have been stored; `any` is zero only if all are.
-pub record Collected (w E first n any : ℕ) (m l cs cs' : List ℕ) : Type 0 where
+-- The multipliers for the `n` columns from `first` on have been stored; `any` is false only if all are zero.
+pub record Collected (w E first n : ℕ) (any : Bool) (m l cs cs' : List ℕ) : Type 0 where
   pub size : length cs' ≡ length cs
   pub on : (i : ℕ) → i < n → get_or cs' ((first + i) % w) 0 ≡ multiplier w E ((first + i) % w) m l
   pub off : (j : ℕ) → ((i : ℕ) → i < n → (first + i) % w ≢ j) → get_or cs' j 0 ≡ get_or cs j 0
   pub small : Bytes cs'
-  pub none : any ≡ 0 → (i : ℕ) → i < n → multiplier w E ((first + i) % w) m l ≡ 0
+  pub none : any ≡ false → (i : ℕ) → i < n → multiplier w E ((first + i) % w) m l ≡ 0
 
 -- The sum of the state's rows, each times its multiplier of `cs`, has been added to the row `k` of working memory.
 abbrev pub RowsAdded : (w E k : ℕ) (cs m work work' : List ℕ) → Type 0
@@ -54,9 +52,9 @@ pub record StateReduced (w E k first n : ℕ) (m work work' : List ℕ) : Type 0
   pub off : (j : ℕ) → j < w → ((i : ℕ) → i < n → (first + i) % w ≢ j) → get_or multipliers j 0 ≡ 0
   pub sum : RowsAdded w E k multipliers m work work'
 
--- Where `any` is zero, so is the row `k` of working memory.
-abbrev pub ZeroIf : (w E k any : ℕ) → List ℕ → Type 0
-ZeroIf w E k any work = any ≡ 0 → (i : ℕ) → i < w + E → get_or work (row_offset w E k + i) 0 ≡ 0
+-- Where `any` is false, the row `k` of working memory is zero.
+abbrev pub ZeroIf : (w E k : ℕ) → Bool → List ℕ → Type 0
+ZeroIf w E k any work = any ≡ false → (i : ℕ) → i < w + E → get_or work (row_offset w E k + i) 0 ≡ 0
 
 -- The pivot of the row `j` of working memory has been eliminated from the row `k`.
 abbrev pub Eliminated : (w E k j : ℕ) (work work' : List ℕ) → Type 0
@@ -77,11 +75,11 @@ pub record Leading (w first i : ℕ) (l : List ℕ) : Type 0 where
   pub here : i < w → get_or l ((first + i) % w) 0 ≢ 0
 
 -- The pivot found is that of the first of the rows from `from` on and before `to` that has one.
-abbrev pub Searched : (w E first from to : ℕ) → Pivot → List ℕ → Type 0
-Searched w E first from to (At r c) work =
+abbrev pub Searched : (w E first from to : ℕ) → Option (ℕ × ℕ) → List ℕ → Type 0
+Searched w E first from to (Some (r, c)) work =
     (i : ℕ) × (i < w) × (c ≡ (first + i) % w) × (from ≤ r) × (r < to) × ((k : ℕ) → from ≤ k → k < r → Leading w first w (row w E k work))
     × Leading w first i (row w E r work)
-Searched w E first from to Nothing work = (k : ℕ) → from ≤ k → k < to → Leading w first w (row w E k work)
+Searched w E first from to None work = (k : ℕ) → from ≤ k → k < to → Leading w first w (row w E k work)
 
 -- The `n` bytes from `at` on have been divided by `k`.
 abbrev pub Divided : (at n k : ℕ) (work work' : List ℕ) → Type 0

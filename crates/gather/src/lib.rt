@@ -21,13 +21,6 @@ pub enum Verdict {
     Contradiction,
 }
 
-// The row and the column of a pivot.
-#[derive(Clone, Copy)]
-enum Pivot {
-    At(usize, usize),
-    Nothing,
-}
-
 // Lays the coefficients in the row `k` of working memory, in the columns from `first` on; the other columns become zero.
 pub fn lay(work: &mut [u8], coefficients: &[u8], shape: Shape, k: usize, first: usize)
     requires { Works shape.width shape.size k work.old × (first < shape.width) × (length coefficients.now ≤ shape.width) }
@@ -61,7 +54,7 @@ fn multiplier(mem: &[u8], shape: Shape, c: usize, k: u8) -> u8
     k
 }
 
-// The multipliers of the state's rows for the `n` columns from `first` on of the equation, by row. Gives zero if all are zero.
+// The multipliers of the state's rows for the `n` columns from `first` on of the equation, by row. Gives whether any is not zero.
 fn collect(
     mem: &[u8],
     equation: &[u8],
@@ -69,20 +62,18 @@ fn collect(
     shape: Shape,
     first: usize,
     n: usize,
-) -> u8
+) -> bool
     requires { Fits shape.width shape.size mem.now × (length equation.now ≡ shape.width)
         × (shape.width ≤ length multipliers.old) × (first < shape.width) × (n ≤ shape.width) }
     ensures { Collected shape.width shape.size first n result mem.now equation.now
         multipliers.old multipliers.new }
 {
-    let w = shape.width;
-    let mut c = first;
-    let mut any: u8 = 0;
-    for _i in 0..n {
+    let mut any = false;
+    for i in 0..n {
+        let c = table::row_after(shape, first, i);
         let k = multiplier(mem, shape, c, equation[c]);
         multipliers[c] = k;
-        any = any | k;
-        c = memory::next(c, w);
+        any |= k != 0;
     }
     any
 }
@@ -102,8 +93,8 @@ fn add_rows(mem: &[u8], work: &mut [u8], multipliers: &[u8], shape: Shape, k: us
     sums::add_combination(&mut work[at..at + n], &multipliers[..w], mem, first, stride);
 }
 
-// Reduces the row `k` of working memory by the state's row of the column `c`. Gives zero only if the row is zero then.
-fn reduce_column(mem: &[u8], work: &mut [u8], shape: Shape, k: usize, c: usize) -> u8
+// Reduces the row `k` of working memory by the state's row of the column `c`. Gives false only if the row is zero then.
+fn reduce_column(mem: &[u8], work: &mut [u8], shape: Shape, k: usize, c: usize) -> bool
     requires { Fits shape.width shape.size mem.now × Works shape.width shape.size k work.old × (c < shape.width) }
     ensures { StateReduced shape.width shape.size k c 1 mem.now work.old work.new
         × ZeroIf shape.width shape.size k result work.new }
@@ -113,10 +104,10 @@ fn reduce_column(mem: &[u8], work: &mut [u8], shape: Shape, k: usize, c: usize) 
     let from = table::row_offset(shape, c);
     let factor = multiplier(mem, shape, c, work[at + c]);
     if factor == 1 {
-        return rows::add_part_or(work, at, mem, from, n);
+        return rows::add_part_or(work, at, mem, from, n) != 0;
     }
     rows::add_part(work, at, mem, from, n, Gf256(factor));
-    1
+    true
 }
 
 // Reduces the row `k` of working memory by the state's rows of `n` of its columns, from `first` on. Since the state is reduced, the multipliers
@@ -129,28 +120,26 @@ fn reduce_columns(mem: &[u8], work: &mut [u8], shape: Shape, k: usize, first: us
     let w = shape.width;
     let at = table::row_offset(shape, k);
     let mut multipliers = [0u8; 255];
-    let any = collect(mem, &work[at..at + w], &mut multipliers, shape, first, n);
-    if any == 0 {
-        return;
+    if collect(mem, &work[at..at + w], &mut multipliers, shape, first, n) {
+        add_rows(mem, work, &multipliers, shape, k);
     }
-    add_rows(mem, work, &multipliers, shape, k);
 }
 
-// The same; no multipliers are laid out for one column, as a source packet of one symbol has. Gives zero only if the row is zero then.
-fn reduce(mem: &[u8], work: &mut [u8], shape: Shape, k: usize, first: usize, n: usize) -> u8
+// The same; no multipliers are laid out for one column, as a source packet of one symbol has. Gives false only if the row is zero then.
+fn reduce(mem: &[u8], work: &mut [u8], shape: Shape, k: usize, first: usize, n: usize) -> bool
     requires { Fits shape.width shape.size mem.now × Works shape.width shape.size k work.old
         × (first < shape.width) × (n ≤ shape.width) }
     ensures { StateReduced shape.width shape.size k first n mem.now work.old work.new
         × ZeroIf shape.width shape.size k result work.new }
 {
     if n == 0 {
-        return 1;
+        return true;
     }
     if n == 1 {
         return reduce_column(mem, work, shape, k, first);
     }
     reduce_columns(mem, work, shape, k, first, n);
-    1
+    true
 }
 
 // Eliminates the pivot of the row `j` of working memory from the row `k`.
@@ -178,34 +167,31 @@ fn reduce_within(work: &mut [u8], shape: Shape, k: usize)
 
 // The first of the rows from `from` on and before `to` that has a coefficient, and the column of its first from the column `first` on. A row
 // whose coefficients or-ed are zero is not searched; the first column is looked at before that.
-fn find_pivot(work: &[u8], shape: Shape, first: usize, from: usize, to: usize) -> Pivot
+fn find_pivot(
+    work: &[u8],
+    shape: Shape,
+    first: usize,
+    from: usize,
+    to: usize,
+) -> Option<(usize, usize)>
     requires { Works shape.width shape.size 0 work.now × (first < shape.width) × (from ≤ to) × (to ≤ shape.width) }
     ensures { Searched shape.width shape.size first from to result work.now }
 {
-    let w = shape.width;
     let mut r = from;
     'rows: loop {
         if r == to {
-            break Pivot::Nothing;
+            break None;
         }
         let at = table::row_offset(shape, r);
-        if work[at + first] == 0 {
-            if table::or_all(work, at, at + w) == 0 {
-                r += 1;
-                continue;
-            }
+        if work[at + first] == 0 && table::or_all(work, at, at + shape.width) == 0 {
+            r += 1;
+            continue;
         }
-        let mut i: usize = 0;
-        let mut c = first;
-        loop {
-            if i == w {
-                break;
+        for i in 0..shape.width {
+            let column = table::row_after(shape, first, i);
+            if work[at + column] != 0 {
+                break 'rows Some((r, column));
             }
-            if work[at + c] != 0 {
-                break 'rows Pivot::At(r, c);
-            }
-            i += 1;
-            c = memory::next(c, w);
         }
         r += 1;
     }
@@ -241,7 +227,7 @@ fn settle(work: &mut [u8], shape: Shape, k: usize, first: usize) -> Verdict
     ensures { Concluded shape.width shape.size first k result work.old work.new }
 {
     let w = shape.width;
-    if let Pivot::At(r, c) = find_pivot(work, shape, first, k, memory::least(k + 1, w)) {
+    if let Some((r, c)) = find_pivot(work, shape, first, k, w.min(k + 1)) {
         normalise(work, shape, r, c);
         return Verdict::Kept;
     }
@@ -270,10 +256,7 @@ fn staying(shape: Shape, first: usize, count: usize, stay: usize) -> usize
     ensures { Staying shape.width shape.oldest first count stay result }
 {
     let d = distance(shape, first);
-    if stay <= d {
-        return 0;
-    }
-    memory::least(count, stay - d)
+    count.min(stay.saturating_sub(d))
 }
 
 // The equation in the row `kept` of working memory, with coefficients in the `count` columns from `first` on, for the window from `shape.oldest`
@@ -294,7 +277,7 @@ pub fn admit(
 {
     let n = staying(shape, first, count, stay);
     let any = reduce(mem, work, shape, kept, first, n);
-    if kept == 0 && any == 0 {
+    if kept == 0 && !any {
         Verdict::Implied
     } else {
         reduce_within(work, shape, kept);

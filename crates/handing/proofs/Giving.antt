@@ -1,10 +1,10 @@
 -- From what the code reads in the memory to what the ADU call promises: one law for each answer.
--- What the window knows: known_is, known-none, known_more, known_all, known-not, known_beyond.
+-- What the window knows: known_is, known_all, known-not, known_beyond.
 -- What has been read: Read, Whole, whole_is, spans.
 -- The answers: no_start, first_unknown, too_many, another_unknown, not-padded, stray, no_room, hands_out.
-use Rattle.std.specs.Prelude.{◌≡◌, ◌≤◌, ◌+◌, ◌<◌, ◌-◌, ◌%◌, ◌≢◌}
-use Rattle.words.specs.Words.{arith, ℕ, List, length, refl, ◌∙◌, sym, ap, some, true, none, get_or, false, Bool, subst, Option}
-use Rattle.words.specs.Words.{drop, ap₂, leb, mod-lt, le-leb, ℕ_discrete, lt-leb, not-suc-le-zero, mod-add-mod}
+use Rattle.std.specs.Prelude.{◌≡◌, ◌≤◌, ◌+◌, ◌<◌, ◌-◌, ◌%◌, ◌≢◌, Result, Ok, Err}
+use Rattle.words.specs.Words.{arith, ℕ, List, length, refl, ◌∙◌, sym, ap, Some, true, None, get_or, false, Bool, subst, Option}
+use Rattle.words.specs.Words.{drop, ap₂, leb, mod-lt, le-leb, lt-leb, mod-add-mod}
 use Rattle.memory.specs.Part.{part, splice}
 use Rattle.memory.specs.Number.{number, Bytes}
 use Rattle.memory.proofs.Parts.{length_part, length-splice, past-splice}
@@ -18,8 +18,6 @@ use Rattle.decoder.specs.Model.{State}
 use Rattle.table.specs.Window.{row_offset, Window, Fits}
 use Rattle.placing.specs.Place.{KnownAt}
 use Rattle.placing.proofs.Showing.{symbol_bytes}
-use Rattle.starts.specs.declared.Handed.{Handed}
-use Rattle.starts.specs.declared.Handed.TheVariants.{Adu, Withheld}
 use Rattle.starts.specs.Adu.{joint, need, Handing, hands, withholds, length_in, flow_in, all_zero, unpack, begin, handing, HandedAs}
 use Rattle.starts.specs.Starts.{Starts, shown, seen}
 use Rattle.marks.specs.Marks.{marked, Marks}
@@ -43,30 +41,20 @@ module _ (w E oldest : ℕ) (m : List ℕ) where
   pub known_is : (i r : ℕ) (t t' : Bool) → r ≡ (oldest + i) % w → t ≡ t' → KnownAt w E r t m → PositionKnown i t'
   known_is i r t t' e q k = subst (λ x. KnownAt w E x t' m) e (subst (λ x. KnownAt w E r x m) q k)
 
-  pub known-none : (d : ℕ) → KnownFrom d 0
-  known-none d j h = absurd (not-suc-le-zero h)
-
-  pub known_more : (d i : ℕ) → KnownFrom d i → PositionKnown (d + i) true → KnownFrom d (i + 1)
-  known_more d i k h j l = go (ℕ_discrete j i)
-    where
-      go : Dec (j ≡ i) → PositionKnown (d + j) true
-      go (yes e) = subst (λ x. PositionKnown (d + x) true) (sym e) h
-      go (no e) = k j (omega arith)
-
 module _ (w E oldest : ℕ) (m : List ℕ) (fits : Fits w E m) (f : Bytes m) where
   module _ (b : ℕ) (S : State (Coded E) w) (e : b % w ≡ oldest) (v : Window w E m b S) where
     row_same : (i : ℕ) → (b + i) % w ≡ (oldest + i) % w
     row_same i = sym (mod-add-mod b w i) ∙ ap (λ x. (x + i) % w) e
 
-    see_known : (i : ℕ) → i < w → PositionKnown w E oldest m i true → seen E w S i ≡ some (symbol_in w E oldest m i)
+    see_known : (i : ℕ) → i < w → PositionKnown w E oldest m i true → seen E w S i ≡ Some (symbol_in w E oldest m i)
     see_known i l k =
         ap (shown E) (k b i S l (row_same i) v)
-        ∙ ap some (symbol_bytes w E ((oldest + i) % w) m fits (mod-lt (oldest + i) fits.some_width) f)
+        ∙ ap Some (symbol_bytes w E ((oldest + i) % w) m fits (mod-lt (oldest + i) fits.some_width) f)
 
-    see_unknown : (i : ℕ) → i < w → PositionKnown w E oldest m i false → seen E w S i ≡ none
+    see_unknown : (i : ℕ) → i < w → PositionKnown w E oldest m i false → seen E w S i ≡ None
     see_unknown i l k = ap (shown E) (k b i S l (row_same i) v)
 
-    see_past : (i : ℕ) → w ≤ i → seen E w S i ≡ none
+    see_past : (i : ℕ) → w ≤ i → seen E w S i ≡ None
     see_past i l = ap (shown E) (known_past S i l)
 
   pub known_all : (d n i : ℕ) → d + n ≤ w → i ≡ n → KnownFrom w E oldest m d i → AllKnown w E oldest d n true m
@@ -114,9 +102,9 @@ pub spans : {w E oldest d at L n : ℕ} {m : List ℕ} → Whole w E oldest d m 
 spans k = record { within = k.all.0; count = k.read.count; short = k.read.short }
 
 -- The number of a refusal, 0 of an ADU.
-abbrev reason : Handed → ℕ
-reason (Adu flow L) = 0
-reason (Withheld x) = number_of x
+abbrev reason : Result (ℕ × ℕ) Refusal → ℕ
+reason (Ok (flow, L)) = 0
+reason (Err x) = number_of x
 
 -- What the call comes to, by what the memory holds.
 abbrev Comes : (w E oldest d : ℕ) (m : List ℕ) (room : ℕ) → Handing → Type 0
@@ -124,15 +112,15 @@ Comes w E oldest d m room h = (b : ℕ) (S : State (Coded E) w) (M : Starts) →
     → handing E w (flows_in m) room M (seen E w S) d ≡ h
 
 refused : (w E oldest d : ℕ) (m out : List ℕ) (x : Refusal) → number_of x ≢ 3 → Comes w E oldest d m (length out) (withholds (number_of x))
-    → HandedOut w E oldest d m out out (Withheld x)
+    → HandedOut w E oldest d m out out (Err x)
 refused w E oldest d m out x n c = record {
   opened = λ y q z. n (ap reason q ∙ z);
   leaves = refl;
-  told = λ b S M e v k. subst (λ h. HandedAs h out out (Withheld x)) (sym (c b S M e v k)) (refl, refl);
+  told = λ b S M e v k. subst (λ h. HandedAs h out out (Err x)) (sym (c b S M e v k)) (refl, refl);
 }
 
 module _ (w E oldest d : ℕ) (m out : List ℕ) where
-  pub no_start : d < w → marked w E oldest m d ≡ false → HandedOut w E oldest d m out out (Withheld NoStart)
+  pub no_start : d < w → marked w E oldest m d ≡ false → HandedOut w E oldest d m out out (Err NoStart)
   unfolding handing need
   no_start h t =
       refused w E oldest d m out NoStart (λ q. absurd (omega (arith, q)))
@@ -146,10 +134,10 @@ module _ (w E oldest d : ℕ) (m out : List ℕ) where
       ∙ ap (begin E w (flows_in m) (length out) (seen E w S) d) x
 
   pub first_unknown : Fits w E m → Bytes m → d < w → marked w E oldest m d ≡ true → PositionKnown w E oldest m d false
-      → HandedOut w E oldest d m out out (Withheld Unknown)
+      → HandedOut w E oldest d m out out (Err Unknown)
   first_unknown fits f h start u =
       refused w E oldest d m out Unknown (λ q. absurd (omega (arith, q)))
-      (λ b S M e v k. begun h start b S M k none (see_unknown w E oldest m fits f b S e v d h u))
+      (λ b S M e v k. begun h start b S M k None (see_unknown w E oldest m fits f b S e v d h u))
 
   module _ (at L n : ℕ) (r : Read w E oldest d m at L n) where
     size_is : length_in (symbol_in w E oldest m d) ≡ L
@@ -159,11 +147,11 @@ module _ (w E oldest d : ℕ) (m out : List ℕ) where
     looked : (b : ℕ) (S : State (Coded E) w) (M : Starts) → b % w ≡ oldest → Window w E m b S → Marks w E oldest m M
         → handing E w (flows_in m) (length out) M (seen E w S) d ≡ need (leb n w) 14 (unpack E w (flows_in m) (length out) (joint (seen E w S) d n))
     looked b S M e v k =
-        begun r.inside r.start b S M k (some (symbol_in w E oldest m d))
+        begun r.inside r.start b S M k (Some (symbol_in w E oldest m d))
         (see_known w E oldest m r.fits r.bytes b S e v d r.inside r.first)
         ∙ ap (λ x. need (leb x w) 14 (unpack E w (flows_in m) (length out) (joint (seen E w S) d x))) (ap (symbol_count E) size_is ∙ sym r.count)
 
-    pub too_many : w < n → HandedOut w E oldest d m out out (Withheld Padding)
+    pub too_many : w < n → HandedOut w E oldest d m out out (Err Padding)
     unfolding need
     too_many h =
         refused w E oldest d m out Padding (λ q. absurd (omega (arith, q)))
@@ -176,10 +164,10 @@ module _ (w E oldest d : ℕ) (m out : List ℕ) where
         looked b S M e v k ∙ ap (λ x. need x 14 (unpack E w (flows_in m) (length out) (joint (seen E w S) d n))) (le-leb n w few)
         ∙ ap (unpack E w (flows_in m) (length out)) q
 
-    pub another_unknown : n ≤ w → (t : Bool) → t ≡ false → AllKnown w E oldest d n t m → HandedOut w E oldest d m out out (Withheld Unknown)
+    pub another_unknown : n ≤ w → (t : Bool) → t ≡ false → AllKnown w E oldest d n t m → HandedOut w E oldest d m out out (Err Unknown)
     another_unknown few t q a =
         refused w E oldest d m out Unknown (λ q. absurd (omega (arith, q)))
-        (λ b S M e v k. unpacked few b S M e v k none (subst (λ x. AllKnown w E oldest d n x m) q a b S e v))
+        (λ b S M e v k. unpacked few b S M e v k None (subst (λ x. AllKnown w E oldest d n x m) q a b S e v))
 
   module _ (at L n : ℕ) (k : Whole w E oldest d m at L n) where
     abbrev x : List ℕ
@@ -203,11 +191,11 @@ module _ (w E oldest d : ℕ) (m out : List ℕ) where
 
     opened : Comes w E oldest d m (length out) (need (all_zero (drop (3 + L) x)) 14 (checked L))
     opened b S M e v c =
-        unpacked at L n k.read k.few b S M e v c (some x) (k.all.1 b S e v)
+        unpacked at L n k.read k.few b S M e v c (Some x) (k.all.1 b S e v)
         ∙ ap (λ l. need (all_zero (drop (3 + l) x)) 14 (checked l))
         (text_size w E oldest m fits d n some-symbols ∙ size_is at L n k.read)
 
-    pub not-padded : all_zero (drop (3 + L) x) ≡ false → HandedOut w E oldest d m out out (Withheld Padding)
+    pub not-padded : all_zero (drop (3 + L) x) ≡ false → HandedOut w E oldest d m out out (Err Padding)
     unfolding need
     not-padded t =
         refused w E oldest d m out Padding (λ q. absurd (omega (arith, q)))
@@ -218,19 +206,19 @@ module _ (w E oldest d : ℕ) (m out : List ℕ) where
     padded t g a b S M e v c =
         opened b S M e v c ∙ ap (λ y. need y 14 (checked L)) t ∙ ap (λ y. need y 16 (given L)) (ap (announced (flows_in m)) flow_is ∙ a)
 
-    pub stray : all_zero (drop (3 + L) x) ≡ true → announced (flows_in m) (get_or m at 0) ≡ false → HandedOut w E oldest d m out out (Withheld Unannounced)
+    pub stray : all_zero (drop (3 + L) x) ≡ true → announced (flows_in m) (get_or m at 0) ≡ false → HandedOut w E oldest d m out out (Err Unannounced)
     unfolding need
     stray t a = refused w E oldest d m out Unannounced (λ q. absurd (omega (arith, q))) (padded t false a)
 
     pub no_room : all_zero (drop (3 + L) x) ≡ true → announced (flows_in m) (get_or m at 0) ≡ true → length out < L
-        → HandedOut w E oldest d m out out (Withheld Short)
+        → HandedOut w E oldest d m out out (Err Short)
     unfolding need
     no_room t a h =
         refused w E oldest d m out Short (λ q. absurd (omega (arith, q)))
         (λ b S M e v c. padded t true a b S M e v c ∙ ap (λ y. need y 2 (hands (flow_in x) (part 3 L x))) (lt-leb L (length out) h))
 
     pub hands_out : all_zero (drop (3 + L) x) ≡ true → announced (flows_in m) (get_or m at 0) ≡ true → L ≤ length out
-        → (out' : List ℕ) → out' ≡ splice 0 (part 3 L x) out → HandedOut w E oldest d m out out' (Adu (get_or m at 0) L)
+        → (out' : List ℕ) → out' ≡ splice 0 (part 3 L x) out → HandedOut w E oldest d m out out' (Ok (get_or m at 0, L))
     unfolding need splice
     hands_out t a h out' q =
         let size : length (part 3 L x) ≡ L =
@@ -244,7 +232,7 @@ module _ (w E oldest d : ℕ) (m out : List ℕ) where
             ap (drop L) q ∙ past-splice L 0 (part 3 L x) out (omega arith) (omega arith),
           );
           told = λ b S M e v c.
-              subst (λ y. HandedAs y out out' (Adu (get_or m at 0) L))
+              subst (λ y. HandedAs y out out' (Ok (get_or m at 0, L)))
               (sym (padded t true a b S M e v c ∙ ap (λ y. need y 2 (hands (flow_in x) (part 3 L x))) (le-leb L (length out) h)))
-              (ap₂ Adu (sym flow_is) (sym size), q);
+              (ap₂ (λ x y. Ok (x, y)) (sym flow_is) (sym size), q);
         }

@@ -1,6 +1,6 @@
 -- The bytes of the symbols from a position on, one after the other: where they lie in the memory, and that they are what the window knows.
 use Rattle.std.specs.Prelude.{◌≡◌, ◌≤◌, ◌+◌, ◌<◌, ◌-◌, ◌%◌, ◌∷◌, ◌*◌, ◌++◌, ◌↔◌, ◌&&◌}
-use Rattle.words.specs.Words.{arith, ℕ, List, length, refl, ◌∙◌, sym, ap, [], some, suc, true, zero, none, get_or, false}
+use Rattle.words.specs.Words.{arith, ℕ, List, length, refl, ◌∙◌, sym, ap, [], Some, suc, true, zero, None, get_or, false}
 use Rattle.words.specs.Words.{Bool, Option, drop, take, ap₂, eqb, mod-lt, ℕ_discrete, add-zero, length-append, ne_eqb, not-suc-le-zero, eq-eqb}
 use Rattle.words.specs.Words.{true≢false, le_of_suc-le-suc, zero-mul, length-drop, eqb-true, suc-mul, take_all, get_or-append}
 use lib.Seq.{drop-append-add}
@@ -17,23 +17,23 @@ use Rattle.handing.specs.HandSteps.{symbol_offset, symbol_in, text}
 
 -- ---- What is known
 
-before-none : (o : Option (List ℕ)) → before o none ≡ none
-before-none none = refl
-before-none (some v) = refl
+before-none : (o : Option (List ℕ)) → before o None ≡ None
+before-none None = refl
+before-none (Some v) = refl
 
 -- One that is not known is enough.
-pub joint-none : (see : View) (i n j : ℕ) → i ≤ j → j < i + n → see j ≡ none → joint see i n ≡ none
+pub joint-none : (see : View) (i n j : ℕ) → i ≤ j → j < i + n → see j ≡ None → joint see i n ≡ None
 unfolding joint
 joint-none see i zero j a b h = absurd (omega arith)
 joint-none see i (suc n) j a b h = go (ℕ_discrete i j) (λ c. joint-none see (suc i) n j c (omega arith) h)
   where
-    go : Dec (i ≡ j) → (suc i ≤ j → joint see (suc i) n ≡ none) → before (see i) (joint see (suc i) n) ≡ none
+    go : Dec (i ≡ j) → (suc i ≤ j → joint see (suc i) n ≡ None) → before (see i) (joint see (suc i) n) ≡ None
     go (yes e) f = ap (λ k. before (see k) (joint see (suc i) n)) e ∙ ap (λ o. before o (joint see (suc i) n)) h
     go (no e) f = ap (before (see i)) (f (omega arith)) ∙ before-none (see i)
 
 module _ (w E oldest : ℕ) (m : List ℕ) where
-  pub joint-text : (see : View) (i n : ℕ) → ((j : ℕ) → i ≤ j → j < i + n → see j ≡ some (symbol_in w E oldest m j))
-      → joint see i n ≡ some (text w E oldest m i n)
+  pub joint-text : (see : View) (i n : ℕ) → ((j : ℕ) → i ≤ j → j < i + n → see j ≡ Some (symbol_in w E oldest m j))
+      → joint see i n ≡ Some (text w E oldest m i n)
   unfolding joint text
   joint-text see i zero h = refl
   joint-text see i (suc n) h = ap₂ before (h i (omega arith) (omega arith)) (joint-text see (suc i) n (λ j a b. h j (omega arith) (omega arith)))

@@ -1,7 +1,7 @@
 -- Contracts of inner functions: a reader need not believe these.
 -- The symbols of the window where they stand in the memory, and the ADUI that the symbols from a position on make up.
 use Rattle.std.specs.Prelude.{◌≡◌, ◌≤◌, ◌+◌, ◌%◌, ◌++◌}
-use Rattle.words.specs.Words.{ℕ, List, [], some, suc, true, zero, none, false, Bool}
+use Rattle.words.specs.Words.{ℕ, List, [], Some, suc, true, zero, None, false, Bool}
 use Rattle.memory.specs.Part.{part}
 use Rattle.wire.specs.Packets.{symbol_count}
 use Rattle.decoder.specs.Bytes.{Coded}
@@ -31,8 +31,8 @@ pub record SymbolOf (w E oldest i at : ℕ) : Type 0 where
 -- Whether all n symbols from the d-th on are known, and then what they make up.
 abbrev pub AllKnown : (w E oldest d n : ℕ) → Bool → List ℕ → Type 0
 AllKnown w E oldest d n true m =
-    (d + n ≤ w) × ((b : ℕ) (S : State (Coded E) w) → b % w ≡ oldest → Window w E m b S → joint (seen E w S) d n ≡ some (text w E oldest m d n))
-AllKnown w E oldest d n false m = (b : ℕ) (S : State (Coded E) w) → b % w ≡ oldest → Window w E m b S → joint (seen E w S) d n ≡ none
+    (d + n ≤ w) × ((b : ℕ) (S : State (Coded E) w) → b % w ≡ oldest → Window w E m b S → joint (seen E w S) d n ≡ Some (text w E oldest m d n))
+AllKnown w E oldest d n false m = (b : ℕ) (S : State (Coded E) w) → b % w ≡ oldest → Window w E m b S → joint (seen E w S) d n ≡ None
 
 -- Sizes of an ADUI of L bytes of ADU in the n symbols from the d-th on.
 pub record Spans (w E d n L : ℕ) : Type 0 where

@@ -9,7 +9,6 @@ ghost use Rattle.starts.specs.Adu.{all_zero};
 ghost use Rattle.handing.specs.Promises.{HandedOut};
 ghost use Rattle.handing.specs.HandSteps.{text, SymbolOf, AllKnown, Spans};
 
-use starts::Handed;
 use table::Shape;
 use wire::Refusal;
 
@@ -27,16 +26,8 @@ fn all_known(mem: &[u8], shape: Shape, d: usize, n: usize) -> bool
     requires { Fits shape.width shape.size mem.now × (shape.oldest < shape.width) × (d < shape.width) }
     ensures { AllKnown shape.width shape.size shape.oldest d n result mem.now }
 {
-    if shape.width - d < n {
-        return false;
-    }
-    for i in 0..n {
-        let r = table::row_of(shape, d + i);
-        if !placing::is_known(mem, shape, r) {
-            return false;
-        }
-    }
-    true
+    n <= shape.width - d
+        && (d..d + n).all(|i| placing::is_known(mem, shape, table::row_of(shape, i)))
 }
 
 // Whether the padding after an ADU of `len` bytes in the `n` symbols from the d-th on is zero. Only the last symbol has any.
@@ -60,45 +51,45 @@ fn copy_adu(mem: &[u8], shape: Shape, d: usize, n: usize, len: usize, out: &mut 
     let mut at: usize = 0;
     let mut skip: usize = 3;
     for i in 0..n {
-        let k = memory::least(shape.size - skip, len - at);
+        let k = (shape.size - skip).min(len - at);
         let from = symbol_of(shape, d + i);
         memory::copy_part(out, at, mem, from + skip, k);
-        at = at + k;
+        at += k;
         skip = 0;
     }
 }
 
 // The ADU call for the d-th position of the window.
-pub fn hand_out(mem: &[u8], shape: Shape, d: usize, out: &mut [u8]) -> Handed
+pub fn hand_out(mem: &[u8], shape: Shape, d: usize, out: &mut [u8]) -> Result<(u8, usize), Refusal>
     requires { Fits shape.width shape.size mem.now × (shape.oldest < shape.width) × (d < shape.width) }
     ensures { HandedOut shape.width shape.size shape.oldest d mem.now out.old out.new result }
 {
     if !marks::is_marked(mem, shape, d) {
-        return Handed::Withheld(Refusal::NoStart);
+        return Err(Refusal::NoStart);
     }
     let r = table::row_of(shape, d);
     if !placing::is_known(mem, shape, r) {
-        return Handed::Withheld(Refusal::Unknown);
+        return Err(Refusal::Unknown);
     }
     let at = symbol_of(shape, d);
     let len = memory::load_u16(mem, at + 1) as usize;
     let n = wire::symbol_count(shape.size, len);
     if shape.width < n {
-        return Handed::Withheld(Refusal::Padding);
+        return Err(Refusal::Padding);
     }
     if !all_known(mem, shape, d, n) {
-        return Handed::Withheld(Refusal::Unknown);
+        return Err(Refusal::Unknown);
     }
     if !is_padded(mem, shape, d, n, len) {
-        return Handed::Withheld(Refusal::Padding);
+        return Err(Refusal::Padding);
     }
     let flow = mem[at];
     if !wire::is_announced(mem, flow) {
-        return Handed::Withheld(Refusal::Unannounced);
+        return Err(Refusal::Unannounced);
     }
     if out.len() < len {
-        return Handed::Withheld(Refusal::Short);
+        return Err(Refusal::Short);
     }
     copy_adu(mem, shape, d, n, len, out);
-    Handed::Adu(flow, len)
+    Ok((flow, len))
 }

@@ -10,7 +10,7 @@
 --   judged: the model answers a call as the history asks, and follows the history after it
 --   fresh_tracks: a fresh receiver follows the empty history
 use Rattle.std.specs.Prelude.{◌≡◌, ◌≤◌, ◌+◌, ◌<◌, ◌-◌, ◌∷◌, ◌↔◌}
-use Rattle.words.specs.Words.{arith, ℕ, List, refl, ◌∙◌, sym, ap, [], some, none, subst, Option, some-injective}
+use Rattle.words.specs.Words.{arith, ℕ, List, refl, ◌∙◌, sym, ap, [], Some, None, subst, Option, some-injective}
 use Rattle.words.specs.Words.{none-ne-some, map, max}
 use mathlib.Core.Logic.Iff
 use Rattle.wire.specs.declared.Setting.{Setting}
@@ -69,8 +69,8 @@ module _ (s : Setting) (some_bytes : 0 < s.size) where
 
   -- The base of a state.
   abbrev pub base_in : State s → Option ℕ
-  base_in none = none
-  base_in (some t) = some t.base
+  base_in None = None
+  base_in (Some t) = Some t.base
 
   -- The model's base is the history's, and its window says what the accepted packets say; before any base, wherever it will be.
   pub record Tracks (l : Log) (t : State s) : Type 0 where
@@ -78,8 +78,8 @@ module _ (s : Setting) (some_bytes : 0 < s.size) where
     pub from : (e : ℕ) → TracksFrom l (found_by s t e)
 
   found_base : (t : State s) (e : ℕ) → base_for (base_in t) e ≡ (found_by s t e).base
-  found_base none e = refl
-  found_base (some t) e = refl
+  found_base None e = refl
+  found_base (Some t) e = refl
 
   pub base_found : (l : Log) (t : State s) (e : ℕ) → Tracks l t → base_for (base_of s l) e ≡ (found_by s t e).base
   base_found l t e k = ap (λ o. base_for o e) k.base_is ∙ found_base t e
@@ -96,7 +96,7 @@ module _ (s : Setting) (some_bytes : 0 < s.size) where
         let h = (history.faithful rules A t k.follows).exactly i in
         ((λ a f g x y. h.0 a f g ((same f).1 x) ((same g).1 y)), (λ a. h.1 (λ f g x y. a f g ((same f).0 x) ((same g).0 y))))
 
-    pub known-value : (i : ℕ) (v : Symbol E) → known t.window i ≡ some v → (f : Filling E) → All E qs f → f (t.base + i) ≡ v
+    pub known-value : (i : ℕ) (v : Symbol E) → known t.window i ≡ Some v → (f : Filling E) → All E qs f → f (t.base + i) ≡ v
     known-value i v h f a = (history.faithful rules A t k.follows).shown i v h f ((same f).1 a)
 
     pub tracks_consistent : Consistent E qs
@@ -105,12 +105,12 @@ module _ (s : Setting) (some_bytes : 0 < s.size) where
         (f, (same f).0 a)
 
   base_after : (b : ℕ) (o : Option (model.State (Coded E) width)) (t' : Joined s)
-      → decoder.and_then o (λ S. some (record { base = b; window = S })) ≡ some t' → t'.base ≡ b
-  base_after b none t' h = absurd (none-ne-some t' h)
-  base_after b (some S) t' h = sym (ap (λ (x : Joined s). x.base) (some-injective _ _ h))
+      → decoder.and_then o (λ S. Some (record { base = b; window = S })) ≡ Some t' → t'.base ≡ b
+  base_after b None t' h = absurd (none-ne-some t' h)
+  base_after b (Some S) t' h = sym (ap (λ (x : Joined s). x.base) (some-injective _ _ h))
 
   -- The model's base rises as the history says.
-  pub rises : (t t' : Joined s) (q : Located) → decoder.receive t (packet_of E q) ≡ some t' → t'.base ≡ max t.base (first q + named q - width)
+  pub rises : (t t' : Joined s) (q : Located) → decoder.receive t (packet_of E q) ≡ Some t' → t'.base ≡ max t.base (first q + named q - width)
   unfolding decoder.receive decoder.rise
   rises t t' q h =
       let d : ℕ = ((packet_of E q).first + (packet_of E q).count) - (t.base + width) in
@@ -139,7 +139,7 @@ module _ (s : Setting) (some_bytes : 0 < s.size) where
       → (o : Option (Joined s)) → decoder.receive t (packet_of E q) ≡ o
       → history.Received rules (map (packet_of E) l) (packet_of E q) o
       → Judged s l (located q) (said_of (added s t o)) × Tracks (logged s l (located q) (said_of (added s t o))) (state_after x (added s t o))
-  received l x t q w g k at none e h =
+  received l x t q w g k at None e h =
       let never : ¬ Consistent E (q ∷ l) = λ (f, a). h f ((all l k.formed f).1 a.1) ((says E some_bytes q w f).1 a.0) in (
         record {
           accepted = ((λ a. absurd a), (λ (q', p, c). never (subst (λ x. Consistent E (x ∷ l)) (sym (packet_path p)) c)));
@@ -149,7 +149,7 @@ module _ (s : Setting) (some_bytes : 0 < s.size) where
         },
         g,
       )
-  received l x t q w g k at (some t') e h =
+  received l x t q w g k at (Some t') e h =
       let k' : TracksFrom (q ∷ l) t' = record { formed = (w, k.formed); follows = h } in
       let filled : Consistent E (q ∷ l) = tracks_consistent (q ∷ l) t' k' in
       let rose = rises t t' q e in
@@ -166,7 +166,7 @@ module _ (s : Setting) (some_bytes : 0 < s.size) where
             (λ n. absurd (n (subst (λ x. Consistent E (x ∷ l)) (packet_path p) filled))),
           );
         },
-        record { base_is = ap some base; from = λ _. k' },
+        record { base_is = ap Some base; from = λ _. k' },
       )
 
   -- What passes the checks before 11, of a packet that finds the base b.

@@ -6,7 +6,7 @@
 --   lent, well_formed, of-announced, few, near: what is left to check once some have passed
 --   checked, reading_checked
 use Rattle.std.specs.Prelude.{◌≡◌, ◌≤◌, ◌+◌, ◌<◌, ◌-◌, ◌*◌, ◌^◌, ◌&&◌}
-use Rattle.words.specs.Words.{arith, ℕ, List, length, refl, ◌∙◌, true, false, Bool, leb, le-leb, lt-ltb, le-ltb}
+use Rattle.words.specs.Words.{arith, ℕ, List, length, refl, ◌∙◌, true, Bool, leb, le-leb, lt-ltb, le-ltb}
 use Rattle.words.specs.Words.{leb-true, eqb-true, eq-eqb, length-take, mul-le-mul_right, suc-mul, dec_lt}
 use native.Mathlib.Nat.{mul-div_cancel}
 use Rattle.wire.specs.declared.Setting.{Setting}

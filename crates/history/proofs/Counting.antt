@@ -1,6 +1,6 @@
 -- Counting from the front, as the model does, and from the end, as the history says it; a count has one value, and so has an answer.
 use Rattle.std.specs.Prelude.{◌≡◌, ◌+◌, ◌↔◌}
-use Rattle.words.specs.Words.{arith, ℕ, refl, ◌∙◌, sym, ap, some, suc, zero, none, subst, Option}
+use Rattle.words.specs.Words.{arith, ℕ, refl, ◌∙◌, sym, ap, Some, suc, zero, None, subst, Option}
 use Rattle.wire.specs.declared.Setting.{Setting}
 use Rattle.decoder.specs.Model.{tail}
 use Rattle.decoder.specs.Receiver.{Accepted, is_new, count_new}
@@ -26,9 +26,9 @@ count_counted {A} (suc m) now before P e =
     (count_counted m (tail now) (tail before) (λ i. P (suc i)) (λ i. e (suc i)))
   where
     go : (a b : Option A) (k : ℕ) → P 0 ↔ (Accepted a × ¬ Accepted b) → Counted (λ i. P (suc i)) m k → Counted P (suc m) (is_new a b + k)
-    go none b k e c = let z : k ≡ 0 + k = omega arith in subst (Counted P (suc m)) z (first_lacks P (λ p. (e.0 p).0) c)
-    go (some x) none k e c = let z : suc k ≡ 1 + k = omega arith in subst (Counted P (suc m)) z (first_has P (e.1 (tt, λ b. b)) c)
-    go (some x) (some y) k e c = let z : k ≡ 0 + k = omega arith in subst (Counted P (suc m)) z (first_lacks P (λ p. (e.0 p).1 tt) c)
+    go None b k e c = let z : k ≡ 0 + k = omega arith in subst (Counted P (suc m)) z (first_lacks P (λ p. (e.0 p).0) c)
+    go (Some x) None k e c = let z : suc k ≡ 1 + k = omega arith in subst (Counted P (suc m)) z (first_has P (e.1 (tt, λ b. b)) c)
+    go (Some x) (Some y) k e c = let z : k ≡ 0 + k = omega arith in subst (Counted P (suc m)) z (first_lacks P (λ p. (e.0 p).1 tt) c)
 
 -- A count has one value.
 pub counted_once : {P : ℕ → Type 0} {n k m : ℕ} → Counted P n k → Counted P n m → k ≡ m

@@ -1,6 +1,6 @@
 -- Every number that a packet call is refused with is that of a refusal, and not 3; a packet that is accepted leaves the window reduced.
 use Rattle.std.specs.Prelude.{◌≡◌, ◌+◌, ◌<◌, ◌≢◌}
-use Rattle.words.specs.Words.{arith, ℕ, List, refl, some, true, none, false, Bool, Option, leb}
+use Rattle.words.specs.Words.{arith, ℕ, List, refl, Some, true, None, false, Bool, Option, leb}
 use Rattle.wire.specs.declared.Setting.{Setting}
 use Rattle.wire.specs.declared.Refusal.{Refusal}
 use Rattle.wire.specs.declared.Refusal.TheVariants.{Short, Long, Form, Range, Behind, Ahead, Draws, Contradiction, Unannounced}
@@ -60,9 +60,9 @@ module _ (s : Setting) (e : 0 < s.size) where
   Sound (done n t) = Rref t.window
 
   inserted_sound : (t : Joined s) (b : ℕ) (S : model.State (Coded E) w) (es : List (model.Row (Coded E) w)) (o : Option (model.State (Coded E) w))
-      → history.AddedAll (laws E e) S es o → Sound (added s t (decoder.and_then o (λ T. some (record { base = b; window = T }))))
-  inserted_sound t b S es none h = named Contradiction (λ e. absurd (omega (arith, e)))
-  inserted_sound t b S es (some T) h = h.0
+      → history.AddedAll (laws E e) S es o → Sound (added s t (decoder.and_then o (λ T. Some (record { base = b; window = T }))))
+  inserted_sound t b S es None h = named Contradiction (λ e. absurd (omega (arith, e)))
+  inserted_sound t b S es (Some T) h = h.0
 
   responds_sound : (t : Joined s) → Rref t.window → (r : Reading) → NamedReading r → Sound (responds s t r)
   unfolding decoder.receive

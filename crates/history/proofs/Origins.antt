@@ -1,6 +1,6 @@
 -- What the model says is heard is what the history says was brought.
 use Rattle.std.specs.Prelude.{◌≡◌, ◌≤◌, ◌+◌, ◌<◌, ◌-◌, ◌∷◌, ◌&&◌, ◌↔◌, ◌⊎◌}
-use Rattle.words.specs.Words.{arith, ℕ, length, refl, ◌∙◌, sym, ap, [], some, true, none, false, Bool, subst, Option, leb, ltb}
+use Rattle.words.specs.Words.{arith, ℕ, length, refl, ◌∙◌, sym, ap, [], Some, true, None, false, Bool, subst, Option, leb, ltb}
 use Rattle.words.specs.Words.{inl, inr, max, leb-true, ltb-true, le-leb, lt-ltb, some-injective}
 use mathlib.Core.Bool.{false≢true}
 use Rattle.starts.proofs.Tests.{or_true, and-true}
@@ -77,8 +77,8 @@ module _ (s : Setting) (some_bytes : 0 < s.size) where
   IsDone (done n y) = Unit {0}
 
   abbrev its_state : Outcome s → Option (Joined s)
-  its_state (refused n) = none
-  its_state (done n y) = some y
+  its_state (refused n) = None
+  its_state (done n y) = Some y
 
   -- None is past the window after a packet that raises the base so: of those before, and of a stretch that ends in it.
   same_inside : (b b' : ℕ) (H : Origins) → b ≤ b' → ((i : ℕ) → width ≤ i → H (b + i) ≡ false) → (i : ℕ) → width ≤ i → H (b' + i) ≡ false
@@ -106,7 +106,7 @@ module _ (s : Setting) (some_bytes : 0 < s.size) where
     where
       go : (o : Option (Joined s)) → decoder.receive j (packet_of E q) ≡ o → added s j o ≡ done n y → (i : ℕ) → width ≤ i
           → hearing q H (y.base + i) ≡ false
-      go none x z = absurd (subst IsDone (sym z) tt)
-      go (some t) x z =
+      go None x z = absurd (subst IsDone (sym z) tt)
+      go (Some t) x z =
           let same : t ≡ y = some-injective t y (ap its_state z) in
           hearing-inside q j.base y.base H (ap (λ (u : Joined s). u.base) (sym same) ∙ rises s some_bytes j t q x) f

@@ -11,7 +11,7 @@
 --   joins_near: neither 8 nor 9 can stop it
 --   reading_passes: what a call's packet has passed after a history
 use Rattle.std.specs.Prelude.{◌≡◌, ◌≤◌, ◌+◌, ◌<◌, ◌-◌, ◌%◌, ◌∷◌, ◌*◌, ◌++◌, ◌^◌, ◌&&◌}
-use Rattle.words.specs.Words.{arith, ℕ, List, length, refl, ◌∙◌, sym, ap, [], some, suc, true, zero, none, false}
+use Rattle.words.specs.Words.{arith, ℕ, List, length, refl, ◌∙◌, sym, ap, [], Some, suc, true, zero, None, false}
 use Rattle.words.specs.Words.{Bool, subst, Option, drop, ltb, leb, mod-lt, length-drop, leb-true, lit<, eqb-true, ltb-true, length-take, suc-mul}
 use Rattle.words.specs.Words.{get_or-drop}
 use lib.ListN.{length-map}
@@ -29,7 +29,7 @@ use Rattle.wire.proofs.Settings.{both, within_bounds}
 use Rattle.wire.proofs.Adui.{length-adui, symbols_count}
 use Rattle.coefficients.specs.Coefficients.{keys, lists_of}
 use Rattle.coefficients.proofs.Lists.{length-keys, list_bytes}
-use Rattle.history.specs.History.{Located, source, repair, first, ahead, side_of, Call, source-call, repair-call, base_for, Log, base_of, read_after, halfway}
+use Rattle.history.specs.History.{Located, source, repair, first, side_of, Call, source-call, repair-call, base_for, Log, base_of, read_after, halfway}
 use Rattle.history.specs.History.{farthest, OfBytes, esi_of, Reading, fails, located, check, from_side, read_source, read_repair, working_size, read_packet}
 use Rattle.history.specs.History.{reading}
 use Rattle.history.proofs.Cases.{IsLocated, packet_path, number_in}
@@ -261,5 +261,5 @@ reading_passes s flows z l room c q b h =
     (reading_fits s flows z (base_for (base_of s l) (esi_of c)) room c q b h, go (base_of s l) h)
   where
     go : (o : Option ℕ) → reading s flows (base_for o (esi_of c)) room c ≡ located q → base_for o (first q) ≡ base_for o (esi_of c)
-    go none k = joins_at s flows room c q b k
-    go (some x) k = refl
+    go None k = joins_at s flows room c q b k
+    go (Some x) k = refl

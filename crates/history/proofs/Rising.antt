@@ -1,6 +1,6 @@
 -- The base after a packet call is where the packet's bytes say.
 use Rattle.std.specs.Prelude.{◌≡◌, ◌+◌, ◌-◌}
-use Rattle.words.specs.Words.{arith, ℕ, List, max, refl, sym, ap, ◌∙◌, some, none, Option}
+use Rattle.words.specs.Words.{arith, ℕ, List, max, refl, sym, ap, ◌∙◌, Some, None, Option}
 use Rattle.wire.specs.declared.Setting.{Setting}
 use Rattle.wire.specs.Settings.{Valid}
 use Rattle.wire.specs.Packets.{symbol_count, source_adu}
@@ -30,20 +30,20 @@ module _ (s : Setting) (v : Valid s) (flows : List ℕ) (l : Log) (room : ℕ) (
   at_base o e = ap (λ o. reading s flows (base_for o (esi_of c)) room c) e
 
   module _ (q : Located) (x : read_after s flows l room c ≡ located q) where
-    accepted : (a : Said) → IsValue a → base_of s (logged s l (read_after s flows l room c) a) ≡ some (raised s (base_of s l) q)
+    accepted : (a : Said) → IsValue a → base_of s (logged s l (read_after s flows l room c) a) ≡ Some (raised s (base_of s l) q)
     accepted (value n) i = ap (λ r. base_of s (logged s l r (value n))) x
     accepted (refusal n) i = absurd i
 
-    joined : base_of s l ≡ none → raised s (base_of s l) q ≡ esi_of c
+    joined : base_of s l ≡ None → raised s (base_of s l) q ≡ esi_of c
     joined e =
-        let h = sym (at_base none e) ∙ x in
+        let h = sym (at_base None e) ∙ x in
         let f = joins_at s flows room c q bytes h in
         let w = (reading_fits s flows (omega (arith, v.size_least)) (esi_of c) room c q bytes h).short in
         ap (λ o. raised s o q) e ∙ omega (arith, f, w)
 
-    rose : (b : ℕ) → base_of s l ≡ some b → raised s (base_of s l) q ≡ max b (ends_at s b c - s.width)
+    rose : (b : ℕ) → base_of s l ≡ Some b → raised s (base_of s l) q ≡ max b (ends_at s b c - s.width)
     rose b e =
-        let (f, n) = lies_at s flows b room c q (sym (at_base (some b) e) ∙ x) in
+        let (f, n) = lies_at s flows b room c q (sym (at_base (Some b) e) ∙ x) in
         ap (λ o. raised s o q) e ∙ omega (arith, f, n)
 
   stays : (r : Reading) (a : Said) (n : ℕ) → a ≡ refusal n → base_of s (logged s l r a) ≡ base_of s l
@@ -52,7 +52,7 @@ module _ (s : Setting) (v : Valid s) (flows : List ℕ) (l : Log) (room : ℕ) (
 
   base_after : (a : Said) → Judged s l (read_after s flows l room c) a → BaseAfter s (base_of s l) c a (base_of s (logged s l (read_after s flows l room c) a))
   base_after a j = record {
-    joins = λ e i. let (q, x, k) = j.accepted.0 i in accepted q x a i ∙ ap some (joined q x e);
+    joins = λ e i. let (q, x, k) = j.accepted.0 i in accepted q x a i ∙ ap Some (joined q x e);
     rises = λ b e i. (
       max b (ends_at s b c - s.width),
       outright b e i,
@@ -62,8 +62,8 @@ module _ (s : Setting) (v : Valid s) (flows : List ℕ) (l : Log) (room : ℕ) (
     refused = stays (read_after s flows l room c) a;
   }
     where
-      outright : (b : ℕ) → base_of s l ≡ some b → IsValue a → base_of s (logged s l (read_after s flows l room c) a) ≡ some (max b (ends_at s b c - s.width))
-      outright b e i = let (q, x, k) = j.accepted.0 i in accepted q x a i ∙ ap some (rose q x b e)
+      outright : (b : ℕ) → base_of s l ≡ Some b → IsValue a → base_of s (logged s l (read_after s flows l room c) a) ≡ Some (max b (ends_at s b c - s.width))
+      outright b e i = let (q, x, k) = j.accepted.0 i in accepted q x a i ∙ ap Some (rose q x b e)
 
 pub base_raised : BaseRaised
 base_raised = base_after

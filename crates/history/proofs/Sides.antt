@@ -1,6 +1,6 @@
 -- Where the ESI of the position base + d lies.
 use Rattle.std.specs.Prelude.{◌≡◌, ◌≤◌, ◌+◌, ◌<◌, ◌%◌, ◌^◌}
-use Rattle.words.specs.Words.{arith, ℕ, List, refl, sym, ap, some, true, false, Bool, subst, cond, ltb, le-leb, lt-leb, lt-ltb}
+use Rattle.words.specs.Words.{arith, ℕ, List, refl, sym, ap, Some, true, false, Bool, subst, cond, ltb, le-leb, lt-leb, lt-ltb}
 use Rattle.words.specs.Words.{le-ltb}
 use Rattle.words.specs.Words.{ltb-true}
 use Rattle.wire.specs.declared.Setting.{Setting}
@@ -78,29 +78,29 @@ ahead_by base e d h = go (ltb x halfway) refl h
 
 -- The symbol call.
 module _ (s : Setting) (t : Joined s) (d : ℕ) (small : d < 2 ^ 32) where
-  pub found_inside : d < halfway → d < s.width → finding s (some t) ((t.base + d) % 2 ^ 32) ≡ shown s (t.base + d) (known t.window d)
+  pub found_inside : d < halfway → d < s.width → finding s (Some t) ((t.base + d) % 2 ^ 32) ≡ shown s (t.base + d) (known t.window d)
   unfolding finding
   found_inside h k = rw (side_ahead t.base d small h, lt-ltb d s.width k)
 
-  pub found-past : d < halfway → s.width ≤ d → finding s (some t) ((t.base + d) % 2 ^ 32) ≡ hides 12
+  pub found-past : d < halfway → s.width ≤ d → finding s (Some t) ((t.base + d) % 2 ^ 32) ≡ hides 12
   unfolding finding
   found-past h k = rw (side_ahead t.base d small h, le-ltb d s.width k)
 
-  pub found_behind : halfway ≤ d → finding s (some t) ((t.base + d) % 2 ^ 32) ≡ hides 8
+  pub found_behind : halfway ≤ d → finding s (Some t) ((t.base + d) % 2 ^ 32) ≡ hides 8
   unfolding finding
   found_behind h = rw (side_behind t.base d small h)
 
 -- The ADU call.
 module _ (s : Setting) (flows : List ℕ) (t : Joined s) (M : Starts) (room d : ℕ) (small : d < 2 ^ 32) where
   pub adu-inside : d < halfway → d < s.width
-      → adu_at s flows (some t) M room ((t.base + d) % 2 ^ 32) ≡ handing s.size s.width flows room M (seen s.size s.width t.window) d
+      → adu_at s flows (Some t) M room ((t.base + d) % 2 ^ 32) ≡ handing s.size s.width flows room M (seen s.size s.width t.window) d
   unfolding adu_at need
   adu-inside h k = rw (side_ahead t.base d small h, lt-ltb d s.width k)
 
-  pub adu-past : d < halfway → s.width ≤ d → adu_at s flows (some t) M room ((t.base + d) % 2 ^ 32) ≡ withholds 12
+  pub adu-past : d < halfway → s.width ≤ d → adu_at s flows (Some t) M room ((t.base + d) % 2 ^ 32) ≡ withholds 12
   unfolding adu_at need
   adu-past h k = rw (side_ahead t.base d small h, le-ltb d s.width k)
 
-  pub adu_behind : halfway ≤ d → adu_at s flows (some t) M room ((t.base + d) % 2 ^ 32) ≡ withholds 8
+  pub adu_behind : halfway ≤ d → adu_at s flows (Some t) M room ((t.base + d) % 2 ^ 32) ≡ withholds 8
   unfolding adu_at
   adu_behind h = rw (side_behind t.base d small h)

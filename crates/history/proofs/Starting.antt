@@ -12,7 +12,7 @@
 --   tracks_sees: a window that says what the packets say sees what is known
 --   marking_tracks: the marks after a call, whose packet begins at e, follow the history after it
 use Rattle.std.specs.Prelude.{◌≡◌, ◌≤◌, ◌+◌, ◌<◌, ◌-◌, ◌∷◌, ◌↔◌, ◌⊎◌}
-use Rattle.words.specs.Words.{arith, ℕ, List, length, refl, ◌∙◌, sym, ap, [], some, suc, true, none, subst, Option}
+use Rattle.words.specs.Words.{arith, ℕ, List, length, refl, ◌∙◌, sym, ap, [], Some, suc, true, None, subst, Option}
 use Rattle.words.specs.Words.{some-injective, none-ne-some, dec_lt, inr, true≢false, inl, add-suc, add_assoc}
 use Rattle.wire.specs.declared.Setting.{Setting}
 use Rattle.memory.specs.Number.{Bytes}
@@ -38,26 +38,26 @@ use Rattle.decoder.specs.Receiver as decoder
 -- What is seen from the base on is what is known there, with the bytes of every filling.
 pub record Sees (E : ℕ) (qs : List Located) (base : ℕ) (see : View) : Type 0 where
   pub filling : Consistent E qs
-  pub shown : (i : ℕ) → Known E qs (base + i) → (f : Filling E) → All E qs f → see i ≡ some (bytes_of E (f (base + i)))
-  pub is_known : (i : ℕ) (v : List ℕ) → see i ≡ some v → Known E qs (base + i)
+  pub shown : (i : ℕ) → Known E qs (base + i) → (f : Filling E) → All E qs f → see i ≡ Some (bytes_of E (f (base + i)))
+  pub is_known : (i : ℕ) (v : List ℕ) → see i ≡ Some v → Known E qs (base + i)
 
 -- Symbols that are shown are those of every filling.
 module _ (E : ℕ) (qs : List Located) (base : ℕ) (see : View) (sees : Sees E qs base see) where
-  pub shown-value : (i : ℕ) (v : List ℕ) → see i ≡ some v → (f : Filling E) → All E qs f → bytes_of E (f (base + i)) ≡ v
+  pub shown-value : (i : ℕ) (v : List ℕ) → see i ≡ Some v → (f : Filling E) → All E qs f → bytes_of E (f (base + i)) ≡ v
   shown-value i v h f a = some-injective _ _ (sym (sees.shown i (sees.is_known i v h) f a) ∙ h)
 
-  pub shown-whole : (i : ℕ) (v : List ℕ) → see i ≡ some v → (length v ≡ E) × Bytes v
+  pub shown-whole : (i : ℕ) (v : List ℕ) → see i ≡ Some v → (length v ≡ E) × Bytes v
   shown-whole i v h =
       let (f, a) = sees.filling in
       let w = subst (Whole E) (shown-value i v h f a) (bytes_whole E (f (base + i))) in
       (w.sized, w.small)
 
-  pub unseen : (i : ℕ) → ¬ Known E qs (base + i) → see i ≡ none
+  pub unseen : (i : ℕ) → ¬ Known E qs (base + i) → see i ≡ None
   unseen i n = go (see i) refl
     where
-      go : (o : Option (List ℕ)) → see i ≡ o → o ≡ none
-      go none e = refl
-      go (some v) e = absurd (n (sees.is_known i v e))
+      go : (o : Option (List ℕ)) → see i ≡ o → o ≡ None
+      go None e = refl
+      go (Some v) e = absurd (n (sees.is_known i v e))
 
   pub shows_held : (i : ℕ) (vs : List (List ℕ)) → Shows see i vs → (f : Filling E) → All E qs f → symbols_at E f (base + i) (length vs) ≡ vs
   shows_held i [] h f a = refl
@@ -72,12 +72,12 @@ module _ (E : ℕ) (qs : List Located) (base : ℕ) (see : View) (sees : Sees E 
       let same : Known E qs (base + i) =
       λ f g a b. sym (symbol_bytes E (f (base + i))) ∙ ap (symbol_of E) (here f a ∙ sym (here g b)) ∙ symbol_bytes E (g (base + i)) in
       let (f, a) = sees.filling in (
-        sees.shown i same f a ∙ ap (λ (x : List ℕ). some x) (here f a),
+        sees.shown i same f a ∙ ap (λ (x : List ℕ). Some x) (here f a),
         held_shows (suc i) vs (λ g b. ap (λ p. symbols_at E g p (length vs)) (add-suc base i) ∙ ap rest (h g b)),
       )
 
   -- All symbols that are shown lie in the window.
-  pub shows_inside : (width : ℕ) → ((i : ℕ) → width ≤ i → see i ≡ none) → (i : ℕ) → i ≤ width → (vs : List (List ℕ)) → Shows see i vs
+  pub shows_inside : (width : ℕ) → ((i : ℕ) → width ≤ i → see i ≡ None) → (i : ℕ) → i ≤ width → (vs : List (List ℕ)) → Shows see i vs
       → i + length vs ≤ width
   shows_inside width outside i l [] h = omega arith
   shows_inside width outside i l (v ∷ vs) h = go (dec_lt i width) (λ k. shows_inside width outside (suc i) k vs h.1)
@@ -87,7 +87,7 @@ module _ (E : ℕ) (qs : List Located) (base : ℕ) (see : View) (sees : Sees E 
       go (no k) f = absurd (none-ne-some v (sym (outside i (omega arith)) ∙ h.0))
 
 -- Nothing is known past the window.
-pub seen-outside : (E width : ℕ) (S : model.State (Coded E) width) (i : ℕ) → width ≤ i → seen E width S i ≡ none
+pub seen-outside : (E width : ℕ) (S : model.State (Coded E) width) (i : ℕ) → width ≤ i → seen E width S i ≡ None
 seen-outside E width S i h = ap (shown E) (known_past S i h)
 
 module _ (s : Setting) where
@@ -174,8 +174,8 @@ module _ (s : Setting) where
     reached (later {p} r l k f a sp) =
         let sr = reached_spanned (q ∷ qs) _ A r in
         let e : b' + (p - b') ≡ p = omega (arith, eb', sr.low) in
-        let h : see (p - b') ≡ some (bytes_of E (f p)) =
-        sees.shown (p - b') (subst (Known E (q ∷ qs)) (sym e) k) f a ∙ ap (λ x. some (bytes_of E (f x))) e in
+        let h : see (p - b') ≡ Some (bytes_of E (f p)) =
+        sees.shown (p - b') (subst (Known E (q ∷ qs)) (sym e) k) f a ∙ ap (λ x. Some (bytes_of E (f x))) e in
         let on : p - b' + needs E (bytes_of E (f p)) ≡ p + needs E (bytes_of E (f p)) - b' = omega (arith, eb', sr.low) in
         subst (Reaches E width see N) on (next (reached r) (omega (arith, eb', sr.low)) h)
 
@@ -208,16 +208,16 @@ module _ (s : Setting) (some_bytes : 0 < s.size) where
   }
     where
       value : (i : ℕ) (o : Option (Symbol E)) → known t.window i ≡ o → decoder.Accepted o → (f : Filling E) → All E qs f
-          → shown E o ≡ some (bytes_of E (f (t.base + i)))
-      value i none e n f a = absurd n
-      value i (some v) e n f a = ap (λ x. some (bytes_of E x)) (sym (known-value s some_bytes qs t k i v e f a))
+          → shown E o ≡ Some (bytes_of E (f (t.base + i)))
+      value i None e n f a = absurd n
+      value i (Some v) e n f a = ap (λ x. Some (bytes_of E x)) (sym (known-value s some_bytes qs t k i v e f a))
 
-      there : (o : Option (Symbol E)) (v : List ℕ) → shown E o ≡ some v → decoder.Accepted o
-      there none v h = absurd (none-ne-some v h)
-      there (some x) v h = tt
+      there : (o : Option (Symbol E)) (v : List ℕ) → shown E o ≡ Some v → decoder.Accepted o
+      there None v h = absurd (none-ne-some v h)
+      there (Some x) v h = tt
 
   -- A packet that passes, and finds the receiver as t, is accepted.
-  accepted : (l : Log) (t t' : Joined s) (q : Located) (M : Starts) → Passes s some_bytes l t.base q → base_of s (q ∷ l) ≡ some t'.base
+  accepted : (l : Log) (t t' : Joined s) (q : Located) (M : Starts) → Passes s some_bytes l t.base q → base_of s (q ∷ l) ≡ Some t'.base
       → TracksFrom s some_bytes (q ∷ l) t' → MarksTrack l M → MarksTrack (q ∷ l) (starts_after s t t' q M)
   unfolding starts_after
   accepted l t t' q M (g, at) rose k' h =

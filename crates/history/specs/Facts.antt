@@ -1,7 +1,7 @@
 -- Computed from the definitions, from the packets' bytes on: the sizes; the order of the checks, and their limits; every DT, and keys over 65,535; and where
 -- calls bring the base, the count, the marks and the origins in cases that are easy to take otherwise.
 use Rattle.std.specs.Prelude.{◌≡◌, ◌+◌, ◌∷◌, ◌*◌, ◌++◌, ◌&&◌}
-use Rattle.words.specs.Words.{[], ℕ, List, refl, some, suc, true, zero, none, false, Bool, Option, cond, map}
+use Rattle.words.specs.Words.{[], ℕ, List, refl, Some, suc, true, zero, None, false, Bool, Option, cond, map}
 use Rattle.history.specs.Computing.{computing}
 use Rattle.wire.specs.declared.Scheme.TheVariants.{Gf2, Gf256}
 use Rattle.wire.specs.declared.Setting.{Setting}
@@ -59,14 +59,14 @@ those t (suc n) = those t n ++ cond (t n) (n ∷ []) []
 
 -- Something is there.
 abbrev is_some : {A : Type 0} → Option A → Bool
-is_some none = false
-is_some (some x) = true
+is_some None = false
+is_some (Some x) = true
 
 module _ (s : Setting) where
   -- What a state and its marks show.
   abbrev standing : (answers : List Said) → State s → Starts → Standing
-  standing l none M = stands l none [] []
-  standing l (some t) M = stands l (some t.base) (those (λ i. is_some (model.known t.window i)) s.width) (those M (s.width + 1))
+  standing l None M = stands l None [] []
+  standing l (Some t) M = stands l (Some t.base) (those (λ i. is_some (model.known t.window i)) s.width) (those M (s.width + 1))
 
   -- The calls of a list from a fresh receiver.
   abbrev after : List Call → Standing
@@ -74,8 +74,8 @@ module _ (s : Setting) where
 
   -- And with the origins in place of the marks.
   abbrev origin : (answers : List Said) → State s → Origins → Origin
-  origin l none H = told l [] []
-  origin l (some t) H =
+  origin l None H = told l [] []
+  origin l (Some t) H =
       let known : ℕ → Bool = λ i. is_some (model.known t.window i) in
       told l (those known s.width) (those (λ i. known i && H (t.base + i)) s.width)
 
@@ -217,24 +217,24 @@ pub calls :
     ∷ after (gf2 2) (adu 0 0 0 0 0 ∷ combines 0 15 1 1 (1 ∷ 0 ∷ 5 ∷ 7 ∷ []) ∷ [])
     ∷ after (gf2 2) (adu 0 0 0 0 0 ∷ combines 0 15 1 1 (1 ∷ 0 ∷ 5 ∷ 7 ∷ []) ∷ combines 1 4 1 2 (zeros 4) ∷ [])
     ∷ []
-    ≡ stands (refusal 4 ∷ refusal 6 ∷ refusal 11 ∷ []) none [] []
-    ∷ stands (refusal 11 ∷ value 1 ∷ []) (some 7) (0 ∷ []) (0 ∷ 1 ∷ [])
-    ∷ stands (refusal 16 ∷ []) none [] [] ∷ stands (refusal 16 ∷ value 1 ∷ []) (some 7) (0 ∷ []) (0 ∷ 1 ∷ [])
-    ∷ stands (value 1 ∷ refusal 16 ∷ refusal 16 ∷ refusal 16 ∷ []) (some 0) (0 ∷ []) (0 ∷ 1 ∷ [])
-    ∷ stands (value 1 ∷ value 1 ∷ []) (some 0) (0 ∷ 1 ∷ []) (0 ∷ 1 ∷ 2 ∷ [])
-    ∷ stands (value 1 ∷ value 1 ∷ []) (some 4294967296) (0 ∷ []) (0 ∷ 1 ∷ [])
-    ∷ stands (value 1 ∷ value 0 ∷ []) (some 1) [] (0 ∷ [])
-    ∷ stands (value 1 ∷ value 1 ∷ value 0 ∷ []) (some 1) (0 ∷ []) (0 ∷ 1 ∷ [])
-    ∷ stands (value 1 ∷ refusal 11 ∷ []) (some 0) (0 ∷ []) (0 ∷ 1 ∷ [])
-    ∷ stands (value 1 ∷ value 0 ∷ []) (some 0) (0 ∷ []) (0 ∷ 1 ∷ [])
-    ∷ stands (value 0 ∷ value 2 ∷ []) (some 0) (0 ∷ 1 ∷ []) (1 ∷ 2 ∷ [])
-    ∷ stands (value 0 ∷ value 2 ∷ []) (some 1) (0 ∷ 1 ∷ []) (0 ∷ 2 ∷ [])
-    ∷ stands (value 1 ∷ []) (some 0) (0 ∷ []) []
-    ∷ stands (value 2 ∷ []) (some 0) (0 ∷ 1 ∷ []) (0 ∷ 2 ∷ [])
-    ∷ stands (value 1 ∷ value 1 ∷ []) (some 0) (0 ∷ 1 ∷ []) (0 ∷ 1 ∷ 2 ∷ [])
-    ∷ stands (value 1 ∷ value 1 ∷ []) (some 0) (0 ∷ 1 ∷ []) (0 ∷ 1 ∷ 3 ∷ [])
-    ∷ stands (value 1 ∷ value 1 ∷ []) (some 0) (0 ∷ 1 ∷ []) (0 ∷ 1 ∷ [])
-    ∷ stands (value 1 ∷ value 1 ∷ value 0 ∷ []) (some 1) (0 ∷ []) (0 ∷ 2 ∷ [])
+    ≡ stands (refusal 4 ∷ refusal 6 ∷ refusal 11 ∷ []) None [] []
+    ∷ stands (refusal 11 ∷ value 1 ∷ []) (Some 7) (0 ∷ []) (0 ∷ 1 ∷ [])
+    ∷ stands (refusal 16 ∷ []) None [] [] ∷ stands (refusal 16 ∷ value 1 ∷ []) (Some 7) (0 ∷ []) (0 ∷ 1 ∷ [])
+    ∷ stands (value 1 ∷ refusal 16 ∷ refusal 16 ∷ refusal 16 ∷ []) (Some 0) (0 ∷ []) (0 ∷ 1 ∷ [])
+    ∷ stands (value 1 ∷ value 1 ∷ []) (Some 0) (0 ∷ 1 ∷ []) (0 ∷ 1 ∷ 2 ∷ [])
+    ∷ stands (value 1 ∷ value 1 ∷ []) (Some 4294967296) (0 ∷ []) (0 ∷ 1 ∷ [])
+    ∷ stands (value 1 ∷ value 0 ∷ []) (Some 1) [] (0 ∷ [])
+    ∷ stands (value 1 ∷ value 1 ∷ value 0 ∷ []) (Some 1) (0 ∷ []) (0 ∷ 1 ∷ [])
+    ∷ stands (value 1 ∷ refusal 11 ∷ []) (Some 0) (0 ∷ []) (0 ∷ 1 ∷ [])
+    ∷ stands (value 1 ∷ value 0 ∷ []) (Some 0) (0 ∷ []) (0 ∷ 1 ∷ [])
+    ∷ stands (value 0 ∷ value 2 ∷ []) (Some 0) (0 ∷ 1 ∷ []) (1 ∷ 2 ∷ [])
+    ∷ stands (value 0 ∷ value 2 ∷ []) (Some 1) (0 ∷ 1 ∷ []) (0 ∷ 2 ∷ [])
+    ∷ stands (value 1 ∷ []) (Some 0) (0 ∷ []) []
+    ∷ stands (value 2 ∷ []) (Some 0) (0 ∷ 1 ∷ []) (0 ∷ 2 ∷ [])
+    ∷ stands (value 1 ∷ value 1 ∷ []) (Some 0) (0 ∷ 1 ∷ []) (0 ∷ 1 ∷ 2 ∷ [])
+    ∷ stands (value 1 ∷ value 1 ∷ []) (Some 0) (0 ∷ 1 ∷ []) (0 ∷ 1 ∷ 3 ∷ [])
+    ∷ stands (value 1 ∷ value 1 ∷ []) (Some 0) (0 ∷ 1 ∷ []) (0 ∷ 1 ∷ [])
+    ∷ stands (value 1 ∷ value 1 ∷ value 0 ∷ []) (Some 1) (0 ∷ []) (0 ∷ 2 ∷ [])
     ∷ []
 unfolding computing
 calls = refl

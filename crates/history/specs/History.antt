@@ -1,7 +1,7 @@
 -- The receiver as a plain history (document 01, "Receiver, as a plain history", and document 02, No. 2 and 7): what a packet says where it lies, which
 -- packets a list of calls has accepted, where that has brought the base, and what the next call has to answer. No memory and no elimination stands here.
 use Rattle.std.specs.Prelude.{◌≡◌, ◌≤◌, ◌+◌, ◌<◌, ◌-◌, ◌%◌, ◌∷◌, ◌^◌, ◌↔◌, ◌&&◌, ◌⊎◌}
-use Rattle.words.specs.Words.{ℕ, List, length, [], some, suc, true, zero, none, false, Bool, Option, cond, ltb}
+use Rattle.words.specs.Words.{ℕ, List, length, [], Some, suc, true, zero, None, false, Bool, Option, cond, ltb}
 use Rattle.words.specs.Words.{leb, map, max}
 use Rattle.memory.specs.Number.{Bytes}
 use Rattle.wire.specs.declared.Setting.{Setting}
@@ -165,13 +165,13 @@ fresh = []
 
 -- The base for a packet that begins at a position: where there is none yet, that position.
 abbrev pub base_for : Option ℕ → (first : ℕ) → ℕ
-base_for none p = p
-base_for (some b) p = b
+base_for None p = p
+base_for (Some b) p = b
 
 -- The position at which the packets joined: the first position of the first of them.
 abbrev pub joined_at : Log → Option ℕ
-joined_at [] = none
-joined_at (q ∷ qs) = some (base_for (joined_at qs) (first q))
+joined_at [] = None
+joined_at (q ∷ qs) = Some (base_for (joined_at qs) (first q))
 
 -- A call answers a number, and no refusal.
 abbrev pub IsValue : Said → Type 0
@@ -193,8 +193,8 @@ module _ (s : Setting) where
 
   -- The base after the packets; a fresh receiver has none.
   abbrev pub base_of : Log → Option ℕ
-  base_of [] = none
-  base_of (q ∷ l) = some (raised (base_of l) q)
+  base_of [] = None
+  base_of (q ∷ l) = Some (raised (base_of l) q)
 
   -- What the checks before 11 make of a call that is lent `room` bytes of working memory, where these flows are announced: where there is no base yet, the
   -- packet's first ESI is taken for it.

@@ -1,7 +1,7 @@
 -- The receiver that computes: the window's equations in reduced row echelon form (crate `decoder`) in place of the whole history.
 -- The promises give answers and states by it. That these are the history's is proved (proofs/Answers): a reader of the claims need not believe it.
 use Rattle.std.specs.Prelude.{◌+◌, ◌-◌, ◌∷◌, ◌&&◌, ◌||◌}
-use Rattle.words.specs.Words.{ℕ, List, length, [], some, none, get_or, false, Bool, Option, cond, ltb, leb}
+use Rattle.words.specs.Words.{ℕ, List, length, [], Some, None, get_or, false, Bool, Option, cond, ltb, leb}
 use Rattle.wire.specs.declared.Setting.{Setting}
 use Rattle.decoder.specs.Bytes.{byte, Coded}
 use Rattle.decoder.specs.Model.{known}
@@ -35,12 +35,12 @@ State s = Option (Joined s)
 
 -- Just opened: no base.
 abbrev pub opened : (s : Setting) → State s
-opened s = none
+opened s = None
 
 -- As a packet that begins at a position finds it: where there is no base yet, that position is taken for it, and there is no equation.
 abbrev pub found_by : (s : Setting) → State s → (first : ℕ) → Joined s
-found_by s none p = decoder.fresh (Coded s.size) s.width p
-found_by s (some t) p = t
+found_by s None p = decoder.fresh (Coded s.size) s.width p
+found_by s (Some t) p = t
 
 -- What a packet call comes to: the number of a refusal; or how many positions have become known, and the receiver after it.
 pub data Outcome (s : Setting) : Type 0 where
@@ -55,7 +55,7 @@ module _ {s : Setting} where
 
   abbrev pub state_after : State s → Outcome s → State s
   state_after t (refused n) = t
-  state_after t (done n t') = some t'
+  state_after t (done n t') = Some t'
 
 -- What the symbol call comes to: a known symbol and its position, or the number of a refusal.
 pub data Finding (E : ℕ) : Type 0 where
@@ -66,8 +66,8 @@ module _ (s : Setting) where
   open s use {size as E, width}
 
   abbrev pub added : Joined s → Option (Joined s) → Outcome s
-  added t none = refused 11
-  added t (some t') = done (decoder.newly t t') t'
+  added t None = refused 11
+  added t (Some t') = done (decoder.newly t t') t'
 
   -- A call of which the checks before 11 have made this.
   abbrev pub responds : Joined s → Reading → Outcome s
@@ -82,8 +82,8 @@ module _ (s : Setting) where
   receiving flows t room c = answering flows (found_by s t (esi_of c)) room c
 
   abbrev pub shown : (position : ℕ) → Option (Symbol E) → Finding E
-  shown p none = hides 12
-  shown p (some v) = shows p v
+  shown p None = hides 12
+  shown p (Some v) = shows p v
 
   -- The symbol at a place: 8 behind the base; 12 past the window, or where it is not known.
   abbrev pub symbol_in : Joined s → Side → Finding E
@@ -92,8 +92,8 @@ module _ (s : Setting) where
 
   -- The symbol call for the ESI e: before any base 12.
   unfoldable pub finding : State s → (e : ℕ) → Finding E
-  finding none e = hides 12
-  finding (some t) e = symbol_in t (side_of t.base e)
+  finding None e = hides 12
+  finding (Some t) e = symbol_in t (side_of t.base e)
 
 -- ---- Starts
 
@@ -122,8 +122,8 @@ module _ (s : Setting) where
 
   -- The ADU call for the ESI e, with `room` bytes of output: before any base 12.
   unfoldable pub adu_at : (flows : List ℕ) → State s → Starts → (room e : ℕ) → Handing
-  adu_at flows none M room e = withholds 12
-  adu_at flows (some t) M room e = adu_in flows t M room (side_of t.base e)
+  adu_at flows None M room e = withholds 12
+  adu_at flows (Some t) M room e = adu_in flows t M room (side_of t.base e)
 
 -- ---- Origins
 

@@ -1,7 +1,7 @@
 -- Where the base is after a packet call, from the packet's bytes alone (document 01, "Receiver, as a plain history"; document 02, No. 2): the first packet
 -- accepted sets it to its own first ESI; after that it rises, by the least needed, until an accepted packet's last position fits, whatever the packet says.
 use Rattle.std.specs.Prelude.{◌≡◌, ◌≤◌, ◌+◌, ◌-◌}
-use Rattle.words.specs.Words.{ℕ, List, some, none, Option, max}
+use Rattle.words.specs.Words.{ℕ, List, Some, None, Option, max}
 use Rattle.wire.specs.declared.Setting.{Setting}
 use Rattle.wire.specs.Settings.{Valid}
 use Rattle.wire.specs.Answers.{Said, refusal}
@@ -20,10 +20,10 @@ ends_at s b c = b + distance b c + named_by s c
 
 -- The base before a call that answers so, and after it.
 pub record BaseAfter (s : Setting) (before : Option ℕ) (c : Call) (a : Said) (after : Option ℕ) : Type 0 where
-  pub joins : before ≡ none → IsValue a → after ≡ some (esi_of c)
-  pub rises : (b : ℕ) → before ≡ some b → IsValue a → (b' : ℕ) × (after ≡ some b') × Rises s.width b (ends_at s b c) b'
+  pub joins : before ≡ None → IsValue a → after ≡ Some (esi_of c)
+  pub rises : (b : ℕ) → before ≡ Some b → IsValue a → (b' : ℕ) × (after ≡ Some b') × Rises s.width b (ends_at s b c) b'
   -- The same outright.
-  pub outright : (b : ℕ) → before ≡ some b → IsValue a → after ≡ some (max b (ends_at s b c - s.width))
+  pub outright : (b : ℕ) → before ≡ Some b → IsValue a → after ≡ Some (max b (ends_at s b c - s.width))
   pub refused : (n : ℕ) → a ≡ refusal n → after ≡ before
 
 -- Of every call that is answered as the history asks.

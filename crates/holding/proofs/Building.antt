@@ -2,7 +2,7 @@
 -- Laws:
 --   a memory for every state: Built, built; the rest lays its rows and header
 use Rattle.std.specs.Prelude.{◌≡◌, ◌≤◌, ◌+◌, ◌<◌, ◌-◌, ◌%◌, ◌∷◌, ◌*◌, ◌++◌, ◌≢◌, ◌^◌, ◌↔◌}
-use Rattle.words.specs.Words.{arith, ℕ, List, length, refl, ◌∙◌, sym, ap, [], some, suc, true, zero, get_or, false, Bool}
+use Rattle.words.specs.Words.{arith, ℕ, List, length, refl, ◌∙◌, sym, ap, [], Some, suc, true, zero, get_or, false, Bool}
 use Rattle.words.specs.Words.{subst, drop, ap₂, ltb, mod-lt, ℕ_discrete, add-zero, length-append, mod-eq_of_lt, mod-add-mod, zero-add}
 use Rattle.words.specs.Words.{true≢false, append_assoc, lit<, add-suc, get_or-append, suc-add, drop-drop, take_at, get_or-drop, cond}
 use native.Mathlib.Nat.{mod-eq-sub-mod}
@@ -343,7 +343,7 @@ module _ (s : Setting) (v : Valid s) (t : Joined s) (past : List ℕ) where
       ∙ ap (λ (l : List (List ℕ)). get_or l r []) (cut k (rows_from 0 w) (rows_sized 0 w))
       ∙ get_d_rows 0 w r h ∙ ap (row_bytes w E t.base wide t.window) (zero-add r)
 
-  setting-is : setting_in 2 memory ≡ some s
+  setting-is : setting_in 2 memory ≡ Some s
   unfolding splice
   setting-is =
       let rest = bytes 2 (t.base % w + 1) ++ (0 ∷ 0 ∷ (bytes 4 (t.base % 2 ^ 32) ++ zeros 80)) in
@@ -361,7 +361,7 @@ module _ (s : Setting) (v : Valid s) (t : Joined s) (past : List ℕ) where
   unfolding part setting_bytes
   base_number = number-bytes 4 (t.base % 2 ^ 32) (mod-lt t.base (lit< tt))
 
-  header_is : w ≤ length past → header_in memory ≡ some (header_from s t)
+  header_is : w ≤ length past → header_in memory ≡ Some (header_from s t)
   header_is h =
       found-joined memory s setting-is (t.base % w) (t.base % 2 ^ 32) (omega (arith, length_memory)) (mod-lt t.base wide) row_number base_number
 
@@ -372,7 +372,7 @@ origin_bytes w b z H = tabulate (λ r. cond (H (b + index w b z r)) 1 0) w
 -- A memory that holds the state and the flows, and says that these positions are heard, with these bytes past its size.
 pub record Built (s : Setting) (flows : List ℕ) (t : Joined s) (H : Origins) (past : List ℕ) : Type 0 where
   pub memory : List ℕ
-  pub holds : HoldsWith memory s flows (some t)
+  pub holds : HoldsWith memory s flows (Some t)
   pub heard : (i : ℕ) → i < s.width → heard_in s.width s.size memory ((t.base + i) % s.width) ≡ H (t.base + i)
   pub same : length memory ≡ memory_size s + length past
   pub rest : drop (memory_size s) memory ≡ past
@@ -419,7 +419,7 @@ built s flows v q t r H past =
     let size : length m ≡ memory_size s + length past = length_memory s v t (x ++ past) ∙ omega (arith, length-append x past, l) in
     record {
       memory = splice 32 flows m;
-      holds = with-flows m s flows q (some t) (record {
+      holds = with-flows m s flows q (Some t) (record {
         header = header_is s v t (x ++ past) (omega (arith, length-append x past, l));
         rows = record {
           reduced = r;

@@ -6,7 +6,7 @@
 --   marks: marking_alike
 --   origins: AgreeFrom, base_after, origins_alike
 use Rattle.std.specs.Prelude.{◌≡◌, ◌≤◌, ◌+◌, ◌<◌, ◌-◌, ◌%◌, ◌^◌, ◌&&◌, ◌||◌}
-use Rattle.words.specs.Words.{arith, ℕ, List, length, refl, ◌∙◌, sym, ap, some, suc, true, zero, none, get_or, false, Bool, subst}
+use Rattle.words.specs.Words.{arith, ℕ, List, length, refl, ◌∙◌, sym, ap, Some, suc, true, zero, None, get_or, false, Bool, subst}
 use Rattle.words.specs.Words.{Option, ap₂, leb, some-injective, map, mod-add-mod, true≢false, ltb, le-leb, lt-leb, lt-ltb, le-ltb, dec_lt}
 use native.Mathlib.Decide.{dec_le}
 use Rattle.wire.specs.declared.Setting.{Setting}
@@ -91,10 +91,10 @@ pub record SameFrom (s : Setting) (t u : Joined s) : Type 0 where
   pub window : t.window ≡ u.window
 
 abbrev pub Same : (s : Setting) → State s → State s → Type 0
-Same s none none = Unit {0}
-Same s none (some u) = ⊥
-Same s (some t) none = ⊥
-Same s (some t) (some u) = SameFrom s t u
+Same s None None = Unit {0}
+Same s None (Some u) = ⊥
+Same s (Some t) None = ⊥
+Same s (Some t) (Some u) = SameFrom s t u
 
 module _ (s : Setting) where
   open s use {size as E, width as w}
@@ -102,9 +102,9 @@ module _ (s : Setting) where
   header_same : (t u : Joined s) → SameFrom s t u → header_from s t ≡ header_from s u
   header_same t u k = ap₂ (λ r e. record { setting = s; joined = true; oldest = r; esi = record { 0 = e } }) k.row k.esi
 
-  pub holds_same : (m : List ℕ) (t u : Joined s) → SameFrom s t u → Holds m s (some t) → Holds m s (some u)
+  pub holds_same : (m : List ℕ) (t u : Joined s) → SameFrom s t u → Holds m s (Some t) → Holds m s (Some u)
   holds_same m t u k h = record {
-    header = h.header ∙ ap some (header_same t u k);
+    header = h.header ∙ ap Some (header_same t u k);
     rows = record {
       reduced = subst Rref k.window h.rows.reduced;
       rows = window_same w E m t.base u.base u.window k.row (subst (window.Window w E m t.base) k.window h.rows.rows);
@@ -113,10 +113,10 @@ module _ (s : Setting) where
 
   -- What one memory holds is the same.
   pub held_same : (m : List ℕ) (t u : State s) → Holds m s t → Holds m s u → Same s t u
-  held_same m none none h k = tt
-  held_same m none (some u) h k = true≢false (sym (ap (λ (x : Header). x.joined) (some-injective _ _ (sym h.header ∙ k.header))))
-  held_same m (some t) none h k = true≢false (ap (λ (x : Header). x.joined) (some-injective _ _ (sym h.header ∙ k.header)))
-  held_same m (some t) (some u) h k =
+  held_same m None None h k = tt
+  held_same m None (Some u) h k = true≢false (sym (ap (λ (x : Header). x.joined) (some-injective _ _ (sym h.header ∙ k.header))))
+  held_same m (Some t) None h k = true≢false (ap (λ (x : Header). x.joined) (some-injective _ _ (sym h.header ∙ k.header)))
+  held_same m (Some t) (Some u) h k =
       let e : header_from s t ≡ header_from s u = some-injective _ _ (sym h.header ∙ k.header) in
       let r = ap (λ (x : Header). x.oldest) e in
       record {
@@ -127,10 +127,10 @@ module _ (s : Setting) where
 
   -- A packet finds states that are the same the same.
   pub found_same : (t u : State s) (p : ℕ) → Same s t u → SameFrom s (found_by s t p) (found_by s u p)
-  found_same none none p k = record { row = refl; esi = refl; window = refl }
-  found_same none (some u) p k = absurd k
-  found_same (some t) none p k = absurd k
-  found_same (some t) (some u) p k = k
+  found_same None None p k = record { row = refl; esi = refl; window = refl }
+  found_same None (Some u) p k = absurd k
+  found_same (Some t) None p k = absurd k
+  found_same (Some t) (Some u) p k = k
 
 -- ---- Calls
 
@@ -189,7 +189,7 @@ module _ (s : Setting) where
   -- What receiving it comes to, by what its place makes of the window.
   receive_at : (b d n : ℕ) (rows : List (Row (Coded E) n)) (S : model.State (Coded E) w)
       → decoder.receive (record { base = b; window = S }) (packet b d n rows)
-      ≡ decoder.and_then (inserted d n rows S) (λ T. some (record { base = b + rise d n; window = T }))
+      ≡ decoder.and_then (inserted d n rows S) (λ T. Some (record { base = b + rise d n; window = T }))
   unfolding decoder.receive decoder.rise
   receive_at b d n rows S =
       let k : (b + d + n) - (b + w) ≡ rise d n = omega arith in
@@ -197,11 +197,11 @@ module _ (s : Setting) where
       ap
       (λ x.
       decoder.and_then (decoder.insert_all (decoder.over (Coded E) w (b + x) (packet b d n rows)) (decoder.advance_by x S))
-      (λ T. some (record { base = b + x; window = T }))) k
+      (λ T. Some (record { base = b + x; window = T }))) k
       ∙ ap
       (λ x.
       decoder.and_then (decoder.insert_all (map (decoder.embed (Coded E) w x n) rows) (decoder.advance_by (rise d n) S))
-      (λ T. some (record { base = b + rise d n; window = T }))) j
+      (λ T. Some (record { base = b + rise d n; window = T }))) j
 
   newly_at : (b k : ℕ) (S T : model.State (Coded E) w)
       → decoder.newly (record { base = b; window = S }) (record { base = b + k; window = T }) ≡ decoder.count_new w (known T) (λ i. known S (k + i))
@@ -209,10 +209,10 @@ module _ (s : Setting) where
   newly_at b k S T = let e : b + k - b ≡ k = omega arith in ap (λ x. decoder.count_new w (known T) (λ i. known S (x + i))) e
 
   added_alike : (b c k : ℕ) (S : model.State (Coded E) w) (o : Option (model.State (Coded E) w)) → b % w ≡ c % w → b % 2 ^ 32 ≡ c % 2 ^ 32
-      → Alike s (added s (record { base = b; window = S }) (decoder.and_then o (λ T. some (record { base = b + k; window = T }))))
-      (added s (record { base = c; window = S }) (decoder.and_then o (λ T. some (record { base = c + k; window = T }))))
-  added_alike b c k S none h g = both_refused 11
-  added_alike b c k S (some T) h g =
+      → Alike s (added s (record { base = b; window = S }) (decoder.and_then o (λ T. Some (record { base = b + k; window = T }))))
+      (added s (record { base = c; window = S }) (decoder.and_then o (λ T. Some (record { base = c + k; window = T }))))
+  added_alike b c k S None h g = both_refused 11
+  added_alike b c k S (Some T) h g =
       rw (newly_at b k S T, newly_at c k S T)
       (both_done _ _ _ (record { row = on w b c k h; esi = on (2 ^ 32) b c k g; window = refl }))
 
@@ -266,19 +266,19 @@ module _ (s : Setting) where
     other = record { base = c; window = S }
 
     source_agree : (d k : ℕ) (vs : List (List ℕ)) (o : Option (model.State (Coded E) w))
-        → Agree w (marking s one M (located (source (b + d) vs)) (added s one (decoder.and_then o (λ T. some (record { base = b + k; window = T })))))
-        (marking s other N (located (source (c + d) vs)) (added s other (decoder.and_then o (λ T. some (record { base = c + k; window = T })))))
+        → Agree w (marking s one M (located (source (b + d) vs)) (added s one (decoder.and_then o (λ T. Some (record { base = b + k; window = T })))))
+        (marking s other N (located (source (c + d) vs)) (added s other (decoder.and_then o (λ T. Some (record { base = c + k; window = T })))))
     unfolding starts_after
-    source_agree d k vs none i l = a i l
-    source_agree d k vs (some T) i l =
+    source_agree d k vs None i l = a i l
+    source_agree d k vs (Some T) i l =
         pass_agree w E (seen E w T) _ _ (naming_agree b c d (length vs) k _ _ (rising_agree b c k M N a)) w (omega arith) i l
 
     repair_agree : (d n k : ℕ) (cs vs : List (List ℕ)) (o : Option (model.State (Coded E) w))
-        → Agree w (marking s one M (located (repair (b + d) n cs vs)) (added s one (decoder.and_then o (λ T. some (record { base = b + k; window = T })))))
-        (marking s other N (located (repair (c + d) n cs vs)) (added s other (decoder.and_then o (λ T. some (record { base = c + k; window = T })))))
+        → Agree w (marking s one M (located (repair (b + d) n cs vs)) (added s one (decoder.and_then o (λ T. Some (record { base = b + k; window = T })))))
+        (marking s other N (located (repair (c + d) n cs vs)) (added s other (decoder.and_then o (λ T. Some (record { base = c + k; window = T })))))
     unfolding starts_after
-    repair_agree d n k cs vs none i l = a i l
-    repair_agree d n k cs vs (some T) i l = pass_agree w E (seen E w T) _ _ (rising_agree b c k M N a) w (omega arith) i l
+    repair_agree d n k cs vs None i l = a i l
+    repair_agree d n k cs vs (Some T) i l = pass_agree w E (seen E w T) _ _ (rising_agree b c k M N a) w (omega arith) i l
 
     source-packet : (d n : ℕ) (vs : List (List ℕ)) (rows : List (Row (Coded E) n))
         → Agree w (marking s one M (located (source (b + d) vs)) (added s one (decoder.receive one (packet s b d n rows))))
@@ -369,17 +369,17 @@ module _ (s : Setting) where
 
     -- A packet that is taken raises both bases by k.
     abbrev taken : Joined s → (k : ℕ) → Option (model.State (Coded E) w) → Outcome s
-    taken t k o = added s t (decoder.and_then o (λ T. some (record { base = t.base + k; window = T })))
+    taken t k o = added s t (decoder.and_then o (λ T. Some (record { base = t.base + k; window = T })))
 
     source_heard : (d k : ℕ) (vs : List (List ℕ)) (o : Option (model.State (Coded E) w))
         → HeardAlike left right H K (located (source (b + d) vs)) (located (source (c + d) vs)) (taken left k o) (taken right k o)
-    source_heard d k vs none = a
-    source_heard d k vs (some T) = bringing_agree b c d (length vs) k H K a
+    source_heard d k vs None = a
+    source_heard d k vs (Some T) = bringing_agree b c d (length vs) k H K a
 
     repair_heard : (d n k : ℕ) (cs vs : List (List ℕ)) (o : Option (model.State (Coded E) w))
         → HeardAlike left right H K (located (repair (b + d) n cs vs)) (located (repair (c + d) n cs vs)) (taken left k o) (taken right k o)
-    repair_heard d n k cs vs none = a
-    repair_heard d n k cs vs (some T) = later_agree b c k H K a
+    repair_heard d n k cs vs None = a
+    repair_heard d n k cs vs (Some T) = later_agree b c k H K a
 
     packet_heard : (d n : ℕ) (r q : Reading) (rows : List (Row (Coded E) n))
         → ((k : ℕ) (o : Option (model.State (Coded E) w)) → HeardAlike left right H K r q (taken left k o) (taken right k o))

@@ -1,6 +1,6 @@
 -- The flows that a memory keeps: what is stored there leaves the state, and what is stored elsewhere leaves them.
 use Rattle.std.specs.Prelude.{◌≡◌, ◌≤◌, ◌+◌, ◌<◌}
-use Rattle.words.specs.Words.{arith, ℕ, List, length, refl, ◌∙◌, sym, ap, some, none, Option, get_or, subst, ext_get_or}
+use Rattle.words.specs.Words.{arith, ℕ, List, length, refl, ◌∙◌, sym, ap, Some, None, Option, get_or, subst, ext_get_or}
 use Rattle.memory.specs.Part.{part, splice}
 use Rattle.memory.proofs.Parts.{length_part, length-splice, take-splice, part-before, part-splice, get_or-part}
 use Rattle.wire.specs.declared.Setting.{Setting}
@@ -43,8 +43,8 @@ module _ (m : List ℕ) (s : Setting) (flows : List ℕ) (q : length flows ≡ 3
       ∙ go (setting_in 2 m)
     where
       go : (o : Option Setting) → header_with (splice 32 flows m) o ≡ header_with m o
-      go none = refl
-      go (some s) =
+      go None = refl
+      go (Some s) =
           rw (
             length-splice 32 flows m (omega (arith, q)),
             part-before 8 2 32 flows m (omega arith) (omega arith),
@@ -53,8 +53,8 @@ module _ (m : List ℕ) (s : Setting) (flows : List ℕ) (q : length flows ≡ 3
 
   -- And the rows.
   kept_rows : (t : State s) → Fits s.width s.size m → Rows m s t → Rows (splice 32 flows m) s t
-  kept_rows none f r = λ b. window-header s.width s.size 32 b flows m _ f (omega (arith, q, header-long)) (r b)
-  kept_rows (some t) f r = record {
+  kept_rows None f r = λ b. window-header s.width s.size 32 b flows m _ f (omega (arith, q, header-long)) (r b)
+  kept_rows (Some t) f r = record {
     reduced = r.reduced;
     rows = window-header s.width s.size 32 t.base flows m t.window f (omega (arith, q, header-long)) r.rows;
   }

@@ -1,12 +1,11 @@
 -- The header of a receiver: what reading it finds, what refusal 3 stands for, and what opening leaves.
 -- Laws:
---   answers told apart: header_is, header-none
 --   reading: area, working_area, numbers, found, found-joined, none_short, none_row, none-setting, Headed, headed, header-room, memory_is, setting_fits,
 --     header_fits
 --   a held state: header_held, setting-of, setting_held, of-header, of-joined
 --   refusal 3: zeros_unopened, other_unopened, short_unopened
 use Rattle.std.specs.Prelude.{◌≡◌, ◌≤◌, ◌+◌, ◌<◌, ◌-◌, ◌%◌, ◌*◌, ◌^◌, ◌&&◌}
-use Rattle.words.specs.Words.{arith, ℕ, List, length, refl, ◌∙◌, sym, ap, some, true, none, false, Bool, subst, Option}
+use Rattle.words.specs.Words.{arith, ℕ, List, length, refl, ◌∙◌, sym, ap, Some, true, None, false, Bool, subst, Option}
 use Rattle.words.specs.Words.{take, cond, ltb, leb, le-leb, some-injective, none-ne-some, lt-leb, lt-ltb, true≢false, leb-true, length-take}
 use Rattle.words.specs.Words.{mul-le-mul}
 use lib.Seq.{take-take}
@@ -19,23 +18,10 @@ use Rattle.wire.specs.Stored.{setting_in}
 use Rattle.wire.proofs.Settings.{both, setting-found, setting_kept, zeros-none, one_kind}
 use Rattle.table.specs.Window.{header_size, stride, row_offset, Fits}
 use Rattle.holding.specs.declared.Header.{Header}
-use Rattle.holding.specs.declared.Found.{Found}
-use Rattle.holding.specs.declared.Found.TheVariants.{HeaderIs, NoHeader}
 use Rattle.history.specs.History.{memory_size}
 use Rattle.history.specs.Model.{Joined, State}
 use Rattle.holding.specs.Header.{row_in, header_with, header_in}
 use Rattle.holding.specs.Layout.{header_of, Stands, Holds}
-use Rattle.holding.specs.Inner.{found_of}
-
--- ---- What an answer that was told apart says
-
-pub header_is : (o : Option Header) (h : Header) {r : Found} → r ≡ found_of o → r ≡ HeaderIs h → o ≡ some h
-header_is none h e f = cc
-header_is (some x) h e f = cc
-
-pub header-none : (o : Option Header) {r : Found} → r ≡ found_of o → r ≡ NoHeader → o ≡ none
-header-none none e f = refl
-header-none (some x) e f = cc
 
 -- ---- Reading
 
@@ -53,44 +39,44 @@ working_area s v =
 abbrev pub numbers : Setting → List ℕ → Header
 numbers s m = record { setting = s; joined = ltb 0 (row_in m); oldest = row_in m - 1; esi = record { 0 = number (part 12 4 m) } }
 
-module _ (m : List ℕ) (s : Setting) (e : setting_in 2 m ≡ some s) where
-  pub found : memory_size s ≤ length m → row_in m ≤ s.width → header_in m ≡ some (numbers s m)
+module _ (m : List ℕ) (s : Setting) (e : setting_in 2 m ≡ Some s) where
+  pub found : memory_size s ≤ length m → row_in m ≤ s.width → header_in m ≡ Some (numbers s m)
   unfolding header_in
   found a b = rw (e, le-leb (memory_size s) (length m) a, le-leb (row_in m) s.width b)
 
   -- With a base, whose row and ESI are these.
   pub found-joined : (r b : ℕ) → memory_size s ≤ length m → r < s.width → row_in m ≡ r + 1 → number (part 12 4 m) ≡ b
-      → header_in m ≡ some (record { setting = s; joined = true; oldest = r; esi = record { 0 = b } })
+      → header_in m ≡ Some (record { setting = s; joined = true; oldest = r; esi = record { 0 = b } })
   found-joined r b a l p q =
       let x : r + 1 - 1 ≡ r = omega arith in
       found a (omega (arith, p)) ∙ rw (p, q, lt-ltb 0 (r + 1) (omega arith), x)
 
-  pub none_short : length m < memory_size s → header_in m ≡ none
+  pub none_short : length m < memory_size s → header_in m ≡ None
   unfolding header_in
   none_short a = rw (e, lt-leb (memory_size s) (length m) a)
 
-  pub none_row : memory_size s ≤ length m → s.width < row_in m → header_in m ≡ none
+  pub none_row : memory_size s ≤ length m → s.width < row_in m → header_in m ≡ None
   unfolding header_in
   none_row a b = rw (e, le-leb (memory_size s) (length m) a, lt-leb (row_in m) s.width b)
 
-pub none-setting : (m : List ℕ) → setting_in 2 m ≡ none → header_in m ≡ none
+pub none-setting : (m : List ℕ) → setting_in 2 m ≡ None → header_in m ≡ None
 unfolding header_in
 none-setting m e = rw e
 
 -- What a header that was found says of the memory.
 pub record Headed (m : List ℕ) (h : Header) : Type 0 where
-  pub setting : setting_in 2 m ≡ some h.setting
+  pub setting : setting_in 2 m ≡ Some h.setting
   pub is : numbers h.setting m ≡ h
   pub valid : Valid h.setting
   pub room : memory_size h.setting ≤ length m
   pub row_lt : h.oldest < h.setting.width
 
-pub headed : (m : List ℕ) (h : Header) → header_in m ≡ some h → Headed m h
+pub headed : (m : List ℕ) (h : Header) → header_in m ≡ Some h → Headed m h
 unfolding header_in
 headed m h e = go (setting_in 2 m) refl e
   where
-    of : (s : Setting) → setting_in 2 m ≡ some s → (t : Bool) → leb (memory_size s) (length m) && leb (row_in m) s.width ≡ t
-        → cond t (some (numbers s m)) none ≡ some h → Headed m h
+    of : (s : Setting) → setting_in 2 m ≡ Some s → (t : Bool) → leb (memory_size s) (length m) && leb (row_in m) s.width ≡ t
+        → cond t (Some (numbers s m)) None ≡ Some h → Headed m h
     of s k false b x = absurd (none-ne-some h x)
     of s k true b x =
         let (p, q) = both (leb (memory_size s) (length m)) _ b in
@@ -98,11 +84,11 @@ headed m h e = go (setting_in 2 m) refl e
         subst (Headed m) (some-injective _ h x)
         (record { setting = k; is = refl; valid = v; room = leb-true _ _ p; row_lt = omega (arith, leb-true (row_in m) s.width q, v.width_least) })
 
-    go : (o : Option Setting) → setting_in 2 m ≡ o → header_with m o ≡ some h → Headed m h
-    go none k x = absurd (none-ne-some h x)
-    go (some s) k x = of s k (leb (memory_size s) (length m) && leb (row_in m) s.width) refl x
+    go : (o : Option Setting) → setting_in 2 m ≡ o → header_with m o ≡ Some h → Headed m h
+    go None k x = absurd (none-ne-some h x)
+    go (Some s) k x = of s k (leb (memory_size s) (length m) && leb (row_in m) s.width) refl x
 
-pub header-room : (m : List ℕ) (h : Header) → header_in m ≡ some h → memory_size h.setting ≤ length m
+pub header-room : (m : List ℕ) (h : Header) → header_in m ≡ Some h → memory_size h.setting ≤ length m
 header-room m h e = (headed m h e).room
 
 -- The rows, and a byte for each.
@@ -120,61 +106,61 @@ setting_fits s m v h = record {
   room = omega (arith, h, memory_is s);
 }
 
-pub header_fits : (m : List ℕ) (h : Header) → header_in m ≡ some h → Fits h.setting.width h.setting.size m
+pub header_fits : (m : List ℕ) (h : Header) → header_in m ≡ Some h → Fits h.setting.width h.setting.size m
 header_fits m h e = let k = headed m h e in setting_fits h.setting m k.valid k.room
 
 -- ---- A state that the memory holds
 
-pub header_held : (m : List ℕ) (h : Header) (s : Setting) (t : State s) → header_in m ≡ some h → Holds m s t → h ≡ header_of s t
+pub header_held : (m : List ℕ) (h : Header) (s : Setting) (t : State s) → header_in m ≡ Some h → Holds m s t → h ≡ header_of s t
 header_held m h s t e k = some-injective h (header_of s t) (sym e ∙ k.header)
 
 pub setting-of : (s : Setting) (t : State s) → (header_of s t).setting ≡ s
-setting-of s none = refl
-setting-of s (some t) = refl
+setting-of s None = refl
+setting-of s (Some t) = refl
 
-pub setting_held : (m : List ℕ) (h : Header) (s : Setting) (t : State s) → header_in m ≡ some h → Holds m s t → h.setting ≡ s
+pub setting_held : (m : List ℕ) (h : Header) (s : Setting) (t : State s) → header_in m ≡ Some h → Holds m s t → h.setting ≡ s
 setting_held m h s t e k = ap (λ (x : Header). x.setting) (header_held m h s t e k) ∙ setting-of s t
 
 -- It has the header's setting; with the header's numbers, or no base yet.
-pub of-header : (m : List ℕ) (h : Header) → header_in m ≡ some h → (P : (s : Setting) → State s → Type 0)
-    → (h.joined ≡ false → P h.setting none)
+pub of-header : (m : List ℕ) (h : Header) → header_in m ≡ Some h → (P : (s : Setting) → State s → Type 0)
+    → (h.joined ≡ false → P h.setting None)
     → ((t : Joined h.setting) → Stands m h.setting t → h.joined ≡ true → h.oldest ≡ t.base % h.setting.width → h.esi.0 ≡ t.base % 2 ^ 32
-    → P h.setting (some t))
+    → P h.setting (Some t))
     → (s : Setting) (t : State s) → Holds m s t → P s t
-of-header m h k P f g s none d =
-    let i = header_held m h s none k d in
-    subst (λ x. P x none) (ap (λ (x : Header). x.setting) i) (f (ap (λ (x : Header). x.joined) i))
-of-header m h k P f g s (some t) d =
-    let i = header_held m h s (some t) k d in
+of-header m h k P f g s None d =
+    let i = header_held m h s None k d in
+    subst (λ x. P x None) (ap (λ (x : Header). x.setting) i) (f (ap (λ (x : Header). x.joined) i))
+of-header m h k P f g s (Some t) d =
+    let i = header_held m h s (Some t) k d in
     subst
     (λ (x : Header).
     (t : Joined x.setting) → Stands m x.setting t → h.joined ≡ true → h.oldest ≡ t.base % x.setting.width → h.esi.0 ≡ t.base % 2 ^ 32
-    → P x.setting (some t))
+    → P x.setting (Some t))
     i g t d.rows (ap (λ (x : Header). x.joined) i) (ap (λ (x : Header). x.oldest) i) (ap (λ (x : Header). x.esi.0) i)
 
 -- With a base it has the header's numbers.
-pub of-joined : (m : List ℕ) (h : Header) → header_in m ≡ some h → h.joined ≡ true → (P : (s : Setting) → State s → Type 0)
-    → ((t : Joined h.setting) → Stands m h.setting t → h.oldest ≡ t.base % h.setting.width → h.esi.0 ≡ t.base % 2 ^ 32 → P h.setting (some t))
+pub of-joined : (m : List ℕ) (h : Header) → header_in m ≡ Some h → h.joined ≡ true → (P : (s : Setting) → State s → Type 0)
+    → ((t : Joined h.setting) → Stands m h.setting t → h.oldest ≡ t.base % h.setting.width → h.esi.0 ≡ t.base % 2 ^ 32 → P h.setting (Some t))
     → (s : Setting) (t : State s) → Holds m s t → P s t
 of-joined m h k j P g = of-header m h k P (λ i. absurd (true≢false (sym j ∙ i))) (λ t d _ a b. g t d a b)
 
 -- ---- What refusal 3 stands for
 
 -- All-zero memory.
-pub zeros_unopened : (n : ℕ) → header_in (zeros n) ≡ none
+pub zeros_unopened : (n : ℕ) → header_in (zeros n) ≡ None
 zeros_unopened n = none-setting (zeros n) (zeros-none 2 n (omega arith))
 
 -- Memory with the header of another kind of end, as a sender's, which is 1.
-pub other_unopened : (kind : ℕ) (m : List ℕ) (s : Setting) → (kind ≡ 2 → ⊥) → setting_in kind m ≡ some s → header_in m ≡ none
+pub other_unopened : (kind : ℕ) (m : List ℕ) (s : Setting) → (kind ≡ 2 → ⊥) → setting_in kind m ≡ Some s → header_in m ≡ None
 other_unopened kind m s h e = none-setting m (one_kind kind 2 m s h e)
 
 -- Memory of a receiver cut shorter than opening asked.
-pub short_unopened : (m : List ℕ) (h : Header) (n : ℕ) → header_in m ≡ some h → n < memory_size h.setting → header_in (take n m) ≡ none
+pub short_unopened : (m : List ℕ) (h : Header) (n : ℕ) → header_in m ≡ Some h → n < memory_size h.setting → header_in (take n m) ≡ None
 short_unopened m h n e l = go (setting_in 2 (take n m)) refl
   where
-    go : (o : Option Setting) → setting_in 2 (take n m) ≡ o → header_in (take n m) ≡ none
-    go none k = none-setting (take n m) k
-    go (some s) k =
+    go : (o : Option Setting) → setting_in 2 (take n m) ≡ o → header_in (take n m) ≡ None
+    go None k = none-setting (take n m) k
+    go (Some s) k =
         let c : length (take n m) ≤ n = simp length-take (omega arith) in
         let long = (setting-found 2 (take n m) s k).long in
         let f : setting_in 2 (take n m) ≡ setting_in 2 m = setting_kept 2 (take n m) m (take-take 8 n m (omega arith)) in

@@ -2,7 +2,7 @@
 -- (crate `origins`).
 -- The claims hold of every layout: a reader of them need not believe this one.
 use Rattle.std.specs.Prelude.{◌≡◌, ◌+◌, ◌%◌, ◌^◌}
-use Rattle.words.specs.Words.{ℕ, List, some, true, none, false}
+use Rattle.words.specs.Words.{ℕ, List, Some, true, None, false}
 use Rattle.wire.specs.declared.Setting.{Setting}
 use Rattle.wire.specs.Flows.{flows_in}
 use Rattle.decoder.specs.Bytes.{Coded}
@@ -22,8 +22,8 @@ abbrev pub header_from : (s : Setting) → Joined s → Header
 header_from s t = record { setting = s; joined = true; oldest = t.base % s.width; esi = record { 0 = t.base % 2 ^ 32 } }
 
 abbrev pub header_of : (s : Setting) → State s → Header
-header_of s none = record { setting = s; joined = false; oldest = 0; esi = record { 0 = 0 } }
-header_of s (some t) = header_from s t
+header_of s None = record { setting = s; joined = false; oldest = 0; esi = record { 0 = 0 } }
+header_of s (Some t) = header_from s t
 
 -- The memory m has the rows of a receiver that has a base; before any base it has none, wherever the base will be.
 pub record Stands (m : List ℕ) (s : Setting) (t : Joined s) : Type 0 where
@@ -31,12 +31,12 @@ pub record Stands (m : List ℕ) (s : Setting) (t : Joined s) : Type 0 where
   pub rows : window.Window s.width s.size m t.base t.window
 
 abbrev pub Rows : (m : List ℕ) (s : Setting) → State s → Type 0
-Rows m s none = (b : ℕ) → window.Window s.width s.size m b (decoder.empty (Coded s.size) s.width)
-Rows m s (some t) = Stands m s t
+Rows m s None = (b : ℕ) → window.Window s.width s.size m b (decoder.empty (Coded s.size) s.width)
+Rows m s (Some t) = Stands m s t
 
 -- The memory m holds the state t of a receiver opened with s.
 pub record Holds (m : List ℕ) (s : Setting) (t : State s) : Type 0 where
-  pub header : header_in m ≡ some (header_of s t)
+  pub header : header_in m ≡ Some (header_of s t)
   pub rows : Rows m s t
 
 -- And keeps the flows that the receiver announces.
@@ -50,13 +50,13 @@ pub record MarksFrom (m : List ℕ) (s : Setting) (t : Joined s) (M : Starts) : 
   pub settled : Settled s.size s.width (seen s.size s.width t.window) (marks.noted_in m) M
 
 abbrev pub Marks : (m : List ℕ) (s : Setting) → State s → Starts → Type 0
-Marks m s none M = (b : ℕ) → marks.Marks s.width s.size b m M
-Marks m s (some t) M = MarksFrom m s t M
+Marks m s None M = (b : ℕ) → marks.Marks s.width s.size b m M
+Marks m s (Some t) M = MarksFrom m s t M
 
 -- It says which positions are heard; before any base, wherever the base will be.
 abbrev pub Hears : (m : List ℕ) (s : Setting) → State s → Origins → Type 0
-Hears m s none H = (b : ℕ) → origins.Hears s.width s.size b m H
-Hears m s (some t) H = origins.Hears s.width s.size t.base m H
+Hears m s None H = (b : ℕ) → origins.Hears s.width s.size b m H
+Hears m s (Some t) H = origins.Hears s.width s.size t.base m H
 
 -- Where the symbol at a position starts: after the coefficients of its row.
 abbrev pub symbol_start : Setting → ℕ → ℕ

@@ -4,11 +4,11 @@ ghost use Rattle.words.specs.Words.{length};
 ghost use Rattle.wire.specs.Settings.{Valid};
 ghost use Rattle.history.specs.History.{memory_size, working_size};
 ghost use Rattle.holding.specs.Header.{header_in};
-ghost use Rattle.holding.specs.Inner.{found_of, fresh_memory};
+ghost use Rattle.holding.specs.Inner.{fresh_memory};
 
-use super::{Found, Header};
+use super::Header;
 use table::Shape;
-use wire::{Checked, Esi, Setting};
+use wire::{Esi, Kind, Setting};
 
 // The rows of a fresh receiver.
 fn rows_of(setting: Setting) -> Shape
@@ -38,23 +38,21 @@ pub fn working_size(setting: Setting) -> usize
 }
 
 // Reads the header, if the memory has a receiver's and is long enough for its setting.
-pub fn read_header(mem: &[u8]) -> Found
-    ensures { result ≡ found_of (header_in mem.now) }
+pub fn read_header(mem: &[u8]) -> Option<Header>
+    ensures { result ≡ header_in mem.now }
 {
-    let Checked::Good(setting) = wire::setting_in(mem, 2) else {
-        return Found::NoHeader;
-    };
+    let setting = wire::setting_in(mem, Kind::Receiver)?;
     if mem.len() < memory_size(setting) {
-        return Found::NoHeader;
+        return None;
     }
     // 0 before any base, else one more than its row
     let stored = memory::load_u16(mem, 8) as usize;
     if setting.width < stored {
-        return Found::NoHeader;
+        return None;
     }
-    let oldest = memory::excess(stored, 1);
+    let oldest = stored.saturating_sub(1);
     let esi = Esi(memory::load_u32(mem, 12));
-    Found::HeaderIs(Header {
+    Some(Header {
         setting,
         joined: 0 < stored,
         oldest,
@@ -67,7 +65,7 @@ pub fn write_fresh(mem: &mut [u8], setting: Setting)
     requires { (memory_size setting ≤ length mem.old) × Valid setting }
     ensures { mem.new ≡ fresh_memory setting mem.old }
 {
-    wire::write_setting(mem, 2, setting);
+    wire::write_setting(mem, Kind::Receiver, setting);
     let rest = memory_size(setting) - 8;
     memory::fill_part(mem, 8, rest, 0);
 }

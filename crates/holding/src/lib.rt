@@ -8,7 +8,7 @@ ghost use Rattle.std.specs.Prelude.{◌≡◌};
 ghost use Rattle.holding.specs.Inner.{shape_of};
 
 use table::Shape;
-use wire::{Esi, Refusal, Setting};
+use wire::{Esi, Setting};
 
 // A receiver's header: its setting, whether it has a base, and the row and the ESI of that.
 #[derive(Clone, Copy)]
@@ -32,30 +32,10 @@ impl Header {
     }
 }
 
-// The header that a memory has, if it has one.
+// Where a known symbol stands, how many bytes it has, and whether it was heard.
 #[derive(Clone, Copy)]
-pub enum Found {
-    HeaderIs(Header),
-    NoHeader,
-}
-
-// On which side of the base an ESI lies: so many positions ahead of it, or behind.
-#[derive(Clone, Copy)]
-pub enum Side {
-    Ahead(usize),
-    Behind,
-}
-
-// Where the position with an ESI stands: so many positions past the base, in a window of this shape; or why nothing is shown of it.
-#[derive(Clone, Copy)]
-pub enum Stand {
-    Inside(Shape, usize),
-    Outside(Refusal),
-}
-
-// Where a known symbol stands, how many bytes it has and whether it was heard, or why none is shown.
-#[derive(Clone, Copy)]
-pub enum Spot {
-    At(usize, usize, bool),
-    Nowhere(Refusal),
+pub struct Spot {
+    pub at: usize,
+    pub size: usize,
+    pub heard: bool,
 }

@@ -1,11 +1,11 @@
 -- The pass through the window and walks in it, in memory.
--- The note: noted_byte, not_noted, noted_only, noted_marks.
+-- The note: noted_byte, noted_only, noted_marks.
 -- A turn: step_unmarked, step_unknown, step_long, step_far, step_again, step_near.
 -- The pass: Passing, passing-none, passing-more, passed, passed_all.
 -- Walks: Walking, walking_none, walking_more, walked, followed_none, followed_more, followed_to, followed_own.
 -- After a packet: owned_some, owned_none, updated.
 use Rattle.std.specs.Prelude.{◌≡◌, ◌≤◌, ◌+◌, ◌<◌, ◌-◌, ◌%◌, ◌≢◌, ◌⊎◌, ◌||◌}
-use Rattle.words.specs.Words.{arith, ℕ, List, length, refl, ◌∙◌, sym, ap, some, suc, true, zero, none, false, Bool, subst}
+use Rattle.words.specs.Words.{arith, ℕ, List, length, refl, ◌∙◌, sym, ap, Some, suc, true, zero, None, false, Bool, subst}
 use Rattle.words.specs.Words.{cond, ltb, mod-lt, ℕ_discrete, some-injective, none-ne-some, dec_lt, add-one, ne_eqb, lt-ltb, mod-add-mod, inr}
 use Rattle.words.specs.Words.{eq-eqb, true≢false, inl, set, length-set, le-ltb, ltb-false}
 use lib.Seq.{get_or-set_same, get_or-set_other}
@@ -30,15 +30,12 @@ use Rattle.starts.proofs.Chaining.{needs-some}
 use Rattle.starts.proofs.Settling.{open_agree, skipped, noted, set_end, reaches_agree, is-pass, settled_agree, nothing_open}
 use Rattle.starts.proofs.Chaining as chaining
 
-onward-none : (E i : ℕ) (t : Bool) (M : Starts) → onward E t none i M ≡ M
+onward-none : (E i : ℕ) (t : Bool) (M : Starts) → onward E t None i M ≡ M
 onward-none E i true M = refl
 onward-none E i false M = refl
 
 pub noted_byte : (v : ℕ) (m : List ℕ) → 11 < length m → Noted v m (set m 11 v)
 noted_byte v m l = record { size = length-set m 11 v; here = get_or-set_same m 11 v 0 l; rest = λ k n. get_or-set_other m 11 k v 0 n }
-
-pub not_noted : (m : List ℕ) → ltb 0 (noted_in m) ≡ false → noted_in m ≡ 0
-not_noted m e = let l = ltb-false 0 (noted_in m) e in omega arith
 
 pub noted_only : {w E v : ℕ} {m m' : List ℕ} → Noted v m m' → OnlyStarts w E m m'
 noted_only f = record { size = f.size; others = λ k n d. f.rest k d }
@@ -63,7 +60,7 @@ module _ (w E oldest i r : ℕ) (m : List ℕ) (l : i < w) (here : r ≡ (oldest
         (λ o. none-ne-some _ (sym (unseen b S e v) ∙ o.sees));
   }
     where
-      unseen : (b : ℕ) (S : State (Coded E) w) → b % w ≡ oldest → Window w E m b S → seen E w S i ≡ none
+      unseen : (b : ℕ) (S : State (Coded E) w) → b % w ≡ oldest → Window w E m b S → seen E w S i ≡ None
       unseen b S e v = ap (shown E) (subst (λ x. KnownAt w E r x m) f k b i S l (row_there b e) v)
 
       same : (b : ℕ) (S : State (Coded E) w) (M : Starts) → b % w ≡ oldest → Window w E m b S → (j : ℕ)
@@ -77,10 +74,10 @@ module _ (w E oldest i r : ℕ) (m : List ℕ) (l : i < w) (here : r ≡ (oldest
     within : r < w
     within = rw here (mod-lt (oldest + i) fits.some_width)
 
-    sees : (b : ℕ) (S : State (Coded E) w) → b % w ≡ oldest → Window w E m b S → seen E w S i ≡ some (part at E m)
+    sees : (b : ℕ) (S : State (Coded E) w) → b % w ≡ oldest → Window w E m b S → seen E w S i ≡ Some (part at E m)
     sees b S e v =
         ap (shown E) (subst (λ x. KnownAt w E r x m) yes-known k b i S l (row_there b e) v)
-        ∙ ap some (symbol_bytes w E r m fits within bytes ∙ ap (λ x. part x E m) (sym offset-of))
+        ∙ ap Some (symbol_bytes w E r m fits within bytes ∙ ap (λ x. part x E m) (sym offset-of))
 
     counts : needs E (part at E m) ≡ n
     counts = ap (λ x. symbol_count E x) (ap number (part-part at E 1 2 m (omega (arith, fits.some_symbol))) ∙ sym loaded) ∙ sym count
@@ -273,7 +270,7 @@ module _ (w E oldest i r : ℕ) (m m' : List ℕ) (g : Stepped w E oldest i r m 
       go (chaining.no_other E (seen E w S) i (marked w E oldest m) (marked w E oldest m i) (seen E w S i) j (sym (after_turn b S e v j q) ∙ h))
     where
       go : (marked w E oldest m j ≡ true)
-          ⊎ ((x : List ℕ) × (marked w E oldest m i ≡ true) × (seen E w S i ≡ some x) × (j ≡ i + needs E x))
+          ⊎ ((x : List ℕ) × (marked w E oldest m i ≡ true) × (seen E w S i ≡ Some x) × (j ≡ i + needs E x))
           → Reaches E w (seen E w S) M j
       go (inl y) = before j q y
       go (inr (x, y, z, at)) = subst (Reaches E w (seen E w S) M) (sym at) (next (before i (omega arith) y) l z)

@@ -1,6 +1,7 @@
 -- Contracts of inner functions that read and change marks: a reader need not believe these.
 use Rattle.std.specs.Prelude.{◌≡◌, ◌≤◌, ◌+◌, ◌<◌, ◌%◌, ◌≢◌, ◌⊎◌}
-use Rattle.words.specs.Words.{ℕ, List, length, some, suc, true, zero, none, get_or, false, Bool, Option}
+use Rattle.std.specs.Int.{from_bool}
+use Rattle.words.specs.Words.{ℕ, List, length, Some, suc, true, zero, None, get_or, false, Bool, Option}
 use Rattle.decoder.specs.Bytes.{Coded}
 use Rattle.decoder.specs.Model.{State, known}
 use Rattle.table.specs.Window.{Window}
@@ -25,6 +26,11 @@ pub record Dropped (w E oldest n : ℕ) (m m' : List ℕ) : Type 0 where
   pub only : OnlyMarks w E m m'
   pub gone : (i : ℕ) → i < n → mark_byte w E oldest m' i ≡ 0
   pub rest : (i : ℕ) → n ≤ i → i ≤ w → mark_byte w E oldest m' i ≡ mark_byte w E oldest m i
+
+-- The position that has its turn next in a walk: the one marked, or else the width, where no position is.
+abbrev pub onto : ℕ → Option ℕ → ℕ
+onto w None = w
+onto w (Some k) = k
 
 -- The turn of the i-th position in the pass has been made: r is the position that it has marked, or the width.
 pub record Stepped (w E oldest i r : ℕ) (m m' : List ℕ) : Type 0 where
@@ -83,17 +89,16 @@ pub record Updated (w E oldest rise first n : ℕ) (others : Bool) (m m' : List 
 
 -- How many of the n positions from `first` on have a value.
 abbrev pub one_if : {A : Type 0} → Option A → ℕ
-one_if none = 0
-one_if (some v) = 1
+one_if None = 0
+one_if (Some v) = 1
 
 unfoldable pub tally : {A : Type 0} → (ℕ → Option A) → (first n : ℕ) → ℕ
 tally f first zero = 0
 tally f first (suc n) = tally f first n + one_if (f (first + n))
 
--- One if the i-th position is known; and how many of n are.
-pub record OneKnown (w E oldest i r : ℕ) (m : List ℕ) : Type 0 where
-  pub most : r ≤ 1
-  pub told : (b : ℕ) (S : State (Coded E) w) → b % w ≡ oldest → Window w E m b S → r ≡ one_if (known S i)
+-- Whether the i-th position is known; and how many of n are.
+abbrev pub OneKnown : (w E oldest i : ℕ) → Bool → List ℕ → Type 0
+OneKnown w E oldest i r m = (b : ℕ) (S : State (Coded E) w) → b % w ≡ oldest → Window w E m b S → from_bool r ≡ one_if (known S i)
 
 pub record Tallied (w E oldest first n r : ℕ) (m : List ℕ) : Type 0 where
   pub most : r ≤ n

@@ -5,7 +5,7 @@ ghost use Rattle.std.specs.Prelude.{◌≡◌, ◌≤◌, ◌+◌, ◌<◌, ◌%
 ghost use Rattle.words.specs.Words.{length};
 ghost use Rattle.table.specs.Window.{header_size, row_offset, Fits};
 ghost use Rattle.marks.specs.Marks.{mark_at, marked};
-ghost use Rattle.marks.specs.MarkSteps.{Written, Dropped, Noted, Stepped, Followed, Owned, Decided, Extended, Updated, OneKnown, Tallied};
+ghost use Rattle.marks.specs.MarkSteps.{Written, Dropped, Noted, Stepped, Followed, Owned, Decided, Extended, Updated, OneKnown, Tallied, onto};
 ghost use Rattle.marks.specs.Promises.{MarkSet, MarksMoved, Passed};
 
 use table::Shape;
@@ -23,20 +23,12 @@ fn mark_at(shape: Shape, i: usize) -> usize
     }
 }
 
-// One if the i-th position is one of the window and known, else zero.
-fn one_known(mem: &[u8], shape: Shape, i: usize) -> usize
+// Whether the i-th position is one of the window and known.
+fn one_known(mem: &[u8], shape: Shape, i: usize) -> bool
     requires { Fits shape.width shape.size mem.now × (shape.oldest < shape.width) }
     ensures { OneKnown shape.width shape.size shape.oldest i result mem.now }
 {
-    if shape.width <= i {
-        return 0;
-    }
-    let r = table::row_of(shape, i);
-    if placing::is_known(mem, shape, r) {
-        1
-    } else {
-        0
-    }
+    i < shape.width && placing::is_known(mem, shape, table::row_of(shape, i))
 }
 
 // How many of the n positions from `first` on are known.
@@ -46,7 +38,7 @@ pub fn known_among(mem: &[u8], shape: Shape, first: usize, n: usize) -> usize
 {
     let mut count: usize = 0;
     for i in 0..n {
-        count += one_known(mem, shape, first + i);
+        count += usize::from(one_known(mem, shape, first + i));
     }
     count
 }
@@ -70,6 +62,7 @@ fn write(mem: &mut [u8], shape: Shape, i: usize, v: u8)
 }
 
 // The first n positions are no longer marked.
+// Kept: `placing::move_on` and `origins::fill` go over positions too, but each writes another byte; a closure for the write is no plainer.
 fn drop_first(mem: &mut [u8], shape: Shape, n: usize)
     requires { Fits shape.width shape.size mem.old × (shape.oldest < shape.width) × (n ≤ shape.width + 1) }
     ensures { Dropped shape.width shape.size shape.oldest n mem.old mem.new }
@@ -115,33 +108,33 @@ fn note(mem: &mut [u8], v: u8)
 }
 
 // The turn of the i-th position in the pass: if it is marked and known, it marks the position where the ADU that it begins ends. Gives that
-// position if it was not marked before, else the width.
-fn step(mem: &mut [u8], shape: Shape, i: usize) -> usize
+// position if it was not marked before.
+fn step(mem: &mut [u8], shape: Shape, i: usize) -> Option<usize>
     requires { Fits shape.width shape.size mem.old × (shape.oldest < shape.width) × (i < shape.width) }
-    ensures { Stepped shape.width shape.size shape.oldest i result mem.old mem.new }
+    ensures { Stepped shape.width shape.size shape.oldest i (onto shape.width result) mem.old mem.new }
 {
     let w = shape.width;
     if !is_marked(mem, shape, i) {
-        return w;
+        return None;
     }
     let r = table::row_of(shape, i);
     if !placing::is_known(mem, shape, r) {
-        return w;
+        return None;
     }
     let at = table::symbol_offset(shape, r);
     let n = wire::symbol_count(shape.size, memory::load_u16(mem, at + 1) as usize);
     if w < n {
-        return w;
+        return None;
     }
     if w - i < n {
         note(mem, 1);
-        return w;
+        return None;
     }
     if is_marked(mem, shape, i + n) {
-        return w;
+        return None;
     }
     set(mem, shape, i + n);
-    i + n
+    Some(i + n)
 }
 
 // The turns of all positions of the window, rising.
@@ -149,8 +142,7 @@ fn step_all(mem: &mut [u8], shape: Shape)
     requires { Fits shape.width shape.size mem.old × (shape.oldest < shape.width) }
     ensures { Passed shape.width shape.size shape.oldest mem.old mem.new }
 {
-    let w = shape.width;
-    for i in 0..w {
+    for i in 0..shape.width {
         step(mem, shape, i);
     }
 }
@@ -169,10 +161,12 @@ fn walk(mem: &mut [u8], shape: Shape, from: usize)
     requires { Fits shape.width shape.size mem.old × (shape.oldest < shape.width) × (from ≤ shape.width) }
     ensures { Followed shape.width shape.size shape.oldest (λ k. k ≡ from) mem.old mem.new }
 {
-    let w = shape.width;
     let mut i = from;
-    while i < w {
-        i = step(mem, shape, i);
+    while i < shape.width {
+        let Some(end) = step(mem, shape, i) else {
+            return;
+        };
+        i = end;
     }
 }
 
@@ -203,13 +197,7 @@ fn must_pass(mem: &[u8], rise: usize, others: bool) -> bool
     requires { header_size ≤ length mem.now }
     ensures { Decided rise others mem.now result }
 {
-    if others {
-        return true;
-    }
-    if rise == 0 {
-        return false;
-    }
-    0 < mem[11]
+    others || rise != 0 && mem[11] != 0
 }
 
 // What the marks reach is marked, after a packet with `named` symbols of its own from the position `first` on.

@@ -6,30 +6,26 @@
 --   handed_alike: by what the ADU call came to; adu_alike: which starts change to 13 alone
 --   shown: all calls that show
 use denote.Ref.{Bor}
-use Rattle.std.specs.Prelude.{◌≡◌, ◌↔◌, ◌⊎◌, ◌<◌}
-use Rattle.words.specs.Words.{ℕ, List, length, refl, ◌∙◌, sym, ap, some, true, none, false, Bool, subst, ap₂, inl, inr, ltb}
+use Rattle.std.specs.Prelude.{◌≡◌, ◌↔◌, ◌⊎◌, ◌<◌, Result, Ok, Err}
+use Rattle.words.specs.Words.{ℕ, List, length, refl, ◌∙◌, sym, ap, Some, true, None, false, Bool, subst, ap₂, inl, inr, ltb}
 use Rattle.words.specs.Words.{some-injective, none-ne-some}
 use Rattle.memory.specs.Part.{part}
 use Rattle.wire.specs.declared.Setting.{Setting}
-use Rattle.wire.specs.declared.Answer.{Answer}
 use Rattle.wire.specs.Answers.{value, refusal, said}
 use Rattle.decoder.specs.Model.{Sat}
 use Rattle.decoder.specs.Receiver.{shift}
 use Rattle.decoder.proofs.Bytes.{laws}
 use Rattle.decoder.proofs.Canonical.{canonical}
-use Rattle.starts.specs.declared.Handed.{Handed}
-use Rattle.starts.specs.declared.Handed.TheVariants.{Adu, Withheld}
 use Rattle.starts.specs.Adu.{Handing, hands, withholds, need, handing, HandedAs}
 use Rattle.starts.specs.Starts.{Starts}
 use Rattle.history.specs.History.{Filling, All, Side, behind, ahead, side_of, Log, base_of}
 use Rattle.history.specs.Model.{Joined, State, found_by, Outcome, refused, done, receiving, Finding, shows, hides, finding, adu_in, adu_at, Origins}
 use Rattle.history.proofs.Cases.{IsRefusal, numeral}
 use Rattle.history.proofs.Answers.{Tracks, TracksFrom, base_in, all}
-use Rattle.receiver.specs.declared.SymbolAnswer.{SymbolAnswer}
-use Rattle.receiver.specs.declared.SymbolAnswer.TheVariants.{Shown, Hidden}
 use Rattle.receiver.specs.Answers.{shown_of, handed_said}
 use Rattle.receiver.specs.Promises.{Layout, Follows, Finds, SymbolShown, Shows, Places, AduAnswered}
 use Rattle.orders.specs.Orders.{HandedAlike, ShownAlike, NextAlike}
+use Rattle.wire.specs.declared.Refusal.{Refusal}
 
 -- ---- One state
 
@@ -57,17 +53,17 @@ module _ (s : Setting) (some_bytes : 0 < s.size) where
     where
       go : (t u : State s) → base_in s some_bytes t ≡ base_in s some_bytes u → TracksFrom s some_bytes l (found_by s t 0)
           → TracksFrom s some_bytes k (found_by s u 0) → t ≡ u
-      go none none z x y = refl
-      go none (some u) z x y = absurd (none-ne-some _ z)
-      go (some t) none z x y = absurd (none-ne-some _ (sym z))
-      go (some t) (some u) z x y = ap some (one-window l k t u x y (some-injective _ _ z) c)
+      go None None z x y = refl
+      go None (Some u) z x y = absurd (none-ne-some _ z)
+      go (Some t) None z x y = absurd (none-ne-some _ (sym z))
+      go (Some t) (Some u) z x y = ap Some (one-window l k t u x y (some-injective _ _ z) c)
 
 -- ---- The symbol call, the part and the place
 
 module _ (L : Layout) (s : Setting) where
   open s use {size as E, width}
 
-  found_alike : (o : Finding E) (a b : Answer) → Finds L o a → Finds L o b → said a ≡ said b
+  found_alike : (o : Finding E) (a b : Result ℕ Refusal) → Finds L o a → Finds L o b → said a ≡ said b
   found_alike (shows p v) a b x y = x ∙ sym y
   found_alike (hides k) a b x y = x ∙ sym y
 
@@ -76,7 +72,7 @@ module _ (L : Layout) (s : Setting) where
   shown_alike (shows p v) memory shown memory' shown' x y = x.0 ∙ sym y.0
   shown_alike (hides k) memory shown memory' shown' x y = x ∙ sym y
 
-  placed_alike : (o : Finding E) (m n : List ℕ) (a b : Answer) → Places L s o m a → Places L s o n b
+  placed_alike : (o : Finding E) (m n : List ℕ) (a b : Result ℕ Refusal) → Places L s o m a → Places L s o n b
       → (said a ≡ said b) × ((at : ℕ) → said a ≡ value at → part at E m ≡ part at E n)
   placed_alike (shows p v) m n a b x y = (
     x.0 ∙ sym y.0,
@@ -84,7 +80,7 @@ module _ (L : Layout) (s : Setting) where
   )
   placed_alike (hides k) m n a b x y = (x ∙ sym y, λ at e. absurd (subst IsRefusal (sym x ∙ e) tt))
 
-  followed_alike : (flows : List ℕ) (o : Outcome s) (m m' n n' : List ℕ) (a b : Answer) → Follows L s flows o m m' a → Follows L s flows o n n' b
+  followed_alike : (flows : List ℕ) (o : Outcome s) (m m' n n' : List ℕ) (a b : Result ℕ Refusal) → Follows L s flows o m m' a → Follows L s flows o n n' b
       → said a ≡ said b
   followed_alike flows (refused k) m m' n n' a b x y = x.0 ∙ sym y.0
   followed_alike flows (done k u) m m' n n' a b x y = x.0 ∙ sym y.0
@@ -98,32 +94,32 @@ module _ (L : Layout) (s : Setting) where
 
     -- What is heard in the one is heard in the other, where that has all that this has heard.
     module _ (H K : Origins) (hears : L.Hears m s t H) (hears' : L.Hears n s t K) (too : (p : ℕ) → H p ≡ true → K p ≡ true) (e : ℕ) where
-      pub heard_too : (a b : SymbolAnswer) → SymbolShown L m e a → SymbolShown L n e b → a ≡ Shown true → b ≡ Shown true
+      pub heard_too : (a b : Result Bool Refusal) → SymbolShown L m e a → SymbolShown L n e b → a ≡ Ok true → b ≡ Ok true
       heard_too a b x y z =
           go (finding s t e) refl b y (subst (Finds L (finding s t e)) (ap shown_of z) (x.answered.finds s flows t held))
           (y.answered.finds s flows t held')
         where
-          go : (o : Finding E) → finding s t e ≡ o → (b : SymbolAnswer) → SymbolShown L n e b → Finds L o (shown_of (Shown true)) → Finds L o (shown_of b)
-              → b ≡ Shown true
+          go : (o : Finding E) → finding s t e ≡ o → (b : Result Bool Refusal) → SymbolShown L n e b → Finds L o (shown_of (Ok true)) → Finds L o (shown_of b)
+              → b ≡ Ok true
           go (hides k) i b y f g = absurd (subst IsRefusal (sym f) tt)
-          go (shows p v) i (Hidden r) y f g = absurd (subst IsRefusal g tt)
-          go (shows p v) i (Shown h) y f g =
+          go (shows p v) i (Err r) y f g = absurd (subst IsRefusal g tt)
+          go (shows p v) i (Ok h) y f g =
               let one = x.origin s flows t H held hears p v true i z in
               let other = y.origin s flows t K held' hears' p v h i refl in
-              ap Shown (other ∙ too p (sym one))
+              ap Ok (other ∙ too p (sym one))
 
 -- ---- The ADU call
 
-handed_alike : (h : Handing) (out out' out'' : List ℕ) (a b : Handed) → HandedAs h out out' a → HandedAs h out out'' b
+handed_alike : (h : Handing) (out out' out'' : List ℕ) (a b : Result (ℕ × ℕ) Refusal) → HandedAs h out out' a → HandedAs h out out'' b
     → (handed_said a ≡ handed_said b) × (out' ≡ out'')
 handed_alike (hands flow adu) out out' out'' a b x y = (ap handed_said (x.0 ∙ sym y.0), x.1 ∙ sym y.1)
-handed_alike (withholds k) out out' out'' (Adu f l) b x y = absurd x
-handed_alike (withholds k) out out' out'' (Withheld r) (Adu f l) x y = absurd y
-handed_alike (withholds k) out out' out'' (Withheld r) (Withheld q) x y = (ap refusal (x.0 ∙ sym y.0), x.1 ∙ sym y.1)
+handed_alike (withholds k) out out' out'' (Ok (f, l)) b x y = absurd x
+handed_alike (withholds k) out out' out'' (Err r) (Ok (f, l)) x y = absurd y
+handed_alike (withholds k) out out' out'' (Err r) (Err q) x y = (ap refusal (x.0 ∙ sym y.0), x.1 ∙ sym y.1)
 
-withheld_as : (k : ℕ) (out out' : List ℕ) (a : Handed) → HandedAs (withholds k) out out' a → handed_said a ≡ refusal k
-withheld_as k out out' (Adu f l) x = absurd x
-withheld_as k out out' (Withheld r) x = ap refusal x.0
+withheld_as : (k : ℕ) (out out' : List ℕ) (a : Result (ℕ × ℕ) Refusal) → HandedAs (withholds k) out out' a → handed_said a ≡ refusal k
+withheld_as k out out' (Ok (f, l)) x = absurd x
+withheld_as k out out' (Err r) x = ap refusal x.0
 
 -- The same, or 13 without a start.
 abbrev Alike : Handing → Handing → Type 0
@@ -151,12 +147,12 @@ module _ (s : Setting) (flows : List ℕ) where
   -- Whatever is marked, the ADU call comes to the same but for 13.
   adu_alike : (t : State s) (M N : Starts) (room e : ℕ) → Alike (adu_at s flows t M room e) (adu_at s flows t N room e)
   unfolding adu_at
-  adu_alike none M N room e = inl refl
-  adu_alike (some t) M N room e = side_alike t M N room (side_of t.base e)
+  adu_alike None M N room e = inl refl
+  adu_alike (Some t) M N room e = side_alike t M N room (side_of t.base e)
 
   module _ (L : Layout) (m n : List ℕ) (t : State s) (M N : Starts) (held : L.Holds m s flows t) (held' : L.Holds n s flows t)
       (marks : L.Marks m s t M) (marks' : L.Marks n s t N) (e : ℕ) where
-    adus : (out out' out'' : List ℕ) (a b : Handed) → AduAnswered L m e out out' a → AduAnswered L n e out out'' b → HandedAlike a b out' out''
+    adus : (out out' out'' : List ℕ) (a b : Result (ℕ × ℕ) Refusal) → AduAnswered L m e out out' a → AduAnswered L n e out out'' b → HandedAlike a b out' out''
     adus out out' out'' a b x y =
         go _ _ (adu_alike t M N (length out) e) (x.hands s flows t M held marks) (y.hands s flows t N held' marks')
       where

@@ -6,7 +6,7 @@
 --   same_base: so it is the same for the same packets
 --   ahead_on: each packet that a list of calls has accepted lay ahead
 use Rattle.std.specs.Prelude.{◌≡◌, ◌≤◌, ◌+◌, ◌<◌, ◌-◌, ◌∷◌, ◌⊎◌}
-use Rattle.words.specs.Words.{arith, ℕ, List, length, refl, sym, ap, [], some, none, subst, inl, inr, ⊎_elim, dec_lt}
+use Rattle.words.specs.Words.{arith, ℕ, List, length, refl, sym, ap, [], Some, None, subst, inl, inr, ⊎_elim, dec_lt}
 use mathlib.Core.List.Memᴰ
 use mathlib.Core.List.{Memᴰ}
 use Rattle.wire.specs.declared.Setting.{Setting}
@@ -55,7 +55,7 @@ module _ (s : Setting) where
   one : (q : Located) (x : Located) → Memᴰ x (q ∷ []) → x ≡ q
   one q x k = ⊎_elim (λ e. e) (λ n. absurd (Memᴰ.not-nil n)) (Memᴰ.cases_cons k)
 
-  based_first : (q : Located) → Dec (first q < first q + named q - width) → Based (q ∷ []) (raised s none q)
+  based_first : (q : Located) → Dec (first q < first q + named q - width) → Based (q ∷ []) (raised s None q)
   based_first q d = record {
     fits = λ x k. let e : first x + named x ≡ first q + named q = ap (λ y. first y + named y) (one q x k) in omega (arith, e);
     joined = q;
@@ -66,11 +66,11 @@ module _ (s : Setting) where
   }
     where
       go : Dec (first q < first q + named q - width)
-          → (raised s none q ≡ first q) ⊎ ((x : Located) × Memᴰ x (q ∷ []) × (first x + named x ≡ raised s none q + width))
+          → (raised s None q ≡ first q) ⊎ ((x : Located) × Memᴰ x (q ∷ []) × (first x + named x ≡ raised s None q + width))
       go (yes h) = inr (q, Memᴰ.head refl, omega arith)
       go (no h) = inl (omega arith)
 
-  based_more : (q : Located) (l : Log) (b : ℕ) → b ≤ first q → Based l b → Dec (b < first q + named q - width) → Based (q ∷ l) (raised s (some b) q)
+  based_more : (q : Located) (l : Log) (b : ℕ) → b ≤ first q → Based l b → Dec (b < first q + named q - width) → Based (q ∷ l) (raised s (Some b) q)
   based_more q l b a k d = record {
     fits = λ x m.
         ⊎_elim (λ e. let z : first x + named x ≡ first q + named q = ap (λ y. first y + named y) e in omega (arith, z))
@@ -84,7 +84,7 @@ module _ (s : Setting) where
   }
     where
       go : Dec (b < first q + named q - width) → (b ≡ first k.joined) ⊎ ((x : Located) × Memᴰ x l × (first x + named x ≡ b + width))
-          → (raised s (some b) q ≡ first k.joined) ⊎ ((x : Located) × Memᴰ x (q ∷ l) × (first x + named x ≡ raised s (some b) q + width))
+          → (raised s (Some b) q ≡ first k.joined) ⊎ ((x : Located) × Memᴰ x (q ∷ l) × (first x + named x ≡ raised s (Some b) q + width))
       go (yes h) t = inr (q, Memᴰ.head refl, omega arith)
       go (no h) (inl e) = inl (omega (arith, e))
       go (no h) (inr (x, m, e)) = inr (x, Memᴰ.tail m, omega (arith, e))
@@ -110,7 +110,7 @@ module _ (s : Setting) where
       let up = below (q ∷ l) (r ∷ k) _ _ there back x y in
       let down = below (r ∷ k) (q ∷ l) _ _ back there y x in
       let e : raised s (base_of s l) q ≡ raised s (base_of s k) r = omega (arith, up, down) in
-      ap some e
+      ap Some e
 
 -- ---- The calls of a list
 

@@ -1,7 +1,7 @@
 -- Computed from the definitions, from the packets' bytes on: the same packets in two orders, in scheme 9 with E 4 and width 2. What is shown is the same;
 -- counts and starts need not be. And what is not the same packets.
 use Rattle.std.specs.Prelude.{◌≡◌, ◌∷◌}
-use Rattle.words.specs.Words.{ℕ, List, refl, [], some, none, Option, map, cond}
+use Rattle.words.specs.Words.{ℕ, List, refl, [], Some, None, Option, map, cond}
 use Rattle.wire.specs.Answers.{Said, value, refusal}
 use Rattle.wire.specs.Flows.{all_flows}
 use Rattle.starts.specs.Adu.{Handing, hands, withholds}
@@ -31,8 +31,8 @@ sight H (shows p v) = cond (H p) (heard (bytes_of 4 v)) (solved (bytes_of 4 v))
 sight H (hides n) = hidden n
 
 abbrev base_in : State (gf2 2) → Option ℕ
-base_in none = none
-base_in (some t) = some t.base
+base_in None = None
+base_in (Some t) = Some t.base
 
 -- The calls of a list from a fresh receiver, and what is shown at these ESIs after them.
 abbrev comes : List Call → List ℕ → Outcome
@@ -47,7 +47,7 @@ comes cs es =
 
 -- As it is written below.
 abbrev to : List Said → ℕ → List Sight → List Handing → Outcome
-to answers b sights adus = record { answers = answers; base = some b; sights = sights; adus = adus }
+to answers b sights adus = record { answers = answers; base = Some b; sights = sights; adus = adus }
 
 -- ---- The same packets
 

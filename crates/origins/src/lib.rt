@@ -19,6 +19,7 @@ pub fn is_heard(mem: &[u8], shape: Shape, r: usize) -> bool
 }
 
 // The bytes of the n positions from the `first` of the window on become `v`.
+// Kept: `placing::move_on` and `marks::drop_first` go over positions too, but each writes another byte; a closure for the write is no plainer.
 fn fill(mem: &mut [u8], shape: Shape, first: usize, n: usize, v: u8)
     requires { Fits shape.width shape.size mem.old × (row_offset shape.width shape.size shape.width + shape.width ≤ length mem.old)
         × (shape.oldest < shape.width) × (first + n ≤ shape.width) }

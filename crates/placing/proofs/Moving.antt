@@ -1,8 +1,8 @@
 -- To unmark the rows of the positions that leave moves the window on.
--- One row unmarked: other, moved_to. Row after row: Leaving, leaving_none, leaving_more. A rise past the width: position, window_free, moved-past.
+-- One row unmarked: other. Row after row: moved_none, moved_more, moved_all. A rise past the width: position, window_free.
 use Rattle.std.specs.Prelude.{◌≡◌, ◌≤◌, ◌+◌, ◌<◌, ◌-◌, ◌%◌, ◌≢◌}
-use Rattle.words.specs.Words.{arith, ℕ, List, refl, ◌∙◌, sym, ap, suc, true, zero, get_or, false, Bool, subst, mod-lt}
-use Rattle.words.specs.Words.{ℕ_discrete, add-zero, add-one, mod-eq_of_lt, mod-add-mod, true≢false, add_assoc, add-mod_right}
+use Rattle.words.specs.Words.{arith, ℕ, List, refl, ◌∙◌, sym, ap, suc, true, zero, get_or, false, Bool, subst, mod-lt, min, dec_lt}
+use Rattle.words.specs.Words.{ℕ_discrete, add-zero, add-one, mod-eq_of_lt, mod-add-mod, true≢false, add-mod_right}
 use native.Mathlib.Nat.{add-mod-mod}
 use Rattle.decoder.specs.Field.{Ops}
 use Rattle.decoder.specs.Bytes.{byte, Coded}
@@ -59,17 +59,17 @@ module _ (w E : ℕ) (m : List ℕ) (fits : Fits w E m) where
             (flagged_unused w E r (row w E r (flagged w E r 0 m)) (flagged-flag w E r 0 m fits l));
       }
 
-pub moved_to : {w E oldest i k : ℕ} {m m' : List ℕ} → i ≡ k → RowsMoved w E oldest i m m' → RowsMoved w E oldest k m m'
+moved_to : {w E oldest i k : ℕ} {m m' : List ℕ} → i ≡ k → RowsMoved w E oldest i m m' → RowsMoved w E oldest k m m'
 moved_to {w} {E} {oldest} {i} {k} {m} {m'} e f = subst (λ x. RowsMoved w E oldest x m m') e f
 
 -- No turn yet, one more, and as many as there are rows.
-moved_none : (w E oldest : ℕ) (m : List ℕ) → RowsMoved w E oldest 0 m m
+pub moved_none : (w E oldest : ℕ) (m : List ℕ) → RowsMoved w E oldest 0 m m
 unfolding advance_by
 moved_none w E oldest m = record { kept = kept_refl; moves = λ b S e h. rw add-zero h }
 
-moved_more : (w E oldest i : ℕ) (m m' : List ℕ) → Fits w E m' → RowsMoved w E oldest i m m'
+turned : (w E oldest i : ℕ) (m m' : List ℕ) → Fits w E m' → RowsMoved w E oldest i m m'
     → RowsMoved w E oldest (i + 1) m (flagged w E ((oldest + i) % w) 0 m')
-moved_more w E oldest i m m' fits f =
+turned w E oldest i m m' fits f =
     let pos = fits.some_width in record {
       kept = kept_trans f.kept (flagged_kept w E ((oldest + i) % w) 0 m' fits (mod-lt (oldest + i) pos));
       moves = λ b S e h.
@@ -82,28 +82,10 @@ moved_more w E oldest i m m' fits f =
           (subst (λ S'. Window w E (flagged w E ((b + i) % w) 0 m') (suc (b + i)) S') done turn));
     }
 
--- So far: the window has moved on by `i`, and `row` is that of its oldest position.
-pub record Leaving (w E oldest i row : ℕ) (m m' : List ℕ) : Type 0 where
-  pub within : row < w
-  pub here : row ≡ (oldest + i) % w
-  pub moved : RowsMoved w E oldest i m m'
-
-pub leaving_none : (w E oldest : ℕ) (m : List ℕ) → oldest < w → Leaving w E oldest 0 oldest m m
-leaving_none w E oldest m h = record {
-  within = h;
-  here = sym (ap (λ k. k % w) (add-zero oldest) ∙ mod-eq_of_lt h);
-  moved = moved_none w E oldest m;
-}
-
-pub leaving_more : (w E oldest i row next : ℕ) (m m₁ m₂ : List ℕ) → Fits w E m → Leaving w E oldest i row m m₁
-    → m₂ ≡ flagged w E row 0 m₁ → (next ≡ (row + 1) % w) × (next < w) → Leaving w E oldest (i + 1) next m m₂
-leaving_more w E oldest i row next m m₁ m₂ fits f e n = record {
-  within = n.1;
-  here = n.0 ∙ ap (λ k. (k + 1) % w) f.here ∙ mod-add-mod (oldest + i) w 1 ∙ ap (λ k. k % w) (add_assoc oldest i 1);
-  moved =
-      subst (λ x. RowsMoved w E oldest (i + 1) m x) (ap (λ k. flagged w E k 0 m₁) (sym f.here) ∙ sym e)
-      (moved_more w E oldest i m m₁ (fits_kept fits f.moved.kept) f.moved);
-}
+pub moved_more : (w E oldest i r : ℕ) (m m₁ m₂ : List ℕ) → Fits w E m → RowsMoved w E oldest i m m₁ → r ≡ (oldest + i) % w → m₂ ≡ flagged w E r 0 m₁
+    → RowsMoved w E oldest (i + 1) m m₂
+moved_more w E oldest i r m m₁ m₂ fits f here e =
+    subst (λ x. RowsMoved w E oldest (i + 1) m x) (ap (λ k. flagged w E k 0 m₁) (sym here) ∙ sym e) (turned w E oldest i m m₁ (fits_kept fits f.kept) f)
 
 -- Each row has its position in the window.
 pub position : (w b r : ℕ) → r < w → (p : ℕ) × (b ≤ p) × (p < b + w) × (p % w ≡ r)
@@ -168,7 +150,7 @@ window_anywhere w E b c m pos h =
     let (q, g, k, e) = position w b r l in
     unused_flag w E (row w E r m) (ap (λ x. in_use w E (row w E x m)) (sym e) ∙ empty_view (table w E m) w b q h.reads g k))
 
-pub moved-past : (w E oldest rise : ℕ) (m m' : List ℕ) → 0 < w → w ≤ rise → RowsMoved w E oldest w m m' → RowsMoved w E oldest rise m m'
+moved-past : (w E oldest rise : ℕ) (m m' : List ℕ) → 0 < w → w ≤ rise → RowsMoved w E oldest w m m' → RowsMoved w E oldest rise m m'
 moved-past w E oldest rise m m' pos g f = record {
   kept = f.kept;
   moves = λ b S e h.
@@ -176,3 +158,10 @@ moved-past w E oldest rise m m' pos g f = record {
       (window_anywhere w E (b + w) (b + rise) m' pos
       (subst (λ S'. Window w E m' (b + w) S') (advance_by_empty w S (omega arith)) (f.moves b S e h)));
 }
+
+pub moved_all : (w E oldest i rise : ℕ) (m m' : List ℕ) → 0 < w → i ≡ min rise w → RowsMoved w E oldest i m m' → RowsMoved w E oldest rise m m'
+moved_all w E oldest i rise m m' pos e f = go (dec_lt rise w)
+  where
+    go : Dec (rise < w) → RowsMoved w E oldest rise m m'
+    go (yes h) = moved_to (omega arith) f
+    go (no h) = moved-past w E oldest rise m m' pos (omega arith) (moved_to (omega arith) f)

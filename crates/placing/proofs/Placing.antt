@@ -1,10 +1,10 @@
 -- To clear the new row's column in the rows in use, and to store it, is the model's `place`.
--- The row stored: stored_copy. The search for the next row: Passed, passed_none, passed_more, passed_here, passed_all.
--- One row cleared: cleared_zero, cleared_unused, cleared_row. Row after row: Cleared, cleared_none, cleared_more, cleared_skip.
+-- The row stored: stored_copy. One row cleared: cleared_zero, cleared_unused, cleared_row. Row after row: Cleared, cleared_none, cleared_more.
 -- The whole call: settled. What it is in the model: places.
-use Rattle.std.specs.Prelude.{◌≡◌, ◌≤◌, ◌+◌, ◌<◌, ◌-◌, ◌%◌, ◌≢◌}
-use Rattle.words.specs.Words.{arith, ℕ, List, length, refl, ◌∙◌, sym, ap, suc, true, zero, get_or, false, subst, ap₂, mod-lt}
+use Rattle.std.specs.Prelude.{◌≡◌, ◌≤◌, ◌+◌, ◌<◌, ◌%◌, ◌≢◌}
+use Rattle.words.specs.Words.{arith, ℕ, List, length, refl, ◌∙◌, sym, ap, true, get_or, false, Bool, subst, ap₂, mod-lt}
 use Rattle.words.specs.Words.{ℕ_discrete, add-zero, bit_xor, zero-add, true≢false, get_or-append}
+use Rattle.std.specs.Int.{from_bool}
 use Rattle.field.specs.Gf256.{product}
 use Rattle.memory.specs.Part.{part, splice}
 use Rattle.memory.specs.Number.{Bytes}
@@ -19,7 +19,7 @@ use Rattle.decoder.proofs.Stretch.{line-add, line_same}
 use Rattle.decoder.proofs.Refine.{add_line-zero}
 use Rattle.table.specs.Window.{stride, row_offset, row, flag, in_use, line, table, Flagged, Flags, Fits, Kept}
 use Rattle.table.specs.RowSteps.{one_if_known, known-flag, flagged}
-use Rattle.placing.specs.PlaceSteps.{known_flags, RowMarked, Changed, ClearedRow, FirstWith, Stored, RowPlaced}
+use Rattle.placing.specs.PlaceSteps.{known_flags, RowMarked, Changed, ClearedRow, Stored, RowPlaced}
 use Rattle.table.proofs.Rows.{row_store, row_other, kept_store, kept_refl, kept_trans, fits_kept}
 use Rattle.table.proofs.Flags.{flag_at, unused, used, unused_flag, not_known, flags_changed, count_changed, flagged-flag, flagged_cell, flagged-line}
 use Rattle.table.proofs.Flags.{flagged_rest, flagged_kept}
@@ -45,9 +45,25 @@ module _ (w E r : ℕ) (x m : List ℕ) (room : row_offset w E w ≤ length m) (
   front_kept : Kept w E m fronted
   front_kept = subst (λ a. Kept w E m (splice a x m)) (add-zero (row_offset w E r)) (kept_store w E r 0 x m room h (omega arith))
 
+-- What a test adds to a count, and to the flag of a row in use.
+pub at_most_one : (t : Bool) → from_bool t ≤ 1
+at_most_one true = omega arith
+at_most_one false = omega arith
+
+is_one : (t : Bool) → from_bool t ≡ 1 → t ≡ true
+is_one true e = refl
+is_one false e = absurd (omega arith)
+
+one_more : (t : Bool) → from_bool t ≡ one_if_known (1 + from_bool t)
+one_more true = refl
+one_more false = refl
+
 -- The first `w + E` bytes of the row `r` have become `x`, and then its flag has been set.
-module _ (w E r n : ℕ) (x m m₁ m' : List ℕ) (fits : Fits w E m) (h : r < w) (size : length x ≡ w + E)
-    (e : m₁ ≡ splice (row_offset w E r) x m) (t : RowMarked w E r n m₁ m') where
+module _ (w E r : ℕ) (alone : Bool) (x m m₁ m' : List ℕ) (fits : Fits w E m) (h : r < w) (size : length x ≡ w + E)
+    (e : m₁ ≡ splice (row_offset w E r) x m) (t : RowMarked w E r alone m₁ m') where
+  abbrev n : ℕ
+  n = from_bool alone
+
   short : length x ≤ w + E + 1
   short = omega arith
 
@@ -81,60 +97,30 @@ module _ (w E r n : ℕ) (x m m₁ m' : List ℕ) (fits : Fits w E m) (h : r < w
 
   flagged_now : Flagged w E r (row w E r marked)
   flagged_now = (
-    (λ f. (is_used, λ j l d. flagged_cell w E r (1 + n) m₁ room h j (omega arith) ∙ t.tested.alone.0 (omega (arith, flag_now)) j l d)),
+    (λ f. (is_used, λ j l d. flagged_cell w E r (1 + n) m₁ room h j (omega arith) ∙ t.tested.0 (is_one alone (omega (arith, flag_now))) j l d)),
     λ s.
-        let one = t.tested.alone.1 (λ j l d. sym (flagged_cell w E r (1 + n) m₁ room h j (omega arith)) ∙ s.1 j l d) in
-        flag_now ∙ ap (λ k. 1 + k) one,
+        let one = t.tested.1 (λ j l d. sym (flagged_cell w E r (1 + n) m₁ room h j (omega arith)) ∙ s.1 j l d) in
+        flag_now ∙ ap (λ k. 1 + from_bool k) one,
   )
 
-  one_more : (k : ℕ) → k ≤ 1 → k ≡ one_if_known (1 + k)
-  one_more zero l = refl
-  one_more (suc zero) l = refl
-  one_more (suc (suc k)) l = absurd (omega arith)
-
-  stored : Stored w E r n x m m'
+  stored : Stored w E r (from_bool alone) x m m'
   stored =
-      subst (λ y. Stored w E r n x m y) (sym t.bytes) record {
+      subst (λ y. Stored w E r (from_bool alone) x m y) (sym t.bytes) record {
         changed = record {
           kept = kept_trans first.kept (flagged_kept w E r (1 + n) m₁ room h);
           rest = λ q g d. flagged_rest w E r (1 + n) m₁ room h q g d ∙ first.rest q g d;
-          most = t.tested.most;
+          most = at_most_one alone;
         };
         used = is_used;
         new = new_line;
-        flags = (flagged_now, one_more n t.tested.most ∙ ap one_if_known (sym flag_now));
+        flags = (flagged_now, one_more alone ∙ ap one_if_known (sym flag_now));
       }
 
 -- The code copies the working row from `at` on.
-pub stored_copy : (w E r n at : ℕ) (l m m₁ m' : List ℕ) → Fits w E m → r < w → length l ≡ w + E → at ≡ row_offset w E r
-    → m₁ ≡ splice at (part 0 (w + E) l) m → RowMarked w E r n m₁ m' → Stored w E r n l m m'
-stored_copy w E r n at l m m₁ m' fits h size here e t =
-    stored w E r n l m m₁ m' fits h size (e ∙ ap (λ x. splice at x m) (whole (w + E) l size) ∙ ap (λ k. splice k l m) here) t
-
--- The rows from `from` on and before `q` have no coefficient in the column.
-pub record Passed (w E r from q : ℕ) (m : List ℕ) : Type 0 where
-  pub least : from ≤ q
-  pub most : q ≤ w
-  pub zeros : (j : ℕ) → from ≤ j → j < q → get_or m (row_offset w E j + r) 0 ≡ 0
-
-module _ {w E r from : ℕ} {m : List ℕ} where
-  pub passed_none : from ≤ w → Passed w E r from from m
-  passed_none h = record { least = omega arith; most = h; zeros = λ j a b. absurd (omega arith) }
-
-  module _ (q at : ℕ) (f : Passed w E r from q m) (h : q < w) (here : at ≡ row_offset w E q) where
-    pub passed_more : get_or m (at + r) 0 ≡ 0 → Passed w E r from (q + 1) m
-    passed_more z = record { least = omega (arith, f.least); most = omega arith; zeros = λ j a b. next j a b (ℕ_discrete j q) }
-      where
-        next : (j : ℕ) → from ≤ j → j < q + 1 → Dec (j ≡ q) → get_or m (row_offset w E j + r) 0 ≡ 0
-        next j a b (yes e) = ap (λ x. get_or m (row_offset w E x + r) 0) e ∙ ap (λ x. get_or m (x + r) 0) (sym here) ∙ z
-        next j a b (no e) = f.zeros j a (omega arith)
-
-    pub passed_here : get_or m (at + r) 0 ≢ 0 → FirstWith w E r from q m
-    passed_here z = record { least = f.least; most = f.most; zeros = f.zeros; here = λ _ e. z (ap (λ x. get_or m (x + r) 0) here ∙ e) }
-
-  pub passed_all : (q : ℕ) → Passed w E r from q m → q ≡ w → FirstWith w E r from w m
-  passed_all q f e = subst (λ x. FirstWith w E r from x m) e
-      (record { least = f.least; most = f.most; zeros = f.zeros; here = λ h. absurd (omega arith) })
+pub stored_copy : (w E r at : ℕ) (alone : Bool) (l m m₁ m' : List ℕ) → Fits w E m → r < w → length l ≡ w + E → at ≡ row_offset w E r
+    → m₁ ≡ splice at (part 0 (w + E) l) m → RowMarked w E r alone m₁ m' → Stored w E r (from_bool alone) l m m'
+stored_copy w E r at alone l m m₁ m' fits h size here e t =
+    stored w E r alone l m m₁ m' fits h size (e ∙ ap (λ x. splice at x m) (whole (w + E) l size) ∙ ap (λ k. splice k l m) here) t
 
 -- The row `q` is passed over: it is not in use, or has no coefficient in the column.
 module _ (w E r q : ℕ) (l m : List ℕ) where
@@ -159,9 +145,9 @@ module _ (w E r q : ℕ) (l m : List ℕ) where
         idle (λ u. absurd (true≢false (sym u ∙ unused w E (row w E q m) (flag_at w E q m ∙ ap (λ a. get_or m (a + (w + E)) 0) (sym here) ∙ z))))
 
 -- The row `q` has been added to, and marked.
-module _ (w E r q n : ℕ) (l m m₁ m' : List ℕ) (fits : Fits w E m) (c : r < w) (h : q < w) (size : length l ≡ w + E) (f : Bytes m) (g : Bytes l)
+module _ (w E r q : ℕ) (alone : Bool) (l m m₁ m' : List ℕ) (fits : Fits w E m) (c : r < w) (h : q < w) (size : length l ≡ w + E) (f : Bytes m) (g : Bytes l)
     (at : ℕ) (here : at ≡ row_offset w E q) (k : get_or m (at + r) 0 ≢ 0) (u : get_or m (at + (w + E)) 0 ≢ 0)
-    (e : m₁ ≡ splice at (add_scaled (get_or m (at + r) 0) (part at (w + E) m) (part 0 (w + E) l)) m) (t : RowMarked w E q n m₁ m') where
+    (e : m₁ ≡ splice at (add_scaled (get_or m (at + r) 0) (part at (w + E) m) (part 0 (w + E) l)) m) (t : RowMarked w E q alone m₁ m') where
   abbrev coefficient : ℕ
   coefficient = get_or (row w E q m) r 0
 
@@ -199,8 +185,8 @@ module _ (w E r q n : ℕ) (l m m₁ m' : List ℕ) (fits : Fits w E m) (c : r <
       let z = bytes-part (row_offset w E q) (stride w E) m f in
       line-add w E fits.some_width coefficient (row w E q m) l added z g (z r) element
 
-  done : Stored w E q n added m m'
-  done = stored w E q n added m m₁ m' fits h length-added bytes t
+  done : Stored w E q (from_bool alone) added m m'
+  done = stored w E q alone added m m₁ m' fits h length-added bytes t
 
   was_used : in_use w E (row w E q m) ≡ true
   was_used = used w E (row w E q m) (λ z. u (ap (λ a. get_or m (a + (w + E)) 0) here ∙ sym (flag_at w E q m) ∙ z))
@@ -209,7 +195,7 @@ module _ (w E r q n : ℕ) (l m m₁ m' : List ℕ) (fits : Fits w E m) (c : r <
   was_open : (q ≡ r → in_use w E (row w E q m) ≡ false) → Flagged w E q (row w E q m) → flag w E (row w E q m) ≢ 2
   was_open d s two = k (same ∙ (s.0 two).1 r c (λ x. true≢false (sym was_used ∙ d (sym x))))
 
-  pub cleared_row : ClearedRow w E r q n l m m'
+  pub cleared_row : ClearedRow w E r q (from_bool alone) l m m'
   cleared_row = record {
     changed = done.changed;
     used = done.used ∙ sym was_used;
@@ -267,22 +253,6 @@ module _ (w E r : ℕ) (l m : List ℕ) where
           ∙ g.sum (f.used i h ∙ ap (λ x. in_use w E (row w E x m)) (sym e) ∙ u)
           ∙ ap (λ x. add_line (byte (get_or x r 0)) (line w E l) (line w E x)) (f.rest i (omega arith) h ∙ ap (λ x. row w E x m) (sym e))
       one q b u (no e) = ap (line w E) (g.changed.rest q (omega arith) e) ∙ f.sum q (omega arith) u
-
-  -- Rows without a coefficient there are passed over.
-  skip : (d i n : ℕ) (m₁ : List ℕ) → 0 < E → r < w → i + d ≤ w → ((j : ℕ) → i ≤ j → j < i + d → get_or m₁ (row_offset w E j + r) 0 ≡ 0)
-      → Cleared w E r i n l m m₁ → Cleared w E r (i + d) n l m m₁
-  skip zero i n m₁ pos h k z f = subst (λ x. Cleared w E r x n l m m₁) (sym (add-zero i)) f
-  skip (suc d) i n m₁ pos h k z f =
-      let turn = cleared_zero w E r i l m₁ (row_offset w E i) refl pos h (z i (omega arith) (omega arith)) in
-      let more = subst (λ x. Cleared w E r (i + 1) x l m m₁) (add-zero n) (cleared_more i n 0 m₁ m₁ (omega arith) f turn) in
-      let e : i + 1 + d ≡ i + suc d = omega arith in
-      subst (λ x. Cleared w E r x n l m m₁) e (skip d (i + 1) n m₁ pos h (omega arith) (λ j a b. z j (omega arith) (omega arith)) more)
-
-  pub cleared_skip : (i q n : ℕ) (m₁ : List ℕ) → 0 < E → r < w → FirstWith w E r i q m₁ → Cleared w E r i n l m m₁ → Cleared w E r q n l m m₁
-  cleared_skip i q n m₁ pos h g f =
-      let e : i + (q - i) ≡ q = omega (arith, g.least) in
-      subst (λ x. Cleared w E r x n l m m₁) e
-      (skip (q - i) i n m₁ pos h (omega (arith, g.least, g.most)) (λ j a b. g.zeros j a (omega (arith, g.least))) f)
 
   -- Cleared, and then stored.
   pub settled : (i n k : ℕ) (m₁ m₂ : List ℕ) → r < w → i ≡ w → Cleared w E r i n l m m₁ → Stored w E r k l m₁ m₂ → RowPlaced w E r (n + k) l m m₂

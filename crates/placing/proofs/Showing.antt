@@ -1,8 +1,8 @@
 -- A position is known just where its row's first flag is 2; and how many are known.
 use Rattle.std.specs.Prelude.{◌≡◌, ◌≤◌, ◌+◌, ◌<◌, ◌-◌, ◌%◌, ◌≢◌}
-use Rattle.words.specs.Words.{arith, ℕ, List, refl, ◌∙◌, sym, ap, some, suc, true, none, get_or, false, Bool, Option, eqb}
+use Rattle.words.specs.Words.{arith, ℕ, List, refl, ◌∙◌, sym, ap, Some, suc, true, None, get_or, false, Bool, Option, eqb}
 use Rattle.words.specs.Words.{mod-lt, ℕ_discrete, dec_lt, eqb-true, eqb-false}
-use mathlib.Core.Option.{some-ne-none}
+use Rattle.words.specs.Words.{some-ne-none}
 use Rattle.memory.specs.Part.{part}
 use Rattle.memory.specs.Number.{Bytes}
 use Rattle.memory.proofs.Parts.{part-part}
@@ -43,19 +43,19 @@ module _ (w E r : ℕ) (m : List ℕ) (fits : Fits w E m) (h : r < w) (f : Bytes
     apart : (j : ℕ) → b ≤ j → j < b + w → j ≢ b + i → j % w ≢ r
     apart j c d x y = other w b (b + i) j (omega arith) (omega arith) c d x (y ∙ sym e)
 
-    shut : in_use w E (row w E r m) ≡ false → known S i ≡ none
+    shut : in_use w E (row w E r m) ≡ false → known S i ≡ None
     shut x = held (known_free (laws E positive) (table w E m) i w b (b + i) (w - suc i) refl left (marked x))
 
-    whole : in_use w E (row w E r m) ≡ true → ((j : ℕ) → j < w → j ≢ r → get_or (row w E r m) j 0 ≡ 0) → known S i ≡ some (line w E (row w E r m)).sym
+    whole : in_use w E (row w E r m) ≡ true → ((j : ℕ) → j < w → j ≢ r → get_or (row w E r m) j 0 ≡ 0) → known S i ≡ Some (line w E (row w E r m)).sym
     whole x z =
         held (known-row (laws E positive) (table w E m) i w b (b + i) (w - suc i) refl left (marked x)
         (λ j c d.
         ap (λ q. byte (get_or (row w E q m) (j % w) 0)) e
         ∙ byte-zero _ (z (j % w) (mod-lt j fits.some_width) (apart j (omega arith) d (omega arith)))))
-        ∙ ap (λ q. some (line w E (row w E q m)).sym) e
+        ∙ ap (λ q. Some (line w E (row w E q m)).sym) e
 
     -- A coefficient elsewhere in the window stands after the pivot.
-    open_at : in_use w E (row w E r m) ≡ true → (j : ℕ) → j < w → j ≢ r → get_or (row w E r m) j 0 ≢ 0 → known S i ≡ none
+    open_at : in_use w E (row w E r m) ≡ true → (j : ℕ) → j < w → j ≢ r → get_or (row w E r m) j 0 ≢ 0 → known S i ≡ None
     open_at x j c d z =
         let (p, g, k, y) = position w b j c in
         let cells : ((table w E m).line (b + i)).cells p ≡ byte (get_or (row w E r m) j 0) =
@@ -70,13 +70,13 @@ module _ (w E r : ℕ) (m : List ℕ) (fits : Fits w E m) (h : r < w) (f : Bytes
         after p g k y d full (no u) = let n : p ≢ b + i = (λ q. d (sym y ∙ ap (λ k. k % w) q ∙ e)) in omega arith
 
     -- A row in use that is flagged otherwise has another coefficient.
-    not-two : flag w E (row w E r m) ≢ 2 → known S i ≡ none
+    not-two : flag w E (row w E r m) ≢ 2 → known S i ≡ None
     not-two n = go (ℕ_discrete (flag w E (row w E r m)) 0) (known S i) refl
       where
-        go : Dec (flag w E (row w E r m) ≡ 0) → (o : Option (Coded E).Sym) → known S i ≡ o → known S i ≡ none
+        go : Dec (flag w E (row w E r m) ≡ 0) → (o : Option (Coded E).Sym) → known S i ≡ o → known S i ≡ None
         go (yes z) o e = shut (unused w E (row w E r m) z)
-        go (no z) none e = e
-        go (no z) (some s) k =
+        go (no z) None e = e
+        go (no z) (Some s) k =
             let u = used w E (row w E r m) z in
             absurd (n ((v.flags r h).1 (u, λ j c d. else_zero (get_or (row w E r m) j 0) (λ y. some-ne-none s (sym k ∙ open_at u j c d y)))))
 
@@ -95,18 +95,18 @@ symbol_bytes w E r m fits h f =
 
 -- What a flag adds to the count, as the model counts.
 one_known : (w E r : ℕ) (m : List ℕ) → Fits w E m → r < w → Bytes m → (b i : ℕ) (S : State (Coded E) w) → i < w → (b + i) % w ≡ r → Window w E m b S
-    → is_new (known S i) none ≡ one_if_known (flag w E (row w E r m))
+    → is_new (known S i) None ≡ one_if_known (flag w E (row w E r m))
 unfolding is_new
 one_known w E r m fits h f b i S l p v = go (ℕ_discrete (flag w E (row w E r m)) 2)
   where
-    go : Dec (flag w E (row w E r m) ≡ 2) → is_new (known S i) none ≡ one_if_known (flag w E (row w E r m))
+    go : Dec (flag w E (row w E r m) ≡ 2) → is_new (known S i) None ≡ one_if_known (flag w E (row w E r m))
     go (yes e) =
         let s = (v.flags r h).0 e in
-        ap (λ o. is_new o none) (whole w E r m fits h f b i S l p v s.0 s.1) ∙ ap one_if_known (sym e)
-    go (no e) = ap (λ o. is_new o none) (not-two w E r m fits h f b i S l p v e) ∙ sym (not_known (flag w E (row w E r m)) e)
+        ap (λ o. is_new o None) (whole w E r m fits h f b i S l p v s.0 s.1) ∙ ap one_if_known (sym e)
+    go (no e) = ap (λ o. is_new o None) (not-two w E r m fits h f b i S l p v e) ∙ sym (not_known (flag w E (row w E r m)) e)
 
 -- As many flags are 2 as there are positions known.
 pub count_known : (w E b : ℕ) (m : List ℕ) (S : State (Coded E) w) → Fits w E m → Bytes m → Window w E m b S → known_flags w E m ≡ count_all w (known S)
 count_known w E b m S fits f v =
-    total-rows (known-flag w E m) w b (known S) (λ _. none)
+    total-rows (known-flag w E m) w b (known S) (λ _. None)
     (λ i l. sym (one_known w E ((b + i) % w) m fits (mod-lt (b + i) fits.some_width) f b i S l refl v))

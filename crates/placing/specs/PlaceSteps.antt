@@ -1,7 +1,8 @@
 -- Contracts of inner functions: a reader need not believe these.
 -- A column is cleared in the rows in use, by a working row `l`, and the working row becomes the row of that column.
 use Rattle.std.specs.Prelude.{◌≡◌, ◌≤◌, ◌+◌, ◌<◌, ◌*◌, ◌≢◌}
-use Rattle.words.specs.Words.{ℕ, List, length, true, get_or, false}
+use Rattle.std.specs.Int.{from_bool}
+use Rattle.words.specs.Words.{ℕ, List, Bool, length, true, get_or, false}
 use Rattle.decoder.specs.Bytes.{byte, Coded}
 use Rattle.decoder.specs.Model.{State}
 use Rattle.decoder.specs.TableSteps.{add_line, total}
@@ -14,10 +15,10 @@ use Rattle.table.specs.RowSteps.{known-flag, flagged, Tested}
 abbrev pub known_flags : (w E : ℕ) → List ℕ → ℕ
 known_flags w E m = total (known-flag w E m) w
 
--- The row `r`, in use, has its first flag; `n` is 1 if it has no other coefficient, else 0.
-pub record RowMarked (w E r n : ℕ) (m m' : List ℕ) : Type 0 where
-  pub tested : Tested w E r n m
-  pub bytes : m' ≡ flagged w E r (1 + n) m
+-- The row `r`, in use, has its first flag; `alone` tells whether it has no other coefficient.
+pub record RowMarked (w E r : ℕ) (alone : Bool) (m m' : List ℕ) : Type 0 where
+  pub tested : Tested w E r alone m
+  pub bytes : m' ≡ flagged w E r (1 + from_bool alone) m
 
 -- No row but `q` has changed, and `n` is 1 if its position has become known, else 0.
 pub record Changed (w E q n : ℕ) (m m' : List ℕ) : Type 0 where
@@ -33,13 +34,6 @@ pub record ClearedRow (w E r q n : ℕ) (l m m' : List ℕ) : Type 0 where
       → line w E (row w E q m') ≡ add_line (byte (get_or (row w E q m) r 0)) (line w E l) (line w E (row w E q m))
   pub flags : (q ≡ r → in_use w E (row w E q m) ≡ false) → Flagged w E q (row w E q m)
       → Flagged w E q (row w E q m') × (n + known-flag w E m q ≡ known-flag w E m' q)
-
--- The row `q` is the first from `from` on that has a coefficient in the column `r`, or `w` if none has.
-pub record FirstWith (w E r from q : ℕ) (m : List ℕ) : Type 0 where
-  pub least : from ≤ q
-  pub most : q ≤ w
-  pub zeros : (j : ℕ) → from ≤ j → j < q → get_or m (row_offset w E j + r) 0 ≡ 0
-  pub here : q < w → get_or m (row_offset w E q + r) 0 ≢ 0
 
 -- The working row `l` has become the row `r`, in use.
 pub record Stored (w E r n : ℕ) (l m m' : List ℕ) : Type 0 where

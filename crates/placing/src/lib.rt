@@ -2,13 +2,14 @@
 // And whether a position is known, which its row's first flag says.
 #![tactic(auto)]
 
-ghost use Rattle.std.specs.Prelude.{◌≡◌, ◌≤◌, ◌+◌, ◌<◌, ◌≢◌};
-ghost use Rattle.words.specs.Words.{length, get_or};
-ghost use Rattle.table.specs.Window.{row_offset, Fits};
+ghost use Rattle.std.specs.Prelude.{◌≡◌, ◌+◌, ◌<◌};
+ghost use Rattle.std.specs.Int.{from_bool};
+ghost use Rattle.words.specs.Words.{length};
+ghost use Rattle.table.specs.Window.{Fits};
 ghost use Rattle.placing.specs.Place.{RowsMoved, KnownAt, Committed};
 ghost use Rattle.table.specs.Packet.{Works};
 ghost use Rattle.table.specs.RowSteps.{flagged, Tested};
-ghost use Rattle.placing.specs.PlaceSteps.{RowMarked, ClearedRow, FirstWith, Stored, RowPlaced, KeptRow, PlacedKept, RowsPlaced};
+ghost use Rattle.placing.specs.PlaceSteps.{RowMarked, ClearedRow, Stored, RowPlaced, KeptRow, PlacedKept, RowsPlaced};
 
 use field::Gf256;
 use table::Shape;
@@ -24,18 +25,13 @@ fn set_flag(mem: &mut [u8], shape: Shape, r: usize, v: u8)
 }
 
 // The window moves on by `rise` positions: the rows of those that leave are no longer in use.
+// Kept: `marks::drop_first` and `origins::fill` go over positions too, but each writes another byte; a closure for the write is no plainer.
 pub fn move_on(mem: &mut [u8], shape: Shape, rise: usize)
     requires { Fits shape.width shape.size mem.old × (shape.oldest < shape.width) }
     ensures { RowsMoved shape.width shape.size shape.oldest rise mem.old mem.new }
 {
-    let w = shape.width;
-    let mut oldest = shape.oldest;
-    for i in 0..w {
-        if i == rise {
-            return;
-        }
-        set_flag(mem, shape, oldest, 0);
-        oldest = memory::next(oldest, w);
+    for i in 0..rise.min(shape.width) {
+        set_flag(mem, shape, table::row_of(shape, i), 0);
     }
 }
 
@@ -49,63 +45,47 @@ pub fn is_known(mem: &[u8], shape: Shape, r: usize) -> bool
     mem[at + n] == 2
 }
 
-// One if the row `r` has no coefficient but its own, else zero.
-fn is_alone(mem: &[u8], shape: Shape, r: usize) -> u8
+// Whether the row `r` has no coefficient but its own.
+fn is_alone(mem: &[u8], shape: Shape, r: usize) -> bool
     requires { Fits shape.width shape.size mem.now × (r < shape.width) }
     ensures { Tested shape.width shape.size r result mem.now }
 {
     let at = table::row_offset(shape, r);
     let before = table::or_all(mem, at, at + r);
     let after = table::or_all(mem, at + (r + 1), at + shape.width);
-    if before | after == 0 { 1 } else { 0 }
+    before | after == 0
 }
 
-// The row `r` is in use, and its flag says whether it has another coefficient. Gives one if it has none, else zero.
-fn mark(mem: &mut [u8], shape: Shape, r: usize) -> usize
+// The row `r` is in use, and its flag says whether it has another coefficient. Gives whether it has none.
+fn mark(mem: &mut [u8], shape: Shape, r: usize) -> bool
     requires { Fits shape.width shape.size mem.old × (r < shape.width) }
     ensures { RowMarked shape.width shape.size r result mem.old mem.new }
 {
-    let n = is_alone(mem, shape, r);
-    set_flag(mem, shape, r, 1 + n);
-    n as usize
+    let alone = is_alone(mem, shape, r);
+    set_flag(mem, shape, r, 1 + u8::from(alone));
+    alone
 }
 
-// The column `r` of the row `q`, which has a coefficient there, is cleared by the working row, if the row `q` is in use. Gives one if its position
-// has become known, else zero.
-fn clear_coefficient(mem: &mut [u8], row: &[u8], shape: Shape, r: usize, q: usize) -> usize
-    requires { Fits shape.width shape.size mem.old × (length row.now ≡ shape.width + shape.size) × (r < shape.width) × (q < shape.width)
-        × (get_or mem.old (row_offset shape.width shape.size q + r) 0 ≢ 0) }
-    ensures { ClearedRow shape.width shape.size r q result row.now mem.old mem.new }
+// The column `r` of the row `q` is cleared by the working row, if the row `q` is in use and has a coefficient there. Gives whether its position
+// has become known.
+fn clear_coefficient(mem: &mut [u8], row: &[u8], shape: Shape, r: usize, q: usize) -> bool
+    requires { Fits shape.width shape.size mem.old × (length row.now ≡ shape.width + shape.size) × (r < shape.width) × (q < shape.width) }
+    ensures { ClearedRow shape.width shape.size r q (from_bool result) row.now mem.old mem.new }
 {
     let at = table::row_offset(shape, q);
     let n = shape.width + shape.size;
-    if mem[at + n] == 0 {
-        return 0;
-    }
     let c = mem[at + r];
+    if c == 0 || mem[at + n] == 0 {
+        return false;
+    }
     rows::add_part(mem, at, row, 0, n, Gf256(c));
     mark(mem, shape, q)
 }
 
-// The first row from `from` on that has a coefficient in the column `r`, or the width.
-fn next_with(mem: &[u8], shape: Shape, r: usize, from: usize) -> usize
-    requires { Fits shape.width shape.size mem.now × (r < shape.width) × (from ≤ shape.width) }
-    ensures { FirstWith shape.width shape.size r from result mem.now }
-{
-    let w = shape.width;
-    for q in from..w {
-        let at = table::row_offset(shape, q);
-        if mem[at + r] != 0 {
-            return q;
-        }
-    }
-    w
-}
-
-// The working row becomes the row `r`. Gives one if its position is known, else zero.
-fn store_row(mem: &mut [u8], row: &[u8], shape: Shape, r: usize) -> usize
+// The working row becomes the row `r`. Gives whether its position is known.
+fn store_row(mem: &mut [u8], row: &[u8], shape: Shape, r: usize) -> bool
     requires { Fits shape.width shape.size mem.old × (length row.now ≡ shape.width + shape.size) × (r < shape.width) }
-    ensures { Stored shape.width shape.size r result row.now mem.old mem.new }
+    ensures { Stored shape.width shape.size r (from_bool result) row.now mem.old mem.new }
 {
     let at = table::row_offset(shape, r);
     let n = shape.width + shape.size;
@@ -118,14 +98,11 @@ fn place(mem: &mut [u8], row: &[u8], shape: Shape, r: usize) -> usize
     requires { Fits shape.width shape.size mem.old × (length row.now ≡ shape.width + shape.size) × (r < shape.width) }
     ensures { RowPlaced shape.width shape.size r result row.now mem.old mem.new }
 {
-    let w = shape.width;
     let mut count: usize = 0;
-    let mut q = next_with(mem, shape, r, 0);
-    while q < w {
-        count += clear_coefficient(mem, row, shape, r, q);
-        q = next_with(mem, shape, r, q + 1);
+    for q in 0..shape.width {
+        count += usize::from(clear_coefficient(mem, row, shape, r, q));
     }
-    count + store_row(mem, row, shape, r)
+    count + usize::from(store_row(mem, row, shape, r))
 }
 
 // The row `k` of working memory joins the window's rows. Gives how many positions have become known.

@@ -1,29 +1,25 @@
 -- The answers of the packet calls with their draws.
-use Rattle.std.specs.Prelude.{◌≡◌, ◌≤◌}
-use Rattle.words.specs.Words.{arith, ℕ, List, ◌∙◌, sym, ap, some, some-injective}
+use Rattle.std.specs.Prelude.{◌≡◌, ◌≤◌, Ok, Err}
+use Rattle.words.specs.Words.{arith, ℕ, List, ◌∙◌, sym, ap, Some, some-injective, Option}
 use Rattle.table.specs.Packet.{Works}
 use Rattle.wire.specs.declared.Refusal.{Refusal}
-use Rattle.wire.specs.declared.Answer.TheVariants.{Done, Refused}
 use Rattle.holding.specs.declared.Header.{Header}
 use Rattle.admission.specs.declared.packet.Location.{Location}
-use Rattle.admission.specs.declared.packet.Gathered.{Gathered}
-use Rattle.admission.specs.declared.packet.Gathered.TheVariants.{All}
 use Rattle.history.specs.History.{Call}
 use Rattle.holding.specs.Header.{header_in}
 use Rattle.receiver.specs.Promises.{draws_for, Received, PacketAnswered}
 use Rattle.receiver.specs.Layout.{receiver_layout}
 use Rattle.admission.specs.Steps.{WorksOn, Accepted}
-use Rattle.receiver.specs.declared.PacketAnswer.TheVariants as answers
 
 module _ {c : Call} {m m' v v' : List ℕ} where
   -- A refusal has none.
-  pub answered_refused : {r : Refusal} → Received receiver_layout c m m' v v' (Refused r) → PacketAnswered receiver_layout c m m' v v' (answers.NotAccepted r)
+  pub answered_refused : {r : Refusal} → Received receiver_layout c m m' v v' (Err r) → PacketAnswered receiver_layout c m m' v v' (Err r)
   answered_refused p = record { received = p; draws = tt }
 
   -- A packet was accepted.
-  pub answered_done : (h g : Header) (at : Location) (w E : ℕ) (r : Gathered) (kept own n d : ℕ) → header_in m ≡ some h → r ≡ All kept → WorksOn w E v' r
-      → Accepted g at kept own n v' m m' → d ≡ draws_for h.setting c → d ≤ 69360 → Received receiver_layout c m m' v v' (Done n)
-      → PacketAnswered receiver_layout c m m' v v' (answers.Accepted n d)
+  pub answered_done : (h g : Header) (at : Location) (w E : ℕ) (r : Option ℕ) (kept own n d : ℕ) → header_in m ≡ Some h → r ≡ Some kept → WorksOn w E v' r
+      → Accepted g at kept own n v' m m' → d ≡ draws_for h.setting c → d ≤ 69360 → Received receiver_layout c m m' v v' (Ok n)
+      → PacketAnswered receiver_layout c m m' v v' (Ok (n, d))
   answered_done h g at w E r kept own n d has all works done is few p =
       let k : Works w E kept v' = rw all at works in
       record {

@@ -1,6 +1,6 @@
 -- Opening: what it answers, and that the memory it leaves holds a fresh receiver.
-use Rattle.std.specs.Prelude.{◌≡◌, ◌≤◌, ◌+◌, ◌<◌, ◌-◌, ◌%◌}
-use Rattle.words.specs.Words.{arith, ℕ, length, List, refl, ◌∙◌, sym, ap, some, none, get_or, false, subst, drop, le-ltb, lt-ltb}
+use Rattle.std.specs.Prelude.{◌≡◌, ◌≤◌, ◌+◌, ◌<◌, ◌-◌, ◌%◌, Ok, Err}
+use Rattle.words.specs.Words.{arith, ℕ, length, List, refl, ◌∙◌, sym, ap, Some, None, get_or, false, subst, drop, le-ltb, lt-ltb}
 use Rattle.words.specs.Words.{ltb, length-replicate, ext_get_or, some-injective, dec_lt, mod-lt}
 use lib.ListN.{get_or-replicate}
 use Rattle.memory.specs.Part.{part, splice}
@@ -18,7 +18,6 @@ use Rattle.placing.proofs.Moving.{window_free}
 use Rattle.starts.specs.Starts.{nowhere}
 use Rattle.marks.specs.Marks.{marked}
 use Rattle.marks.proofs.Only.{mark_row, mark_past}
-use Rattle.wire.specs.declared.Answer.TheVariants.{Done, Refused}
 use Rattle.history.specs.History.{memory_size}
 use Rattle.history.specs.Model.{opened, unheard}
 use Rattle.origins.specs.Origins.{origin_at}
@@ -33,7 +32,7 @@ use Rattle.holding.proofs.Headers.{found, memory_is}
 use Rattle.holding.proofs.Flows.{with-flows}
 
 module _ (n E w : ℕ) (flows m : List ℕ) where
-  pub opening_values : setting_of n E w ≡ none → Opened receiver_layout n E w flows m m (Refused Values)
+  pub opening_values : setting_of n E w ≡ None → Opened receiver_layout n E w flows m m (Err Values)
   opening_values e = record {
     answer = rw e;
     refused = λ k q. refl;
@@ -43,7 +42,7 @@ module _ (n E w : ℕ) (flows m : List ℕ) where
     origins = λ s q r. absurd (subst IsRefusal r tt);
   }
 
-  pub opening_short : (s : Setting) → setting_of n E w ≡ some s → length m < memory_size s → Opened receiver_layout n E w flows m m (Refused Short)
+  pub opening_short : (s : Setting) → setting_of n E w ≡ Some s → length m < memory_size s → Opened receiver_layout n E w flows m m (Err Short)
   opening_short s e l = record {
     answer = rw (e, lt-ltb (length m) (memory_size s) l);
     refused = λ k q. refl;
@@ -101,7 +100,7 @@ module _ (s : Setting) (v : Valid s) (flows m : List ℕ) (q : length flows ≡ 
       let q : i < n = omega (arith, l) in
       get_or-part a n i fresh q ∙ fresh_at (a + i) (omega arith) (omega arith) ∙ sym (get_or-replicate n i 0 0 q))
 
-  header_is : header_in fresh ≡ some (header_of s (opened s))
+  header_is : header_in fresh ≡ Some (header_of s (opened s))
   unfolding fresh_memory
   header_is =
       let is = setting_kept 2 fresh front (take-splice 8 8 rest front (omega arith) (omega (arith, length_front))) ∙ setting-written 2 s m (omega arith) v in
@@ -152,10 +151,10 @@ module _ (s : Setting) (v : Valid s) (flows m : List ℕ) (q : length flows ≡ 
     later = λ i l. refl;
   }
 
-pub opening_done : (n E w : ℕ) (s : Setting) → setting_of n E w ≡ some s → (flows m m' : List ℕ) → length flows ≡ 32 → memory_size s ≤ length m
-    → m' ≡ splice 32 flows (fresh_memory s m) → Opened receiver_layout n E w flows m m' (Done 0)
+pub opening_done : (n E w : ℕ) (s : Setting) → setting_of n E w ≡ Some s → (flows m m' : List ℕ) → length flows ≡ 32 → memory_size s ≤ length m
+    → m' ≡ splice 32 flows (fresh_memory s m) → Opened receiver_layout n E w flows m m' (Ok 0)
 opening_done n E w s e flows m m' l room is =
-    subst (λ x. Opened receiver_layout n E w flows m x (Done 0)) (sym is) record {
+    subst (λ x. Opened receiver_layout n E w flows m x (Ok 0)) (sym is) record {
       answer = rw (e, le-ltb (length m) (memory_size s) room);
       refused = λ i q. absurd (subst IsRefusal (sym q) tt);
       contained = λ t q.
@@ -169,5 +168,5 @@ opening_done n E w s e flows m m' l room is =
     v : Valid s
     v = (setting-names n E w s e).valid
 
-    same : (t : Setting) → setting_of n E w ≡ some t → s ≡ t
+    same : (t : Setting) → setting_of n E w ≡ Some t → s ≡ t
     same t q = some-injective s t (sym e ∙ q)

@@ -2,8 +2,8 @@
 -- Laws:
 --   a check fails: received_failed
 --   all checks passed: location_width, location_size, Ready, ready, accept_asks, received_contradiction, received_done
-use Rattle.std.specs.Prelude.{◌≡◌, ◌≤◌, ◌+◌, ◌<◌, ◌-◌, ◌%◌, ◌^◌}
-use Rattle.words.specs.Words.{arith, ℕ, length, List, refl, ◌∙◌, sym, ap, some, none, subst, Option, none-ne-some}
+use Rattle.std.specs.Prelude.{◌≡◌, ◌≤◌, ◌+◌, ◌<◌, ◌-◌, ◌%◌, ◌^◌, Ok, Err}
+use Rattle.words.specs.Words.{arith, ℕ, length, List, refl, ◌∙◌, sym, ap, Some, None, subst, Option, none-ne-some}
 use Rattle.words.specs.Words.{some-injective, mod-add-mod, mod-lt}
 use Rattle.origins.proofs.Hearing.{hears_alike}
 use Rattle.wire.specs.declared.Setting.{Setting}
@@ -15,12 +15,9 @@ use Rattle.table.specs.Window.{header_size, stride, row_offset, Fits}
 use Rattle.starts.specs.Starts.{Starts, owning, moved, pass, seen}
 use Rattle.starts.proofs.Settling.{unseen_settled}
 use Rattle.marks.proofs.Gaining.{unseen_empty}
-use Rattle.wire.specs.declared.Answer.TheVariants.{Done, Refused}
 use Rattle.holding.specs.declared.Header.{Header}
 use Rattle.admission.specs.declared.packet.Location.{Location}
 use Rattle.admission.specs.declared.packet.Passed.{Passed}
-use Rattle.admission.specs.declared.packet.Gathered.{Gathered}
-use Rattle.admission.specs.declared.packet.Gathered.TheVariants.{All, Contradiction}
 use Rattle.history.specs.History.{Located, source, repair, first, named, Call, esi_of, Reading, fails, located, farthest, memory_size, working_size, reading}
 use Rattle.wire.specs.Answers.{value, refusal}
 use Rattle.history.specs.Model.{Joined, State, found_by, Outcome, packet_of, added, responds, answering, state_after, naming, starts_after, marking, receiving, refused}
@@ -56,16 +53,16 @@ HearsBy s t H m' x y = Hears m' s (state_after t y) (origins_after x y H)
 
 -- Before any base they are marks wherever it will be.
 found_marks : (m : List ℕ) (s : Setting) (t : State s) (e : ℕ) (M : Starts) → Marks m s t M → MarksFrom m s (found_by s t e) M
-found_marks m s none e M k = record {
+found_marks m s None e M k = record {
   bytes = k (e % s.width);
   settled = unseen_settled s.size s.width _ _ M (λ i _. unseen_empty s.size s.width i);
 }
-found_marks m s (some t) e M k = k
+found_marks m s (Some t) e M k = k
 
 -- ---- A check fails
 
 module _ (c : Call) (m v : List ℕ) where
-  pub received_failed : (x : Refusal) → Failed c m (length v) x → Received receiver_layout c m m v v (Refused x)
+  pub received_failed : (x : Refusal) → Failed c m (length v) x → Received receiver_layout c m m v v (Err x)
   unfolding answering
   received_failed x f = record {
     unopened = ((λ q. without (header_in m) refl (ap numeral q)), (λ q. ap (λ y. refusal (number_of y)) (f.unopened q)));
@@ -73,7 +70,7 @@ module _ (c : Call) (m v : List ℕ) where
     refused = λ n q. refl;
     contained = λ h' q. (contained_none, contained_none);
     follows = λ s flows t k.
-        subst (λ y. Follows receiver_layout s flows (responds s (found_by s t (esi_of c)) y) m m (Refused x)) (sym (told s flows t k)) (refl, refl);
+        subst (λ y. Follows receiver_layout s flows (responds s (found_by s t (esi_of c)) y) m m (Err x)) (sym (told s flows t k)) (refl, refl);
     starts = λ s flows t M k g.
         let j = found_by s t (esi_of c) in
         subst (λ y. MarksBy s t j M m y (responds s j y)) (sym (told s flows t k)) g;
@@ -84,9 +81,9 @@ module _ (c : Call) (m v : List ℕ) where
           → reading s flows (found_by s t (esi_of c)).base (length v) c ≡ fails (number_of x)
       told s flows t k = subst (λ y. reading s y (found_by s t (esi_of c)).base (length v) c ≡ fails (number_of x)) k.kept (f.told s t k.holds)
 
-      without : (o : Option Header) → header_in m ≡ o → number_of x ≡ 3 → header_in m ≡ none
-      without none e z = e
-      without (some h) e z = absurd (f.opened h e z)
+      without : (o : Option Header) → header_in m ≡ o → number_of x ≡ 3 → header_in m ≡ None
+      without None e z = e
+      without (Some h) e z = absurd (f.opened h e z)
 
 -- ---- The model's answer
 
@@ -104,15 +101,15 @@ named-of E (repair p n cs vs) = refl
 received_by : (s : Setting) (t : Joined s) (p : decoder.Packet (Coded s.size)) (rise : ℕ) → decoder.rise t p ≡ rise
     → (o : Option (model.State (Coded s.size) s.width))
     → decoder.insert_all (decoder.over (Coded s.size) s.width (t.base + rise) p) (decoder.advance_by rise t.window) ≡ o
-    → decoder.receive t p ≡ decoder.and_then o (λ S. some (record { base = t.base + rise; window = S }))
+    → decoder.receive t p ≡ decoder.and_then o (λ S. Some (record { base = t.base + rise; window = S }))
 unfolding decoder.receive
 received_by s t p rise e o f =
     ap
     (λ d.
     decoder.and_then (decoder.insert_all (decoder.over (Coded s.size) s.width (t.base + d) p) (decoder.advance_by d t.window))
-    (λ S. some (record { base = t.base + d; window = S })))
+    (λ S. Some (record { base = t.base + d; window = S })))
     e
-    ∙ ap (λ x. decoder.and_then x (λ S. some (record { base = t.base + rise; window = S }))) f
+    ∙ ap (λ x. decoder.and_then x (λ S. Some (record { base = t.base + rise; window = S }))) f
 
 -- By the state's base, the place is where the packet lies in the window.
 lies_at : (s : Setting) (t : Joined s) (d n : ℕ) → 0 < n → n ≤ s.width
@@ -186,7 +183,7 @@ module _ (c : Call) (m v : List ℕ) (h : Header) (q : ℕ → Located) (d : ℕ
       (record { width = refl; size = refl; base = refl; stay = refl; room = omega (arith, passes.fits) })
 
   -- What accepting asks, once the equations are gathered.
-  pub accept_asks : (v' : List ℕ) (r : Gathered) (kept own : ℕ) → r ≡ All kept → WorksOn at.shape.width at.shape.size v' r → own ≤ n
+  pub accept_asks : (v' : List ℕ) (r : Option ℕ) (kept own : ℕ) → r ≡ Some kept → WorksOn at.shape.width at.shape.size v' r → own ≤ n
       → Based m passed.header × packet.Works passed.header.setting.width passed.header.setting.size kept v' × (at.shape.oldest < 65535)
       × (at.rise ≤ farthest) × LocatedBy passed.header at own
   accept_asks v' r kept own z f l =
@@ -203,7 +200,7 @@ module _ (c : Call) (m v : List ℕ) (h : Header) (q : ℕ → Located) (d : ℕ
       (rows : (w E : ℕ) → ℕ → ℕ → model.Row (Coded E) w)
       (spell : (b i : ℕ) → decoder.over (Coded h.setting.size) h.setting.width b (packet_of h.setting.size (q (b + i)))
       ≡ firsts (rows h.setting.width h.setting.size i) count)
-      (v' : List ℕ) (r : Gathered) (f : Gathers at n (rows at.shape.width at.shape.size) count r m v v') where
+      (v' : List ℕ) (r : Option ℕ) (f : Gathers at n (rows at.shape.width at.shape.size) count r m v v') where
     work_kept : Contained (working_size h.setting) v v'
     unfolding header_size stride
     work_kept =
@@ -247,7 +244,7 @@ module _ (c : Call) (m v : List ℕ) (h : Header) (q : ℕ → Located) (d : ℕ
       -- What holds of the packet and of what the model makes of it holds of what was read and of the call.
       by_model : (flows : List ℕ) → flows_in m ≡ flows → (P : Reading → Outcome s → Type 0) (o : Option (model.State (Coded s.size) s.width))
           → decoder.insert_all (decoder.over (Coded s.size) s.width (t.base + at.rise) p) (decoder.advance_by at.rise t.window) ≡ o
-          → P (located (q (t.base + d))) (added s t (decoder.and_then o (λ S. some (record { base = t.base + at.rise; window = S }))))
+          → P (located (q (t.base + d))) (added s t (decoder.and_then o (λ S. Some (record { base = t.base + at.rise; window = S }))))
           → P (reading s flows t.base (length v) c) (answering s flows t (length v) c)
       unfolding answering
       by_model flows kept P o i x =
@@ -279,7 +276,7 @@ module _ (c : Call) (m v : List ℕ) (h : Header) (q : ℕ → Located) (d : ℕ
     comes-found : (s : Setting) (t : State s) (k : Holds m s t) → ComesAt s (found_by s t (esi_of c)) (header-found s t k) (stands_found s t k) at
     comes-found s t k = comes s (found_by s t (esi_of c)) (header-found s t k) (stands_found s t k)
 
-    pub received_contradiction : r ≡ Contradiction → Received receiver_layout c m m v v' (Refused refusals.Contradiction)
+    pub received_contradiction : r ≡ None → Received receiver_layout c m m v v' (Err refusals.Contradiction)
     received_contradiction z = record {
       unopened = ((λ x. let y = ap numeral x in absurd (omega (arith, y))), (λ x. absurd (none-ne-some h (sym x ∙ passes.has))));
       untouched = λ x. absurd (none-ne-some h (sym x ∙ passes.has));
@@ -288,7 +285,7 @@ module _ (c : Call) (m v : List ℕ) (h : Header) (q : ℕ → Located) (d : ℕ
           subst (λ (y : Header). Contained (memory_size y.setting) m m × Contained (working_size y.setting) v v')
           (some-injective h h' (sym passes.has ∙ x)) (contained_none, work_kept);
       follows = λ s flows t k.
-          by_found s flows t k (λ x y. Follows receiver_layout s flows y m m (Refused refusals.Contradiction)) (refl, refl);
+          by_found s flows t k (λ x y. Follows receiver_layout s flows y m m (Err refusals.Contradiction)) (refl, refl);
       starts = λ s flows t M k i. by_found s flows t k (λ x y. MarksBy s t (found_by s t (esi_of c)) M m x y) i;
       origins = λ s flows t H k i. by_found s flows t k (λ x y. HearsBy s t H m x y) i;
     }
@@ -298,14 +295,14 @@ module _ (c : Call) (m v : List ℕ) (h : Header) (q : ℕ → Located) (d : ℕ
             → P (reading s flows (found_by s t (esi_of c)).base (length v) c) (receiving s flows t (length v) c)
         by_found s flows t k P x =
             let i = k.holds in
-            by_model s (found_by s t (esi_of c)) (header-found s t i) (stands_found s t i) flows k.kept P none
+            by_model s (found_by s t (esi_of c)) (header-found s t i) (stands_found s t i) flows k.kept P None
             (subst (Comes _ _ _ _ v' _) z (comes-found s t i)) x
 
     -- It has `own` symbols of its own.
     pub received_done : (own : ℕ) → ((s : Setting) (b : ℕ) (N : Starts) → naming s (b + at.rise) (q (b + d)) N ≡ owning at.offset own N)
         → ((b : ℕ) (H : Origins) (x : ℕ) → bringing (b + at.rise + at.offset) own H x ≡ hearing (q (b + d)) H x)
-        → (kept known : ℕ) (m' : List ℕ) → r ≡ All kept → Accepted passed.header at kept own known v' m m'
-        → Received receiver_layout c m m' v v' (Done known)
+        → (kept known : ℕ) (m' : List ℕ) → r ≡ Some kept → Accepted passed.header at kept own known v' m m'
+        → Received receiver_layout c m m' v v' (Ok known)
     received_done own owns brings kept known m' z accepted =
         let done = subst (λ (y : Header). Accepted y at kept own known v' m m') passes.header accepted in
         let kept-flows : flows_in m' ≡ flows_in m =
@@ -322,14 +319,14 @@ module _ (c : Call) (m v : List ℕ) (h : Header) (q : ℕ → Located) (d : ℕ
               let e = header-found s t k in
               let l = stands_found s t k in
               let (T, i, held, counted, marks) = done.marked.outcome s j _ e l (row_is s j e l) (subst (Comes _ _ _ _ v' _) z (comes-found s t k)) in
-              by_model s j e l flows f (λ x y. Follows receiver_layout s flows y m m' (Done known)) (some T) i
+              by_model s j e l flows f (λ x y. Follows receiver_layout s flows y m m' (Ok known)) (Some T) i
               (ap value counted, record { holds = held; kept = kept-flows ∙ f });
           starts = λ s flows t M record { holds = k; kept = f } b.
               let j = found_by s t (esi_of c) in
               let e = header-found s t k in
               let l = stands_found s t k in
               let (T, i, held, counted, marks) = done.marked.outcome s j _ e l (row_is s j e l) (subst (Comes _ _ _ _ v' _) z (comes-found s t k)) in
-              by_model s j e l flows f (λ x y. MarksBy s t j M m' x y) (some T) i
+              by_model s j e l flows f (λ x y. MarksBy s t j M m' x y) (Some T) i
               (subst (λ N. MarksFrom m' s (record { base = j.base + at.rise; window = T }) N) (models s j e l M T own (owns s j.base))
               (marks M (found_marks m s t (esi_of c) M b)));
           origins = λ s flows t H record { holds = k; kept = f } b.
@@ -338,6 +335,6 @@ module _ (c : Call) (m v : List ℕ) (h : Header) (q : ℕ → Located) (d : ℕ
               let l = stands_found s t k in
               let (T, i, held, counted, marks) = done.marked.outcome s j _ e l (row_is s j e l) (subst (Comes _ _ _ _ v' _) z (comes-found s t k)) in
               let heard = (subst (λ (y : Header). Accepted y at kept own known v' m m') e done).hears j.base H refl (found_hears m s t (esi_of c) H b) in
-              by_model s j e l flows f (λ x y. HearsBy s t H m' x y) (some T) i
+              by_model s j e l flows f (λ x y. HearsBy s t H m' x y) (Some T) i
               (hears_alike s.width s.size (j.base + at.rise) m' _ _ (brings j.base H) heard);
         }

@@ -1,16 +1,13 @@
 -- The call for a repair packet that passed its checks: its equations at its place, and what each of its answers comes to.
 -- Laws: gather_asks, call_contradicts, call_done
-use Rattle.std.specs.Prelude.{◌≡◌, ◌≤◌, ◌+◌, ◌<◌, ◌*◌}
-use Rattle.words.specs.Words.{arith, ℕ, length, List, refl, ◌∙◌, sym, ap, subst, ap₂}
+use Rattle.std.specs.Prelude.{◌≡◌, ◌≤◌, ◌+◌, ◌<◌, ◌*◌, Ok, Err}
+use Rattle.words.specs.Words.{arith, ℕ, length, List, refl, ◌∙◌, sym, ap, subst, ap₂, Option, Some, None}
 use Rattle.wire.specs.Packets.{protected_count, repair_symbols}
 use Rattle.decoder.specs.Bytes.{Coded}
 use Rattle.table.specs.Window.{Fits}
 use Rattle.table.specs.Packet.{Works}
-use Rattle.wire.specs.declared.Answer.TheVariants.{Done, Refused}
 use Rattle.admission.specs.declared.packet.Location.{Location}
 use Rattle.admission.specs.declared.packet.Passed.{Passed}
-use Rattle.admission.specs.declared.packet.Gathered.{Gathered}
-use Rattle.admission.specs.declared.packet.Gathered.TheVariants.{All, Contradiction}
 use Rattle.history.specs.History.{Located, repair, Call, repair-call}
 use Rattle.history.specs.Model.{packet_of}
 use Rattle.receiver.specs.Promises.{Received}
@@ -60,15 +57,15 @@ module _ (p m v lists : List ℕ) (passed : Passed) (s : RepairPassed p m (lengt
       ∙ ap₂ (λ (x y : List (List ℕ)). decoder.over (Coded E) width b (packet_of E (repair (b + i) n x y))) s.drawn s.symbols
       ∙ repair_equations width E b i n count lists p
 
-  module _ (r : Gathered) (v' : List ℕ) (gathered : Gathers at n (equation_at at.shape.width at.shape.size n lists p) count r m v v') where
-    pub call_contradicts : r ≡ Contradiction → Received receiver_layout c m m v v' (Refused refusals.Contradiction)
+  module _ (r : Option ℕ) (v' : List ℕ) (gathered : Gathers at n (equation_at at.shape.width at.shape.size n lists p) count r m v v') where
+    pub call_contradicts : r ≡ None → Received receiver_layout c m m v v' (Err refusals.Contradiction)
     call_contradicts =
         received_contradiction c m v s.header q s.distance passed s.passes count (λ x. refl) (λ x. sym s.named)
         (λ w E. equation_at w E n lists p) spelt v' r gathered
 
     -- It has no symbol of its own.
-    pub call_done : (own kept known : ℕ) (m' : List ℕ) → r ≡ All kept → Accepted passed.header at kept own known v' m m' → own ≡ 0
-        → Received receiver_layout c m m' v v' (Done known)
+    pub call_done : (own kept known : ℕ) (m' : List ℕ) → r ≡ Some kept → Accepted passed.header at kept own known v' m m' → own ≡ 0
+        → Received receiver_layout c m m' v v' (Ok known)
     call_done own kept known m' z accepted no_own =
         received_done c m v s.header q s.distance passed s.passes count (λ x. refl) (λ x. sym s.named)
         (λ w E. equation_at w E n lists p) spelt v' r gathered 0 (λ y b N. refl) (λ b. bringing-none (b + at.rise + at.offset)) kept known m' z

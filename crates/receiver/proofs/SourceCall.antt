@@ -1,19 +1,15 @@
 -- The call for a source packet that passed its checks: its equations at its place, and what each of its answers comes to.
 -- Laws: gather_asks, call_contradicts, call_done
-use Rattle.std.specs.Prelude.{◌≡◌, ◌≤◌, ◌+◌, ◌<◌, ◌-◌}
-use Rattle.words.specs.Words.{arith, ℕ, length, List, refl, ◌∙◌, sym, ap, subst, lt-ltb, cond, ap₂}
-use Rattle.memory.specs.Part.{part}
+use Rattle.std.specs.Prelude.{◌≡◌, ◌≤◌, ◌+◌, ◌<◌, ◌-◌, Ok, Err}
+use Rattle.words.specs.Words.{arith, ℕ, length, List, refl, ◌∙◌, sym, ap, subst, lt-ltb, cond, ap₂, Option, Some, None}
 use Rattle.wire.specs.declared.Setting.{Setting}
 use Rattle.wire.specs.Packets.{symbol_count, source_symbols, source_adu}
 use Rattle.decoder.specs.Bytes.{Coded}
 use Rattle.table.specs.Window.{Fits}
 use Rattle.table.specs.Packet.{Works}
 use Rattle.starts.specs.Starts.{Starts, also, owning}
-use Rattle.wire.specs.declared.Answer.TheVariants.{Done, Refused}
 use Rattle.admission.specs.declared.packet.Location.{Location}
 use Rattle.admission.specs.declared.packet.Passed.{Passed}
-use Rattle.admission.specs.declared.packet.Gathered.{Gathered}
-use Rattle.admission.specs.declared.packet.Gathered.TheVariants.{All, Contradiction}
 use Rattle.history.specs.History.{Located, source, Call, source-call}
 use Rattle.history.specs.Model.{packet_of, naming, Origins, bringing, hearing}
 use Rattle.receiver.specs.Promises.{Received}
@@ -27,7 +23,7 @@ use Rattle.wire.specs.declared.Refusal.TheVariants as refusals
 use Rattle.wire.proofs.Adui as adui
 use Rattle.decoder.specs.Receiver as decoder
 
-module _ (flow : ℕ) (p m v : List ℕ) (passed : Passed) (s : SourcePassed flow p m (length v) passed) (adu : List ℕ) (is : adu ≡ part 0 (length p - 4) p) where
+module _ (flow : ℕ) (p m v : List ℕ) (passed : Passed) (s : SourcePassed flow p m (length v) passed) (adu : List ℕ) (adu-is : adu ≡ source_adu p) where
   open s.header.setting use {size as E, width}
 
   abbrev c : Call
@@ -43,10 +39,6 @@ module _ (flow : ℕ) (p m v : List ℕ) (passed : Passed) (s : SourcePassed flo
   abbrev q : ℕ → Located
   q x = source x (source_symbols flow (source_adu p) E)
 
-  adu-is : adu ≡ source_adu p
-  unfolding source_adu part
-  adu-is = is
-
   -- What gathering asks.
   pub gather_asks : Fits at.shape.width at.shape.size m × Works at.shape.width at.shape.size 0 v × (at.shape.oldest < at.shape.width)
       × (at.first < at.shape.width) × (length adu ≤ 65535) × (count ≡ symbol_count at.shape.size (length adu)) × (count ≤ at.shape.width)
@@ -56,7 +48,7 @@ module _ (flow : ℕ) (p m v : List ℕ) (passed : Passed) (s : SourcePassed flo
       let wide = location_width c m v s.header q s.distance passed s.passes in
       (k.fits, k.works, k.base, k.first, rw adu-is s.short, rw (adu-is, size) s.count, omega (arith, s.passes.fits, s.named, wide))
 
-  module _ (v' : List ℕ) (r : Gathered)
+  module _ (v' : List ℕ) (r : Option ℕ)
       (gathered : Gathers at (symbol_count at.shape.size (length adu)) (equation_of at.shape.width at.shape.size flow adu) count r m v v') where
     abbrev packet-is : List ℕ → ℕ → Type 0
     packet-is x k = Gathers at k (equation_of at.shape.width at.shape.size flow x) count r m v v'
@@ -73,7 +65,7 @@ module _ (flow : ℕ) (p m v : List ℕ) (passed : Passed) (s : SourcePassed flo
     symbols : length (source_symbols flow (source_adu p) E) ≡ count
     symbols = adui.symbols_count flow (source_adu p) E ∙ sym s.count
 
-    pub call_contradicts : r ≡ Contradiction → Received receiver_layout c m m v v' (Refused refusals.Contradiction)
+    pub call_contradicts : r ≡ None → Received receiver_layout c m m v v' (Err refusals.Contradiction)
     call_contradicts =
         received_contradiction c m v s.header q s.distance passed s.passes count (λ x. refl) (λ x. symbols ∙ sym s.named)
         (λ w E. equation_of w E flow (source_adu p)) spelt v' r all_gathered
@@ -101,8 +93,8 @@ module _ (flow : ℕ) (p m v : List ℕ) (passed : Passed) (s : SourcePassed flo
         let first : b + at.rise + at.offset ≡ b + d = omega (arith, z, o, k.fits) in
         ap₂ (λ p n. bringing p n H x) first (sym symbols)
 
-    pub call_done : (kept known : ℕ) (m' : List ℕ) → r ≡ All kept → Accepted passed.header at kept count known v' m m'
-        → Received receiver_layout c m m' v v' (Done known)
+    pub call_done : (kept known : ℕ) (m' : List ℕ) → r ≡ Some kept → Accepted passed.header at kept count known v' m m'
+        → Received receiver_layout c m m' v v' (Ok known)
     call_done =
         received_done c m v s.header q s.distance passed s.passes count (λ x. refl) (λ x. symbols ∙ sym s.named)
         (λ w E. equation_of w E flow (source_adu p)) spelt v' r all_gathered count owns brings

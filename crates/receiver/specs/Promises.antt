@@ -1,19 +1,13 @@
 -- What the receiver's public calls promise, in whatever way `Layout` a memory holds a state.
 -- m and v are the receiver's memory and the working memory, m' and v' these afterwards; a is the answer.
 use Rattle.std.specs.Borrow.{Bor}
-use Rattle.std.specs.Prelude.{◌≡◌, ◌≤◌, ◌+◌, ◌↔◌, ◌⊎◌}
-use Rattle.words.specs.Words.{ℕ, length, List, [], some, none, Bool, Option, ltb, cond}
+use Rattle.std.specs.Prelude.{◌≡◌, ◌≤◌, ◌+◌, ◌↔◌, ◌⊎◌, Result, Ok, Err}
+use Rattle.words.specs.Words.{ℕ, length, List, [], Some, None, Bool, Option, ltb, cond}
 use Rattle.memory.specs.Part.{part, LiesAt}
 use Rattle.wire.specs.declared.Setting.{Setting}
 use Rattle.wire.specs.Settings.{setting_of}
-use Rattle.starts.specs.declared.Handed.{Handed}
 use Rattle.starts.specs.Adu.{HandedAs, Leaves}
 use Rattle.starts.specs.Starts.{Starts, nowhere}
-use Rattle.wire.specs.declared.Answer.{Answer}
-use Rattle.receiver.specs.declared.PacketAnswer.{PacketAnswer}
-use Rattle.receiver.specs.declared.PacketAnswer.TheVariants.{Accepted, NotAccepted}
-use Rattle.receiver.specs.declared.SymbolAnswer.{SymbolAnswer}
-use Rattle.receiver.specs.declared.SymbolAnswer.TheVariants.{Shown}
 use Rattle.holding.specs.declared.Header.{Header}
 use Rattle.history.specs.Symbol.{Symbol, bytes_of}
 use Rattle.wire.specs.Answers.{Said, value, refusal, said}
@@ -24,6 +18,7 @@ use Rattle.holding.specs.Header.{header_in}
 use Rattle.memory.specs.Contained.{Contained}
 pub use Rattle.receiver.specs.Answers.{answer_of, shown_of, handed_said}
 pub use Rattle.receiver.specs.Draws.{draws_for}
+use Rattle.wire.specs.declared.Refusal.{Refusal}
 
 -- How a memory holds a state.
 pub record Layout : Type 1 where
@@ -38,45 +33,45 @@ pub record Layout : Type 1 where
 
 -- Opening on `room` bytes: 1 where a value is none of its values, 2 where the memory is too short, else 0.
 abbrev pub opening : Option Setting → (room : ℕ) → Said
-opening none room = refusal 1
-opening (some s) room = cond (ltb room (memory_size s)) (refusal 2) (value 0)
+opening None room = refusal 1
+opening (Some s) room = cond (ltb room (memory_size s)) (refusal 2) (value 0)
 
 -- d are the draws that the packet takes; both numbers are small, whatever the memory.
 pub record Drew (c : Call) (m : List ℕ) (n d : ℕ) : Type 0 where
-  pub draws : (h : Header) → header_in m ≡ some h → d ≡ draws_for h.setting c
+  pub draws : (h : Header) → header_in m ≡ Some h → d ≡ draws_for h.setting c
   pub small : (n ≤ 65535) × (d ≤ 69360)
 
 -- A refusal has no draws.
-abbrev pub Draws : Call → (m : List ℕ) → PacketAnswer → Type 0
-Draws c m (Accepted n d) = Drew c m n d
-Draws c m (NotAccepted r) = Unit {0}
+abbrev pub Draws : Call → (m : List ℕ) → Result (ℕ × ℕ) Refusal → Type 0
+Draws c m (Ok (n, d)) = Drew c m n d
+Draws c m (Err r) = Unit {0}
 
 module _ (L : Layout) where
   open L use {Holds, Marks, Hears, symbol_start}
 
   -- Opening with a scheme, E and width, and the 32 bytes of the flows.
-  pub record Opened (scheme E w : ℕ) (flows m m' : List ℕ) (a : Answer) : Type 0 where
+  pub record Opened (scheme E w : ℕ) (flows m m' : List ℕ) (a : Result ℕ Refusal) : Type 0 where
     pub answer : said a ≡ opening (setting_of scheme E w) (length m)
     pub refused : (n : ℕ) → said a ≡ refusal n → m' ≡ m
-    pub contained : (s : Setting) → setting_of scheme E w ≡ some s → Contained (memory_size s) m m'
-    pub holds : (s : Setting) → setting_of scheme E w ≡ some s → said a ≡ value 0 → Holds m' s flows (opened s)
+    pub contained : (s : Setting) → setting_of scheme E w ≡ Some s → Contained (memory_size s) m m'
+    pub holds : (s : Setting) → setting_of scheme E w ≡ Some s → said a ≡ value 0 → Holds m' s flows (opened s)
     -- No position is marked.
-    pub starts : (s : Setting) → setting_of scheme E w ≡ some s → said a ≡ value 0 → Marks m' s (opened s) nowhere
+    pub starts : (s : Setting) → setting_of scheme E w ≡ Some s → said a ≡ value 0 → Marks m' s (opened s) nowhere
     -- None is heard.
-    pub origins : (s : Setting) → setting_of scheme E w ≡ some s → said a ≡ value 0 → Hears m' s (opened s) unheard
+    pub origins : (s : Setting) → setting_of scheme E w ≡ Some s → said a ≡ value 0 → Hears m' s (opened s) unheard
 
   -- A packet call did what it comes to.
-  abbrev pub Follows : (s : Setting) (flows : List ℕ) → Outcome s → (m m' : List ℕ) → Answer → Type 0
+  abbrev pub Follows : (s : Setting) (flows : List ℕ) → Outcome s → (m m' : List ℕ) → Result ℕ Refusal → Type 0
   Follows s flows (refused n) m m' a = (said a ≡ refusal n) × (m' ≡ m)
-  Follows s flows (done n t) m m' a = (said a ≡ value n) × Holds m' s flows (some t)
+  Follows s flows (done n t) m m' a = (said a ≡ value n) × Holds m' s flows (Some t)
 
   -- A packet call, on any memory: refusal 3 exactly where it has no receiver's header, and then working memory too is as it was; a refusal changes
   -- nothing but working memory; lengths, and bytes past the sizes, are kept. Where the memory holds a state, the call does what it comes to.
-  pub record Received (c : Call) (m m' v v' : List ℕ) (a : Answer) : Type 0 where
-    pub unopened : (said a ≡ refusal 3) ↔ (header_in m ≡ none)
-    pub untouched : header_in m ≡ none → v' ≡ v
+  pub record Received (c : Call) (m m' v v' : List ℕ) (a : Result ℕ Refusal) : Type 0 where
+    pub unopened : (said a ≡ refusal 3) ↔ (header_in m ≡ None)
+    pub untouched : header_in m ≡ None → v' ≡ v
     pub refused : (n : ℕ) → said a ≡ refusal n → m' ≡ m
-    pub contained : (h : Header) → header_in m ≡ some h → Contained (memory_size h.setting) m m' × Contained (working_size h.setting) v v'
+    pub contained : (h : Header) → header_in m ≡ Some h → Contained (memory_size h.setting) m m' × Contained (working_size h.setting) v v'
     pub follows : (s : Setting) (flows : List ℕ) (t : State s) → Holds m s flows t → Follows s flows (receiving s flows t (length v) c) m m' a
     -- And the marks are those that it comes to.
     pub starts : (s : Setting) (flows : List ℕ) (t : State s) (M : Starts) → Holds m s flows t → Marks m s t M
@@ -90,26 +85,26 @@ module _ (L : Layout) where
         Hears m' s (state_after t o) (origins_after (reading s flows j.base (length v) c) o H)
 
   -- A packet call, with the draws beside the count.
-  pub record PacketAnswered (c : Call) (m m' v v' : List ℕ) (a : PacketAnswer) : Type 0 where
+  pub record PacketAnswered (c : Call) (m m' v v' : List ℕ) (a : Result (ℕ × ℕ) Refusal) : Type 0 where
     pub received : Received c m m' v v' (answer_of a)
     pub draws : Draws c m a
 
   -- The symbol call found this: it answers 0 for a known symbol, else a refusal.
-  abbrev pub Finds : {E : ℕ} → Finding E → Answer → Type 0
+  abbrev pub Finds : {E : ℕ} → Finding E → Result ℕ Refusal → Type 0
   Finds (shows p v) a = said a ≡ value 0
   Finds (hides n) a = said a ≡ refusal n
 
   -- The symbol call for the ESI e, which changes nothing: on any memory its only number is 0.
-  pub record SymbolAnswered (m : List ℕ) (e : ℕ) (a : Answer) : Type 0 where
-    pub unopened : (said a ≡ refusal 3) ↔ (header_in m ≡ none)
+  pub record SymbolAnswered (m : List ℕ) (e : ℕ) (a : Result ℕ Refusal) : Type 0 where
+    pub unopened : (said a ≡ refusal 3) ↔ (header_in m ≡ None)
     pub zero : (n : ℕ) → said a ≡ value n → n ≡ 0
     pub finds : (s : Setting) (flows : List ℕ) (t : State s) → Holds m s flows t → Finds (finding s t e) a
 
   -- The symbol call, with the origin beside the 0: whether the known position is heard.
-  pub record SymbolShown (m : List ℕ) (e : ℕ) (a : SymbolAnswer) : Type 0 where
+  pub record SymbolShown (m : List ℕ) (e : ℕ) (a : Result Bool Refusal) : Type 0 where
     pub answered : SymbolAnswered m e (shown_of a)
     pub origin : (s : Setting) (flows : List ℕ) (t : State s) (H : Origins) → Holds m s flows t → Hears m s t H → (p : ℕ) (v : Symbol s.size) (heard : Bool)
-        → finding s t e ≡ shows p v → a ≡ Shown heard → heard ≡ H p
+        → finding s t e ≡ shows p v → a ≡ Ok heard → heard ≡ H p
 
   -- A known symbol is shown as the part of the memory that holds it; else the part is empty.
   abbrev pub Shows : (s : Setting) → Finding s.size → (m part : Bor (List ℕ)) → Type 0
@@ -118,25 +113,25 @@ module _ (L : Layout) where
 
   -- The call for the part, for the ESI e: on any memory the part is empty, or E bytes that lie in it; it is empty where the symbol call says 3.
   pub record PartShown (m part : Bor (List ℕ)) (e : ℕ) : Type 0 where
-    pub unopened : header_in m.now ≡ none → part.now ≡ []
-    pub within : (h : Header) → header_in m.now ≡ some h → (part.now ≡ []) ⊎ ((at : ℕ) × LiesAt part m at h.setting.size)
-    pub whole : (h : Header) → header_in m.now ≡ some h → (part.now ≡ []) ⊎ (length part.now ≡ h.setting.size)
+    pub unopened : header_in m.now ≡ None → part.now ≡ []
+    pub within : (h : Header) → header_in m.now ≡ Some h → (part.now ≡ []) ⊎ ((at : ℕ) × LiesAt part m at h.setting.size)
+    pub whole : (h : Header) → header_in m.now ≡ Some h → (part.now ≡ []) ⊎ (length part.now ≡ h.setting.size)
     pub shows : (s : Setting) (flows : List ℕ) (t : State s) → Holds m.now s flows t → Shows s (finding s t e) m part
 
   -- The call for the place found this: a known symbol's bytes start at its place; else it is the symbol call's refusal.
-  abbrev pub Places : (s : Setting) → Finding s.size → List ℕ → Answer → Type 0
+  abbrev pub Places : (s : Setting) → Finding s.size → List ℕ → Result ℕ Refusal → Type 0
   Places s (shows p v) m a = (said a ≡ value (symbol_start s p)) × (part (symbol_start s p) s.size m ≡ bytes_of s.size v)
   Places s (hides n) m a = said a ≡ refusal n
 
   -- The call for the place of a symbol, for the ESI e, which changes nothing: on any memory a place is that of E bytes in it.
-  pub record PlaceAnswered (m : List ℕ) (e : ℕ) (a : Answer) : Type 0 where
-    pub unopened : (said a ≡ refusal 3) ↔ (header_in m ≡ none)
-    pub within : (h : Header) (at : ℕ) → header_in m ≡ some h → said a ≡ value at → at + h.setting.size ≤ length m
+  pub record PlaceAnswered (m : List ℕ) (e : ℕ) (a : Result ℕ Refusal) : Type 0 where
+    pub unopened : (said a ≡ refusal 3) ↔ (header_in m ≡ None)
+    pub within : (h : Header) (at : ℕ) → header_in m ≡ Some h → said a ≡ value at → at + h.setting.size ≤ length m
     pub places : (s : Setting) (flows : List ℕ) (t : State s) → Holds m s flows t → Places s (finding s t e) m a
 
   -- The ADU call for the ESI e, which changes nothing but its output.
-  pub record AduAnswered (m : List ℕ) (e : ℕ) (out out' : List ℕ) (a : Handed) : Type 0 where
-    pub unopened : (handed_said a ≡ refusal 3) ↔ (header_in m ≡ none)
+  pub record AduAnswered (m : List ℕ) (e : ℕ) (out out' : List ℕ) (a : Result (ℕ × ℕ) Refusal) : Type 0 where
+    pub unopened : (handed_said a ≡ refusal 3) ↔ (header_in m ≡ None)
     pub leaves : Leaves out out' a
     pub hands : (s : Setting) (flows : List ℕ) (t : State s) (M : Starts) → Holds m s flows t → Marks m s t M
         → HandedAs (adu_at s flows t M (length out) e) out out' a

@@ -1,6 +1,6 @@
 -- The system of equations says what the packets say: it contradicts where they do, and it shows what they tell.
 use Rattle.std.specs.Prelude.{◌≡◌, ◌↔◌, ◌⊎◌, ◌∷◌, ◌≤◌, ◌<◌}
-use Rattle.words.specs.Words.{refl, inl, inr, none, some, List, [], ℕ, arith, dec_lt, get_or}
+use Rattle.words.specs.Words.{refl, inl, inr, None, Some, List, [], ℕ, arith, dec_lt, get_or}
 use native.Mathlib.Decide.{dec_le}
 use lib.ListN.{get_or-eq_default}
 use Rattle.memory.specs.Number.{Bytes}
@@ -48,14 +48,14 @@ module _ (E k : ℕ) (some_bytes : 0 < E) (fits : k ≤ 255) where
     agrees : Consistent E (all_say k ps)
     agrees = let (f, s) = theory.filling S in (f, (t.same f).0 s)
 
-    contradicts : (p : Packet) → Formed E p → (insert S (equation_of E k p) ≡ none) ↔ ¬ Consistent E (says k p ∷ all_say k ps)
+    contradicts : (p : Packet) → Formed E p → (insert S (equation_of E k p) ≡ None) ↔ ¬ Consistent E (says k p ∷ all_say k ps)
     contradicts p w =
         let c = theory.contradiction S (equation_of E k p) t.reduced in (
           (λ e (f, (s, a)). c.0 e f ((t.same f).1 a) ((equation-says p w f).1 s)),
           (λ n. c.1 (λ f s z. n (f, ((equation-says p w f).0 z, (t.same f).0 s)))),
         )
 
-    goes_on : (T : State (Coded E) k) (p : Packet) → Formed E p → insert S (equation_of E k p) ≡ some T → Tracks E k (p ∷ ps) T
+    goes_on : (T : State (Coded E) k) (p : Packet) → Formed E p → insert S (equation_of E k p) ≡ Some T → Tracks E k (p ∷ ps) T
     goes_on T p w e =
         let (r, s) = theory.addition S T (equation_of E k p) t.reduced e in
         record {

@@ -1,7 +1,7 @@
 -- The block that computes: the packets' equations over its k positions, in reduced row echelon form (crate `decoder`), in place of the packets.
 -- That its answers are the history's is proved (proofs/Tracking): a reader of the claims need not believe it.
 use Rattle.std.specs.Prelude.{◌≡◌, ◌↔◌, ◌⊎◌, ◌∷◌, ◌≤◌, ◌<◌}
-use Rattle.words.specs.Words.{none, some, List, [], ℕ, get_or}
+use Rattle.words.specs.Words.{None, Some, List, [], ℕ, get_or}
 use Rattle.decoder.specs.Bytes.{byte, Coded}
 use Rattle.decoder.specs.Model.{Row, State, Sat, Rref, insert, known}
 use Rattle.decoder.specs.Receiver.{empty, Accepted}
@@ -26,12 +26,12 @@ pub record Tracking (E k : ℕ) : Type 0 where
   pub begins : Tracks E k [] (empty (Coded E) k)
   -- A packet contradicts exactly where no block satisfies it and all before; else the system goes on with it.
   pub contradicts : (ps : List Packet) (S : State (Coded E) k) → Tracks E k ps S → (p : Packet) → Formed E p
-      → (insert S (equation_of E k p) ≡ none) ↔ ¬ Consistent E (says k p ∷ all_say k ps)
+      → (insert S (equation_of E k p) ≡ None) ↔ ¬ Consistent E (says k p ∷ all_say k ps)
   pub goes_on : (ps : List Packet) (S T : State (Coded E) k) → Tracks E k ps S → (p : Packet) → Formed E p
-      → insert S (equation_of E k p) ≡ some T → Tracks E k (p ∷ ps) T
+      → insert S (equation_of E k p) ≡ Some T → Tracks E k (p ∷ ps) T
   -- Some block satisfies the packets, and what the system shows is what every such block has there.
   pub agrees : (ps : List Packet) (S : State (Coded E) k) → Tracks E k ps S → Consistent E (all_say k ps)
-  pub right : (ps : List Packet) (S : State (Coded E) k) → Tracks E k ps S → (i : ℕ) (v : Symbol E) → known S i ≡ some v
+  pub right : (ps : List Packet) (S : State (Coded E) k) → Tracks E k ps S → (i : ℕ) (v : Symbol E) → known S i ≡ Some v
       → (f : Filling E) → All E (all_say k ps) f → f i ≡ v
   -- It shows all source symbols once k symbols with different ESIs were heard, and before that those that were heard.
   pub shows : (ps : List Packet) (S : State (Coded E) k) → Tracks E k ps S → (n : ℕ) → HeardCount ps n → (i : ℕ) → i < k

@@ -2,7 +2,7 @@
 -- of joining, of starts and of the ADU call, computed from the definitions that the promises use, from the packets' bytes on: one table, one result. All
 -- flows are announced throughout (document 02, No. 7).
 use Rattle.std.specs.Prelude.{◌≡◌, ◌∷◌, ◌*◌}
-use Rattle.words.specs.Words.{[], ℕ, List, refl, some, none, Option, map}
+use Rattle.words.specs.Words.{[], ℕ, List, refl, Some, None, Option, map}
 use Rattle.history.specs.Computing.{computing}
 use Rattle.field.specs.Gf256.{product}
 use Rattle.field.specs.Powers.{inverse}
@@ -58,8 +58,8 @@ after (done p s) = s
 
 -- a call on memory without a sender's header
 abbrev headed : Option Header → Line
-headed none = refusal 3
-headed (some h) = packet []
+headed None = refusal 3
+headed (Some h) = packet []
 
 -- scheme 9, E 4, width 2, and the two ADUs of C7 with F 1
 abbrev opened : Sender

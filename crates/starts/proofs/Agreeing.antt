@@ -1,6 +1,6 @@
 -- Marks that agree up to the width agree after a packet.
 use Rattle.std.specs.Prelude.{◌≡◌, ◌≤◌, ◌+◌, ◌&&◌, ◌||◌}
-use Rattle.words.specs.Words.{arith, ℕ, List, refl, ◌∙◌, ap, some, suc, true, zero, none, false, Bool, Option, leb, eqb, leb-true}
+use Rattle.words.specs.Words.{arith, ℕ, List, refl, ◌∙◌, ap, Some, suc, true, zero, None, false, Bool, Option, leb, eqb, leb-true}
 use Rattle.starts.specs.Adu.{needs, View}
 use Rattle.starts.specs.Starts.{Starts, also, moved, onward, pass}
 
@@ -20,8 +20,8 @@ module _ (w : ℕ) (M N : Starts) (a : Agree w M N) where
       go false e = refl
 
   onward_agree : (E : ℕ) (b : Bool) (o : Option (List ℕ)) (n : ℕ) → Agree w (onward E b o n M) (onward E b o n N)
-  onward_agree E true (some v) n = also_agree (n + needs E v)
-  onward_agree E true none n = a
+  onward_agree E true (Some v) n = also_agree (n + needs E v)
+  onward_agree E true None n = a
   onward_agree E false o n = a
 
 pub pass_agree : (w E : ℕ) (see : View) (M N : Starts) → Agree w M N → (n : ℕ) → n ≤ w → Agree w (pass E see n M) (pass E see n N)

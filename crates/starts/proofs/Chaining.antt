@@ -1,6 +1,6 @@
 -- The pass marks what the marks reach: from a marked known position of the window to the position that its L names, and so on.
 use Rattle.std.specs.Prelude.{◌≡◌, ◌≤◌, ◌+◌, ◌<◌, ◌-◌, ◌*◌, ◌↔◌, ◌⊎◌}
-use Rattle.words.specs.Words.{arith, ℕ, List, refl, sym, ap, some, suc, true, zero, none, false, Bool, subst, Option}
+use Rattle.words.specs.Words.{arith, ℕ, List, refl, sym, ap, Some, suc, true, zero, None, false, Bool, subst, Option}
 use Rattle.words.specs.Words.{some-injective, none-ne-some, add-zero, zero-add, inr, inl, zero-mul, add-suc}
 use mathlib.Core.Bool.{false≢true}
 use Rattle.wire.specs.Packets.{symbol_count}
@@ -25,23 +25,23 @@ module _ (E : ℕ) (see : View) where
   -- The turn of position n: what was marked stays, the position that its L names is marked, and no other.
   module _ (n : ℕ) (M : Starts) where
     pub stays : (b : Bool) (o : Option (List ℕ)) (j : ℕ) → M j ≡ true → onward E b o n M j ≡ true
-    stays true (some v) j h = (also_true (n + needs E v) M j).1 (inr h)
-    stays true none j h = h
+    stays true (Some v) j h = (also_true (n + needs E v) M j).1 (inr h)
+    stays true None j h = h
     stays false o j h = h
 
-    marks : (b : Bool) (o : Option (List ℕ)) (v : List ℕ) → b ≡ true → o ≡ some v → onward E b o n M (n + needs E v) ≡ true
-    marks true (some x) v e f = (also_true (n + needs E x) M (n + needs E v)).1 (inl (ap (λ y. n + needs E y) (some-injective _ _ (sym f))))
-    marks true none v e f = absurd (none-ne-some _ f)
+    marks : (b : Bool) (o : Option (List ℕ)) (v : List ℕ) → b ≡ true → o ≡ Some v → onward E b o n M (n + needs E v) ≡ true
+    marks true (Some x) v e f = (also_true (n + needs E x) M (n + needs E v)).1 (inl (ap (λ y. n + needs E y) (some-injective _ _ (sym f))))
+    marks true None v e f = absurd (none-ne-some _ f)
     marks false o v e f = absurd (false≢true e)
 
     pub no_other : (b : Bool) (o : Option (List ℕ)) (j : ℕ) → onward E b o n M j ≡ true
-        → (M j ≡ true) ⊎ ((v : List ℕ) × (b ≡ true) × (o ≡ some v) × (j ≡ n + needs E v))
-    no_other true (some v) j h = go ((also_true (n + needs E v) M j).0 h)
+        → (M j ≡ true) ⊎ ((v : List ℕ) × (b ≡ true) × (o ≡ Some v) × (j ≡ n + needs E v))
+    no_other true (Some v) j h = go ((also_true (n + needs E v) M j).0 h)
       where
-        go : (j ≡ n + needs E v) ⊎ (M j ≡ true) → (M j ≡ true) ⊎ ((x : List ℕ) × (true ≡ true) × (some v ≡ some x) × (j ≡ n + needs E x))
+        go : (j ≡ n + needs E v) ⊎ (M j ≡ true) → (M j ≡ true) ⊎ ((x : List ℕ) × (true ≡ true) × (Some v ≡ Some x) × (j ≡ n + needs E x))
         go (inl e) = inr (v, refl, refl, e)
         go (inr k) = inl k
-    no_other true none j h = inl h
+    no_other true None j h = inl h
     no_other false o j h = inl h
 
   reaches_on : (w : ℕ) (M : Starts) {j : ℕ} → Reaches E w see M j → Reaches E (suc w) see M j
@@ -54,7 +54,7 @@ module _ (E : ℕ) (see : View) where
   to_reaches (suc w) M j h =
       go (no_other w (pass E see w M) (pass E see w M w) (see w) j h) (to_reaches w M j) (to_reaches w M w)
     where
-      go : (pass E see w M j ≡ true) ⊎ ((v : List ℕ) × (pass E see w M w ≡ true) × (see w ≡ some v) × (j ≡ w + needs E v))
+      go : (pass E see w M j ≡ true) ⊎ ((v : List ℕ) × (pass E see w M w ≡ true) × (see w ≡ Some v) × (j ≡ w + needs E v))
           → (pass E see w M j ≡ true → Reaches E w see M j) → (pass E see w M w ≡ true → Reaches E w see M w) → Reaches E (suc w) see M j
       go (inl k) f g = reaches_on w M (f k)
       go (inr (v, k, e, q)) f g = subst (Reaches E (suc w) see M) (sym q) (next (reaches_on w M (g k)) (omega arith) e)
@@ -74,7 +74,7 @@ module _ (E : ℕ) (see : View) where
         go (no_other (n + d) (pass E see (n + d) M) (pass E see (n + d) M (n + d)) (see (n + d)) n (rw add-suc at h)) (pass_settles n d M)
       where
         go : (pass E see (n + d) M n ≡ true)
-            ⊎ ((v : List ℕ) × (pass E see (n + d) M (n + d) ≡ true) × (see (n + d) ≡ some v) × (n ≡ n + d + needs E v))
+            ⊎ ((v : List ℕ) × (pass E see (n + d) M (n + d) ≡ true) × (see (n + d) ≡ Some v) × (n ≡ n + d + needs E v))
             → (pass E see (n + d) M n ≡ true → pass E see n M n ≡ true) → pass E see n M n ≡ true
         go (inl k) f = f k
         go (inr (v, k, e, q)) f = absurd (omega (arith, q, needs-some E v some_bytes))

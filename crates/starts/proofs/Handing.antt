@@ -5,7 +5,7 @@
 --   Unpacked: what is handed out at the d-th position
 --   handing_exactly
 use Rattle.std.specs.Prelude.{◌≡◌, ◌≤◌, ◌+◌, ◌<◌, ◌∷◌, ◌*◌, ◌++◌, ◌↔◌}
-use Rattle.words.specs.Words.{arith, ℕ, List, length, refl, ◌∙◌, sym, ap, [], some, suc, true, zero, none, false, Bool}
+use Rattle.words.specs.Words.{arith, ℕ, List, length, refl, ◌∙◌, sym, ap, [], Some, suc, true, zero, None, false, Bool}
 use Rattle.words.specs.Words.{subst, Option, drop, ap₂, leb, le-leb, some-injective, none-ne-some, leb-true}
 use Rattle.memory.specs.Part.{part}
 use Rattle.memory.specs.Number.{number, Bytes}
@@ -51,7 +51,7 @@ met b n r e = rw e
 -- The view shows these symbols from the i-th position on.
 abbrev pub Shows : View → (i : ℕ) → List (List ℕ) → Type 0
 Shows see i [] = Unit {0}
-Shows see i (v ∷ vs) = (see i ≡ some v) × Shows see (suc i) vs
+Shows see i (v ∷ vs) = (see i ≡ Some v) × Shows see (suc i) vs
 
 -- The bytes of n symbols that the view shows.
 record Joint (see : View) (i n : ℕ) (x : List ℕ) : Type 0 where
@@ -60,16 +60,16 @@ record Joint (see : View) (i n : ℕ) (x : List ℕ) : Type 0 where
   shown : Shows see i symbols
   bytes : x ≡ joined symbols
 
-joint_shows : (see : View) (i n : ℕ) (x : List ℕ) → joint see i n ≡ some x → Joint see i n x
+joint_shows : (see : View) (i n : ℕ) (x : List ℕ) → joint see i n ≡ Some x → Joint see i n x
 unfolding joint
 joint_shows see i zero x e = record { symbols = []; count = refl; shown = tt; bytes = sym (some-injective _ _ e) }
 joint_shows see i (suc n) x e = go (see i) (joint see (suc i) n) refl refl e (joint_shows see (suc i) n)
   where
-    go : (o r : Option (List ℕ)) → see i ≡ o → joint see (suc i) n ≡ r → before o r ≡ some x
-        → ((y : List ℕ) → joint see (suc i) n ≡ some y → Joint see (suc i) n y) → Joint see i (suc n) x
-    go none r a b e f = absurd (none-ne-some _ e)
-    go (some v) none a b e f = absurd (none-ne-some _ e)
-    go (some v) (some y) a b e f =
+    go : (o r : Option (List ℕ)) → see i ≡ o → joint see (suc i) n ≡ r → before o r ≡ Some x
+        → ((y : List ℕ) → joint see (suc i) n ≡ Some y → Joint see (suc i) n y) → Joint see i (suc n) x
+    go None r a b e f = absurd (none-ne-some _ e)
+    go (Some v) None a b e f = absurd (none-ne-some _ e)
+    go (Some v) (Some y) a b e f =
         let j = f y b in
         record {
           symbols = v ∷ j.symbols;
@@ -78,7 +78,7 @@ joint_shows see i (suc n) x e = go (see i) (joint see (suc i) n) refl refl e (jo
           bytes = sym (some-injective _ _ e) ∙ ap (λ (l : List ℕ). v ++ l) j.bytes;
         }
 
-shows_joint : (see : View) (i : ℕ) (vs : List (List ℕ)) → Shows see i vs → joint see i (length vs) ≡ some (joined vs)
+shows_joint : (see : View) (i : ℕ) (vs : List (List ℕ)) → Shows see i vs → joint see i (length vs) ≡ Some (joined vs)
 unfolding joint
 shows_joint see i [] h = refl
 shows_joint see i (v ∷ vs) h = ap₂ before h.0 (shows_joint see (suc i) vs h.1)
@@ -104,7 +104,7 @@ module _ (E width : ℕ) (flows : List ℕ) (room : ℕ) (least : 4 ≤ E) (see 
 
   -- A whole ADUI of an announced flow is handed out where output has room.
   whole_hands : (flow : ℕ) (adu : List ℕ) → length adu ≤ 65535 → announced flows flow ≡ true → length adu ≤ room
-      → unpack E width flows room (some (adui flow adu E)) ≡ hands flow adu
+      → unpack E width flows room (Some (adui flow adu E)) ≡ hands flow adu
   whole_hands flow adu l k f =
       let x = adui flow adu E in
       let e : length_in x ≡ length adu = adui-length flow adu E l in
@@ -128,20 +128,20 @@ module _ (E width : ℕ) (flows : List ℕ) (room : ℕ) (least : 4 ≤ E) (see 
           let l : length_in v ≡ length adu =
           ap number (sym (part_front 1 2 v (joined vs) (omega (arith, z.0)))) ∙ ap length_in j ∙ adui-length flow adu E u.long in
           let k : needs E v ≡ symbol_count E (length adu) = ap (symbol_count E) l in
-          let x : joint see d (needs E v) ≡ some (adui flow adu E) =
-          ap (joint see d) (k ∙ sym n) ∙ shows_joint see d (v ∷ vs) s ∙ ap (λ (y : List ℕ). some y) j in
+          let x : joint see d (needs E v) ≡ Some (adui flow adu E) =
+          ap (joint see d) (k ∙ sym n) ∙ shows_joint see d (v ∷ vs) s ∙ ap (λ (y : List ℕ). Some y) j in
           met (M d) 13 (begin E width flows room see d (see d)) u.marked ∙ ap (begin E width flows room see d) s.0
           ∙ met (leb (needs E v) width) 14 (unpack E width flows room (joint see d (needs E v))) (le-leb (needs E v) width (omega (arith, k, u.short)))
           ∙ ap (unpack E width flows room) x ∙ whole_hands flow adu u.long u.flow_announced u.fits
 
-  module _ (whole : (i : ℕ) (v : List ℕ) → see i ≡ some v → (length v ≡ E) × Bytes v) where
+  module _ (whole : (i : ℕ) (v : List ℕ) → see i ≡ Some v → (length v ≡ E) × Bytes v) where
     shows_sized : (i : ℕ) (vs : List (List ℕ)) → Shows see i vs → Sized E vs
     shows_sized i [] s = tt
     shows_sized i (v ∷ vs) s = ((whole i v s.0).0, shows_sized (suc i) vs s.1)
 
     module _ (M : Starts) (d flow : ℕ) (adu : List ℕ) where
       -- The symbols are the ADU's.
-      its_symbols : (v x : List ℕ) → see d ≡ some v → needs E v ≤ width → M d ≡ true → (vs : List (List ℕ)) → length vs ≡ needs E v → Shows see d vs
+      its_symbols : (v x : List ℕ) → see d ≡ Some v → needs E v ≤ width → M d ≡ true → (vs : List (List ℕ)) → length vs ≡ needs E v → Shows see d vs
           → x ≡ joined vs → all_zero (drop (3 + length_in x) x) ≡ true → announced flows (flow_in x) ≡ true → length_in x ≤ room
           → hands (flow_in x) (part 3 (length_in x) x) ≡ hands flow adu
           → Unpacked M d flow adu
@@ -179,10 +179,10 @@ module _ (E width : ℕ) (flows : List ℕ) (room : ℕ) (least : 4 ≤ E) (see 
           let (m, k) = needed (M d) 13 (begin E width flows room see d (see d)) flow adu h in
           begun m (see d) refl k
         where
-          opened : M d ≡ true → (v : List ℕ) → see d ≡ some v → needs E v ≤ width → (o : Option (List ℕ)) → joint see d (needs E v) ≡ o
+          opened : M d ≡ true → (v : List ℕ) → see d ≡ Some v → needs E v ≤ width → (o : Option (List ℕ)) → joint see d (needs E v) ≡ o
               → unpack E width flows room o ≡ hands flow adu → Unpacked M d flow adu
-          opened m v e w none j h = absurd (withheld 12 flow adu h)
-          opened m v e w (some x) j h =
+          opened m v e w None j h = absurd (withheld 12 flow adu h)
+          opened m v e w (Some x) j h =
               let (z, q) = needed (all_zero (drop (3 + length_in x) x)) 14 (need (announced flows (flow_in x)) 16 (given x)) flow adu h in
               let (g, k) = needed (announced flows (flow_in x)) 16 (given x) flow adu q in
               let (r, i) = needed (leb (length_in x) room) 2 (hands (flow_in x) (part 3 (length_in x) x)) flow adu k in
@@ -190,8 +190,8 @@ module _ (E width : ℕ) (flows : List ℕ) (room : ℕ) (least : 4 ≤ E) (see 
               its_symbols v x e w m y.symbols y.count y.shown y.bytes z g (leb-true (length_in x) room r) i
 
           begun : M d ≡ true → (o : Option (List ℕ)) → see d ≡ o → begin E width flows room see d o ≡ hands flow adu → Unpacked M d flow adu
-          begun m none e h = absurd (withheld 12 flow adu h)
-          begun m (some v) e h =
+          begun m None e h = absurd (withheld 12 flow adu h)
+          begun m (Some v) e h =
               let (w, k) = needed (leb (needs E v) width) 14 (unpack E width flows room (joint see d (needs E v))) flow adu h in
               opened m v e (leb-true (needs E v) width w) (joint see d (needs E v)) refl k
 

@@ -9,7 +9,7 @@
 --   unseen_settled: where nothing is seen, all is
 --   nothing_open
 use Rattle.std.specs.Prelude.{◌≡◌, ◌≤◌, ◌+◌, ◌<◌, ◌≢◌, ◌&&◌, ◌⊎◌, ◌||◌}
-use Rattle.words.specs.Words.{arith, ℕ, List, refl, ◌∙◌, sym, ap, some, true, none, false, Bool, subst, cond, ltb, eqb, le-leb}
+use Rattle.words.specs.Words.{arith, ℕ, List, refl, ◌∙◌, sym, ap, Some, true, None, false, Bool, subst, cond, ltb, eqb, le-leb}
 use Rattle.words.specs.Words.{ℕ_discrete, some-injective, none-ne-some, dec_lt, ne_eqb, inr, true≢false, inl, ltb-true, add_assoc}
 use Rattle.starts.specs.Adu.{needs, View}
 use Rattle.starts.specs.Starts.{Starts, also, owning, moved, pass}
@@ -37,7 +37,7 @@ module _ (E w : ℕ) (see : View) where
   skipped f M N i r a shut k o = inr (open_agree f N M a k o, λ e. shut (subst (Open E w see f M) e (open_agree f N M a k o)))
 
   -- Where it notes an end past the window.
-  pub noted : (f : ℕ) (M N : Starts) (i r : ℕ) (v : List ℕ) → Agree w N M → see i ≡ some v → w < i + needs E v → (k : ℕ) → Open E w see 1 N k
+  pub noted : (f : ℕ) (M N : Starts) (i r : ℕ) (v : List ℕ) → Agree w N M → see i ≡ Some v → w < i + needs E v → (k : ℕ) → Open E w see 1 N k
       → (k ≡ r) ⊎ (Open E w see f M k × (k ≢ i))
   noted f M N i r v a s l k o = inr (
     record {
@@ -58,7 +58,7 @@ module _ (E w : ℕ) (see : View) where
       p = open_agree 1 N M a k o
 
   -- Where it marks the end.
-  pub set_end : (f : ℕ) (M : Starts) (i : ℕ) (v : List ℕ) → see i ≡ some v → i + needs E v ≤ w → (k : ℕ) → Open E w see f (also (i + needs E v) M) k
+  pub set_end : (f : ℕ) (M : Starts) (i : ℕ) (v : List ℕ) → see i ≡ Some v → i + needs E v ≤ w → (k : ℕ) → Open E w see f (also (i + needs E v) M) k
       → (k ≡ i + needs E v) ⊎ (Open E w see f M k × (k ≢ i))
   set_end f M i v s l k o = go (ℕ_discrete k (i + needs E v))
     where
@@ -148,7 +148,7 @@ module _ (E w : ℕ) (see : View) where
       split (no l) = true≢false (sym here ∙ o.unmarked (omega arith))
 
   -- Where nothing is seen, all is.
-  pub unseen_settled : (f : ℕ) (M : Starts) → ((i : ℕ) → i < w → see i ≡ none) → Settled E w see f M
+  pub unseen_settled : (f : ℕ) (M : Starts) → ((i : ℕ) → i < w → see i ≡ None) → Settled E w see f M
   unseen_settled f M h k o = none-ne-some _ (sym (h k o.inside) ∙ o.sees)
 
 -- ---- after a packet

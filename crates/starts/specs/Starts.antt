@@ -1,7 +1,7 @@
 -- The marks of starts as the receiver computes them: by a position's distance from the base, up to the width.
 -- That these are the history's is proved (crate `claims`): a reader of the claims need not believe it.
 use Rattle.std.specs.Prelude.{◌+◌, ◌&&◌, ◌||◌}
-use Rattle.words.specs.Words.{ℕ, List, some, suc, true, zero, none, false, Bool, Option, cond, ltb, leb, eqb}
+use Rattle.words.specs.Words.{ℕ, List, Some, suc, true, zero, None, false, Bool, Option, cond, ltb, leb, eqb}
 use Rattle.decoder.specs.Tuples.{Tuple, Byte, bytes-of}
 use Rattle.decoder.specs.Bytes.{Coded}
 use Rattle.decoder.specs.Model.{State, known}
@@ -29,8 +29,8 @@ moved width rise M i = leb (rise + i) width && M (rise + i)
 
 -- A marked known position whose L needs n symbols marks the position n later.
 abbrev pub onward : (E : ℕ) → Bool → Option (List ℕ) → ℕ → Starts → Starts
-onward E true (some v) i M = also (i + needs E v) M
-onward E true none i M = M
+onward E true (Some v) i M = also (i + needs E v) M
+onward E true None i M = M
 onward E false o i M = M
 
 -- Rising through the first n positions of the window.
@@ -40,8 +40,8 @@ pass E see (suc n) M = onward E (pass E see n M n) (see n) n (pass E see n M)
 
 -- What a system knows of its window.
 abbrev pub shown : (E : ℕ) → Option (Tuple Byte E) → Option (List ℕ)
-shown E none = none
-shown E (some v) = some (bytes-of E v)
+shown E None = None
+shown E (Some v) = Some (bytes-of E v)
 
 abbrev pub seen : (E w : ℕ) → State (Coded E) w → View
 seen E w S i = shown E (known S i)

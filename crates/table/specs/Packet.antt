@@ -1,7 +1,7 @@
 -- A packet's equations in working memory: a header's bytes, then `w + 1` rows laid out as the state's, in order of arrival. Row `k` holds the `k`th
 -- equation that was kept, and its first flag the column of its pivot. The state stays as it is until all are known to agree with it.
 use Rattle.std.specs.Prelude.{◌≡◌, ◌≤◌, ◌+◌, ◌<◌, ◌%◌}
-use Rattle.words.specs.Words.{ℕ, List, length, some, get_or}
+use Rattle.words.specs.Words.{ℕ, List, length, Some, get_or}
 use Rattle.decoder.specs.Bytes.{Coded}
 use Rattle.decoder.specs.Model.{Row, State}
 use Rattle.decoder.specs.Receiver.{insert_all}
@@ -35,4 +35,4 @@ pub record PivotMarked (w E b : ℕ) (l : List ℕ) : Type 0 where
 pub record Gathered (w E b : ℕ) (S : State (Coded E) w) (work : List ℕ) (kept : ℕ) (es : List (Row (Coded E) w)) : Type 0 where
   pub chain : Chain S (spelled w E b work) kept
   pub marked : (k : ℕ) → k < kept → PivotMarked w E b (row w E k work)
-  pub inserted : insert_all es S ≡ some (place_rows (spelled w E b work) kept S)
+  pub inserted : insert_all es S ≡ Some (place_rows (spelled w E b work) kept S)

@@ -1,7 +1,7 @@
 -- Contracts of inner functions: a reader need not believe these.
 -- Where rows and symbols begin, and what a row's first flag says.
 use Rattle.std.specs.Prelude.{◌≡◌, ◌≤◌, ◌+◌, ◌<◌, ◌%◌, ◌∷◌, ◌↔◌}
-use Rattle.words.specs.Words.{ℕ, List, [], suc, zero, get_or}
+use Rattle.words.specs.Words.{ℕ, List, Bool, [], suc, zero, true, get_or}
 use Rattle.memory.specs.Part.{splice}
 use Rattle.table.specs.Window.{stride, row_offset, row, flag, Alone}
 
@@ -41,7 +41,6 @@ known-flag w E m r = one_if_known (flag w E (row w E r m))
 abbrev pub flagged : (w E r v : ℕ) → List ℕ → List ℕ
 flagged w E r v m = splice (row_offset w E r + (w + E)) (v ∷ []) m
 
--- Whether the row `r` has no coefficient but its own: `n` is 1, else 0.
-pub record Tested (w E r n : ℕ) (m : List ℕ) : Type 0 where
-  pub most : n ≤ 1
-  pub alone : (n ≡ 1) ↔ Alone w r (row w E r m)
+-- Whether the row `r` has no coefficient but its own.
+abbrev pub Tested : (w E r : ℕ) → Bool → List ℕ → Type 0
+Tested w E r alone m = (alone ≡ true) ↔ Alone w r (row w E r m)

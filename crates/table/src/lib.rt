@@ -4,8 +4,11 @@
 
 ghost use Rattle.std.specs.Prelude.{◌≡◌, ◌≤◌, ◌<◌, ◌↔◌};
 ghost use Rattle.words.specs.Words.{length};
-ghost use Rattle.table.specs.Window.{header_size, stride};
+ghost use Rattle.table.specs.Window.{stride};
 ghost use Rattle.table.specs.RowSteps.{RowOf, RowAt, SymbolAt, ZeroFrom};
+
+// How many bytes the header has.
+const HEADER_SIZE: usize = 96;
 
 // A window: how many positions it has, how many bytes a symbol has, and the row of the oldest position.
 #[derive(Clone, Copy)]
@@ -32,13 +35,6 @@ pub fn row_of(shape: Shape, i: usize) -> usize
     row_after(shape, shape.oldest, i)
 }
 
-// How many bytes the header has.
-fn header_size() -> usize
-    ensures { result ≡ header_size }
-{
-    96
-}
-
 // How many bytes a row has: its coefficients, its symbol and its flags.
 pub fn stride(shape: Shape) -> usize
     requires { (shape.width ≤ 255) × (shape.size ≤ 1500) }
@@ -52,7 +48,7 @@ pub fn row_offset(shape: Shape, r: usize) -> usize
     requires { (r ≤ shape.width) × (shape.width ≤ 255) × (shape.size ≤ 1500) }
     ensures { RowAt shape.width shape.size r result }
 {
-    header_size() + r * stride(shape)
+    HEADER_SIZE + r * stride(shape)
 }
 
 // Where the symbol of the row `r` begins: after the coefficients.
@@ -69,8 +65,8 @@ pub fn or_all(bytes: &[u8], from: usize, to: usize) -> u8
     ensures { (result ≡ 0) ↔ ZeroFrom from to bytes.now }
 {
     let mut x: u8 = 0;
-    for i in from..to {
-        x = x | bytes[i];
+    for byte in &bytes[from..to] {
+        x |= *byte;
     }
     x
 }

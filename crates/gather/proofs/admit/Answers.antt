@@ -31,15 +31,15 @@ settle-requires c =
       search rules,
     )
 
-pub returns-then-any-eq0 : goal.returns-then-any-eq0
-returns-then-any-eq0 c =
+pub returns-then-not-any : goal.returns-then-not-any
+returns-then-not-any c =
     let a = c.args in
     admitted_zero a.shape.width a.shape.size a.shape.oldest a.stay a.kept a.first a.count c.staying-n.result
     c.reduce-any.result a.mem.now a.work.now c.reduce-any.new.work c.requires.0
     (λ i. (c.type_inv.mem i).fits) c.requires.1
-    (λ i. ((goal.at.returns-then-any-eq0 c).After-staying-n.type_inv.work i).fits) (λ i. (c.type_inv.work i).fits)
+    (λ i. ((goal.at.returns-then-not-any c).After-staying-n.type_inv.work i).fits) (λ i. (c.type_inv.work i).fits)
     c.staying-n.ensures c.reduce-any.ensures.0 c.reduce-any.ensures.1 c.if-kept-eq0.true
-    c.if-any-eq0.true
+    c.if-not-any.true
 
 pub returns-else-kept-eq0 : goal.returns-else-kept-eq0
 returns-else-kept-eq0 c =

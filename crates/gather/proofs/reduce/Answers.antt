@@ -1,5 +1,5 @@
 -- `gather::reduce` meets its contract.
-use Rattle.words.specs.Words.{arith, subst, sym}
+use Rattle.words.specs.Words.{subst, sym}
 use Rattle.gather.specs.GatherSteps.{StateReduced}
 use Rattle.gather.proofs.Reducing.{state_empty}
 use Rattle.gather.proofs.reduce.Goals as goal
@@ -9,7 +9,7 @@ returns-then-n-eq0 c =
     let a = c.args in (
       subst (λ n. StateReduced a.shape.width a.shape.size a.k a.first n a.mem.now a.work.now a.work.now) (sym c.if-n-eq0.true)
           (state_empty a.shape.width a.shape.size a.k a.first a.mem.now a.work.now c.requires.1),
-      λ e i h. absurd (omega arith),
+      λ e. cc,
     )
 
 pub returns-then-n-eq1 : goal.returns-then-n-eq1
@@ -22,4 +22,4 @@ returns-then-n-eq1 c =
     )
 
 pub returns : goal.returns
-returns c = (c.reduce_columns.ensures, λ e i h. absurd (omega arith))
+returns c = (c.reduce_columns.ensures, λ e. cc)

@@ -34,5 +34,5 @@ returns c =
     let sum = c.add_part in (
       state_one a.shape.width a.shape.size a.k a.c c.multiplier-factor.result at.result from.result a.mem.now a.work.now _
           at.ensures.start from.ensures.start c.requires.1 (omega arith) (omega arith) c.multiplier-factor.ensures sum.ensures,
-      λ e i h. absurd (omega arith),
+      λ e. cc,
     )

@@ -1,20 +1,17 @@
 -- `marks::step_all` meets its contract.
-use Rattle.words.specs.Words.{arith, rules}
+use Rattle.words.specs.Words.{arith}
 use Rattle.marks.proofs.Only.{starts_fits}
 use Rattle.marks.proofs.Passing.{passing-none, passing-more, passed}
 use Rattle.marks.proofs.step_all.Goals as goal
 
 pub loop-i-init : goal.loop-i-init
-loop-i-init c = (search rules, passing-none _ _ _ _)
+loop-i-init c = passing-none _ _ _ _
 
 pub step-requires : goal.step-requires
-step-requires c =
-    (starts_fits c.requires.0 c.loop-i.invariant.1.only, omega arith, omega arith)
+step-requires c = (starts_fits c.requires.0 c.loop-i.invariant.only, omega arith, omega arith)
 
 pub loop-i-preserved : goal.loop-i-preserved
-loop-i-preserved c =
-    let turn = c.loop-i in
-    (search rules, passing-more _ _ _ turn.i _ _ turn.mem _ c.requires.0.some_width turn.invariant.1 c.step.ensures)
+loop-i-preserved c = passing-more _ _ _ c.loop-i.i _ _ _ _ c.requires.0.some_width c.loop-i.invariant c.step.ensures
 
 pub returns : goal.returns
-returns c = passed _ _ _ _ _ _ (omega arith) c.loop-i.invariant.1
+returns c = passed _ _ _ _ _ _ (omega arith) c.loop-i.invariant

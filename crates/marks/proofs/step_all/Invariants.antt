@@ -1,10 +1,6 @@
 -- `marks::step_all` meets its contract.
-use Rattle.std.specs.Prelude.{◌≤◌, ◌-◌}
 use Rattle.marks.proofs.Passing.{Passing}
 use Rattle.marks.proofs.step_all.Given as goal
 
 abbrev pub invariant-loop-i : goal.invariant-loop-i
-invariant-loop-i l = (l.i ≤ l.w) × Passing l.shape.width l.shape.size l.shape.oldest l.i l.initial.mem l.mem
-
-abbrev pub decreases-loop-i : goal.decreases-loop-i
-decreases-loop-i l = l.w - l.i
+invariant-loop-i l = Passing l.shape.width l.shape.size l.shape.oldest l.i l.initial.mem l.mem

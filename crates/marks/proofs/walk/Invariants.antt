@@ -7,4 +7,4 @@ abbrev pub invariant-loop-i : goal.invariant-loop-i
 invariant-loop-i l = Walking l.shape.width l.shape.size l.shape.oldest l.from l.i l.initial.mem l.mem
 
 abbrev pub decreases-loop-i : goal.decreases-loop-i
-decreases-loop-i l = l.w - l.i
+decreases-loop-i l = l.shape.width - l.i

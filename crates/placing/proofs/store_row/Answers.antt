@@ -10,9 +10,4 @@ copy_part-requires c =
 
 pub returns : goal.returns
 returns c =
-    let a = c.args in
-    let at = c.row_offset-at in
-    let copied = c.copy_part in
-    let marked = c.mark in
-    stored_copy a.shape.width a.shape.size a.r marked.result at.result a.row.now a.mem.now copied.new.mem marked.new.mem
-    c.requires.0 (omega arith) (omega arith) at.ensures.start copied.ensures marked.ensures
+    stored_copy _ _ _ _ _ _ _ _ _ c.requires.0 (omega arith) (omega arith) c.row_offset-at.ensures.start c.copy_part.ensures c.mark.ensures

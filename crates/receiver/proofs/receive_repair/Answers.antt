@@ -1,38 +1,36 @@
 -- `receiver::receive_repair` meets its contract.
-use Rattle.words.specs.Words.{arith, subst}
-use Rattle.admission.specs.Reading.{RepairRead}
+use Rattle.words.specs.Words.{arith}
+use Rattle.admission.proofs.Locating.{handed_on, some_of, none_of}
 use Rattle.receiver.proofs.Receiving.{received_failed, accept_asks}
 use Rattle.receiver.proofs.Drawing.{answered_refused, answered_done}
 use Rattle.receiver.proofs.RepairCall.{gather_asks, call_contradicts, call_done}
 use Rattle.receiver.proofs.receive_repair.Goals as goal
 
-pub returns-in-Fails : goal.returns-in-Fails
-returns-in-Fails c =
-    answered_refused
-    (received_failed _ _ _ _ (subst (RepairRead _ _ _ _) c.in-Fails.is c.read_repair.ensures))
+pub returns-in_err-header : goal.returns-in_err-header
+returns-in_err-header c =
+    rw (handed_on c.from_residual.ensures.1) (answered_refused (received_failed _ _ _ _ c.in_err-header.ensures))
 
-pub gather_repair-requires : goal.gather_repair-requires
-gather_repair-requires c =
-    gather_asks _ _ _ _ c.in-Located.passed (subst (RepairRead _ _ _ _) c.in-Located.is c.read_repair.ensures)
+pub gather_repair-gathered-requires : goal.gather_repair-gathered-requires
+gather_repair-gathered-requires c = gather_asks _ _ _ _ _ c.in_ok-header.ensures
 
-pub returns-in_default : goal.returns-in_default
-returns-in_default c =
-    let gathered = c.gather_repair in
-    let read = subst (RepairRead _ _ _ _) c.in-Located.is c.read_repair.ensures in
-    answered_refused (call_contradicts _ _ _ _ c.in-Located.passed read gathered.result _ gathered.ensures c.in_default.is)
+pub returns-in_err-kept : goal.returns-in_err-kept
+returns-in_err-kept c =
+    let gathered = c.gather_repair-gathered in
+    let (o, is) = none_of c.ok_or.ensures.value c.in_err-kept.was in
+    rw (handed_on c.from_residual-in_err-kept.ensures.1, is)
+    (answered_refused (call_contradicts _ _ _ _ _ c.in_ok-header.ensures gathered.result _ gathered.ensures o))
 
 pub accept-requires : goal.accept-requires
 accept-requires c =
-    let gathered = c.gather_repair in
-    let read = subst (RepairRead _ _ _ _) c.in-Located.is c.read_repair.ensures in
-    accept_asks _ _ c.args.work.now _ _ _ c.in-Located.passed read.passes _
-    gathered.result _ _ c.in-All.is gathered.ensures.works (omega arith)
+    let gathered = c.gather_repair-gathered in
+    accept_asks _ _ c.args.work.now _ _ _ _ c.in_ok-header.ensures.passes _
+    gathered.result _ _ (some_of _ c.ok_or.ensures.value c.in_ok-kept.was) gathered.ensures.works (omega arith)
 
 pub returns : goal.returns
 returns c =
-    let s = subst (RepairRead _ _ _ _) c.in-Located.is c.read_repair.ensures in
-    let gathered = c.gather_repair in
-    let kept = c.in-All.is in
+    let s = c.in_ok-header.ensures in
+    let gathered = c.gather_repair-gathered in
+    let kept = some_of _ c.ok_or.ensures.value c.in_ok-kept.was in
     let accepted = c.accept.ensures in
     answered_done s.header _ _ _ _ gathered.result _ _ _ _ s.passes.has kept gathered.ensures.works accepted s.draws s.small
-    (call_done _ _ _ _ c.in-Located.passed s gathered.result _ gathered.ensures _ _ _ _ kept accepted (omega arith))
+    (call_done _ _ _ _ _ s gathered.result _ gathered.ensures _ _ _ _ kept accepted (omega arith))

@@ -1,9 +1,10 @@
 -- `receiver::symbol_place` meets its contract.
+use Rattle.admission.proofs.Locating.{handed_on}
 use Rattle.receiver.proofs.Placing.{place_found, place_missing}
 use Rattle.receiver.proofs.symbol_place.Goals as goal
 
-pub returns-in-At : goal.returns-in-At
-returns-in-At c = place_found _ _ c.find.result _ _ _ c.in-At.is c.find.ensures
+pub returns-in_err-find : goal.returns-in_err-find
+returns-in_err-find c = rw (handed_on c.from_residual.ensures.1) (place_missing _ _ _ c.in_err-find.ensures)
 
-pub returns-in-Nowhere : goal.returns-in-Nowhere
-returns-in-Nowhere c = place_missing _ _ c.find.result _ c.in-Nowhere.is c.find.ensures
+pub returns : goal.returns
+returns c = place_found _ _ _ c.in_ok-find.ensures

@@ -1,10 +1,7 @@
--- `table::or_all` meets its contract. The loop: x is zero just where every byte before i is.
-use Rattle.std.specs.Prelude.{◌≡◌, ◌≤◌, ◌-◌, ◌↔◌}
+-- `table::or_all` meets its contract. The loop: x is zero just where every byte so far is.
+use Rattle.std.specs.Prelude.{◌≡◌, ◌+◌, ◌↔◌}
 use Rattle.table.specs.RowSteps.{ZeroFrom}
 use Rattle.table.proofs.or_all.Given as goal
 
-abbrev pub invariant-loop-i : goal.invariant-loop-i
-invariant-loop-i l = (l.from ≤ l.i) × (l.i ≤ l.to) × ((l.x ≡ 0) ↔ ZeroFrom l.from l.i l.bytes)
-
-abbrev pub decreases-loop-i : goal.decreases-loop-i
-decreases-loop-i l = l.to - l.i
+abbrev pub invariant-loop-byte : goal.invariant-loop-byte
+invariant-loop-byte l = (l.x ≡ 0) ↔ ZeroFrom l.from (l.from + l.byte-index) l.bytes

@@ -3,7 +3,7 @@ use Rattle.std.specs.Prelude.{◌≡◌, ◌≤◌, ◌+◌, ◌*◌}
 use Rattle.words.specs.Words.{arith, ℕ, ap}
 use Rattle.memory.proofs.Parts.{row_fits}
 use Rattle.table.specs.declared.Shape.{Shape}
-use Rattle.table.specs.Window.{stride, row_offset}
+use Rattle.table.specs.Window.{header_size, stride, row_offset}
 use Rattle.table.proofs.Offsets.{flags_fit, small_row}
 use Rattle.table.proofs.row_offset.Goals as goal
 use Rattle.table.proofs.row_offset.Goals.{After-stride}
@@ -26,9 +26,11 @@ pub overflow_mul-result : goal.overflow_mul-result
 overflow_mul-result c = omega (arith, product (goal.at.overflow_mul-result c).After-stride, bound (goal.at.overflow_mul-result c).After-stride)
 
 pub overflow_add-result : goal.overflow_add-result
+unfolding header_size
 overflow_add-result c = omega (arith, product (goal.at.overflow_add-result c).After-stride, bound (goal.at.overflow_add-result c).After-stride)
 
 pub returns : goal.returns
+unfolding header_size
 returns c =
     let p = (goal.at.returns c).After-stride in
     let f = row_fits ((s p).width + 1) (stride (s p).width (s p).size) (r p) (omega arith) in

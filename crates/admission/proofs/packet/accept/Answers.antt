@@ -35,13 +35,13 @@ follows : (c : After-update)
 follows c =
     let a = c.args in
     let known = c.finish-known.result in
-    let more = c.excess.result in
+    let more = c.saturating_sub.result in
     followed a.header a.location a.kept a.own known c.known_among-had.result c.known_among-has.result (not (eqb known more))
     a.work.now a.mem.now c.finish-known.new.mem c.update.new.mem c.requires.0 c.requires.4 c.finish-known.ensures
     (subst
     (λ (x : Shape). Tallied x.width x.size x.oldest (a.location.rise + a.location.offset) a.own c.known_among-had.result a.mem.now)
     c.shape.ensures c.known_among-had.ensures) c.known_among-has.ensures
-    (λ e. eqb-true known more (not-false (eqb known more) e) ∙ c.excess.ensures) c.update.ensures
+    (λ e. eqb-true known more (not-false (eqb known more) e) ∙ c.saturating_sub.ensures) c.update.ensures
 
 pub update-requires-2 : goal.update-requires-2
 update-requires-2 c =

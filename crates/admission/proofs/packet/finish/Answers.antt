@@ -22,21 +22,6 @@ committed c = rw c.shape.ensures at c.commit-count.ensures
 pub overflow_cast-location : goal.overflow_cast-location
 overflow_cast-location c = omega (arith, limits)
 
-pub store_u16-requires : goal.store_u16-requires
-store_u16-requires c =
-    let a = c.args in
-    omega (arith, (based_fits a.mem.now a.header c.requires.0).room, (committed (goal.at.store_u16-requires c).After-commit-count).unchanged.size)
-
-pub store_u32-requires : goal.store_u32-requires
-store_u32-requires c =
-    let a = c.args in
-    omega (
-      arith,
-      (based_fits a.mem.now a.header c.requires.0).room,
-      (committed (goal.at.store_u32-requires c).After-commit-count).unchanged.size,
-      c.store_u16.auto.mem,
-    )
-
 pub returns : goal.returns
 returns c =
     let esi = c.store_u32 in

@@ -8,17 +8,13 @@ loop-i-init c =
     let a = c.args in
     (omega arith, gathers_none a.location _ _ a.mem.now a.work.now c.requires.1)
 
-pub admit_symbol-requires : goal.admit_symbol-requires
-admit_symbol-requires c =
-    let p = c.requires in
-    (p.0, c.loop-i.invariant.1.works, p.2, p.3, p.4, omega (arith, p.5), omega (arith, p.5, p.6))
-
-pub returns-in_default : goal.returns-in_default
-returns-in_default c =
+pub returns-in_err-kept : goal.returns-in_err-kept
+returns-in_err-kept c =
     let l = c.loop-i in
     let admitted = c.admit_symbol in
-    gathers_stop _ _ _ _ _ l.i _ l.kept admitted.result l.work admitted.new.work (omega arith) l.invariant.1 admitted.ensures
-    c.in_default.is
+    rw c.from_residual.ensures
+    (gathers_stop _ _ _ _ _ l.i _ l.kept admitted.result l.work admitted.new.work (omega arith) l.invariant.1 admitted.ensures
+    c.in_err-kept.was)
 
 pub loop-i-preserved : goal.loop-i-preserved
 loop-i-preserved c =
@@ -26,7 +22,7 @@ loop-i-preserved c =
     let admitted = c.admit_symbol in (
       omega arith,
       gathers_on _ _ _ _ _ l.i l.kept _ admitted.result l.work admitted.new.work l.invariant.1 admitted.ensures
-          c.in-All.is,
+          c.in_ok-kept.was,
     )
 
 pub returns : goal.returns

@@ -1,17 +1,9 @@
 -- `holding::find::side_of` meets its contract.
 use Rattle.words.specs.Words.{arith}
 use Rattle.history.specs.History.{halfway}
-use Rattle.holding.proofs.Standing.{finds_ahead, finds_behind}
+use Rattle.holding.proofs.Standing.{finds_side}
 use Rattle.holding.proofs.find.side_of.Goals as goal
 
-pub returns-then-d-lt-HALFWAY : goal.returns-then-d-lt-HALFWAY
+pub returns : goal.returns
 unfolding halfway
-returns-then-d-lt-HALFWAY c =
-    let a = c.args in
-    finds_ahead a.base.0 a.esi.0 c.distance-d.result (omega arith) c.distance-d.ensures c.if-d-lt-HALFWAY.true
-
-pub returns-else-d-lt-HALFWAY : goal.returns-else-d-lt-HALFWAY
-unfolding halfway
-returns-else-d-lt-HALFWAY c =
-    let a = c.args in
-    finds_behind a.base.0 a.esi.0 c.distance-d.result (omega arith) c.distance-d.ensures c.if-d-lt-HALFWAY.false
+returns c = rw c.then_some.ensures (finds_side c.args.base.0 c.args.esi.0 c.distance-d.result (omega arith) c.distance-d.ensures)
