@@ -1,9 +1,9 @@
 -- The symbol with an ESI, of the source symbols that stand in a memory; and the packets.
 -- One symbol: rows-combination, symbol_made, symbol_length, symbols_are, symbol_is. Lent memory: lent.
 -- Packets: source-length, repair-length, source-written, repair-written. The call that makes repair: made.
-use Rattle.std.specs.Prelude.{◌≡◌, ◌≤◌, ◌+◌, ◌<◌, ◌-◌, ◌*◌}
+use Rattle.std.specs.Prelude.{◌≡◌, ◌≤◌, ◌+◌, ◌<◌, ◌-◌, ◌*◌, Ok}
 use Rattle.words.specs.Words.{arith, ℕ, List, length, refl, ◌∙◌, sym, ap, ap₂, [], get_or, drop, take, replicate, ext_get_or}
-use Rattle.words.specs.Words.{length-append, some, true, leb, leb-true}
+use Rattle.words.specs.Words.{length-append, Some, true, leb, leb-true}
 use Rattle.memory.specs.Part.{part, splice}
 use Rattle.memory.proofs.Parts.{part-drop, cut, length_part, whole}
 use Rattle.wire.specs.Packets.{chunks}
@@ -17,7 +17,6 @@ use Rattle.blocks.specs.declared.Block.{Block}
 use Rattle.blocks.specs.declared.identifier.Identifier.{Identifier}
 use Rattle.blocks.specs.Identifiers.{identifier_bytes, identifier_of, source_packet, repair_packet}
 use Rattle.blocks.specs.Stored.{block_in, taken_in}
-use Rattle.wire.specs.declared.Answer.TheVariants.{Done}
 use Rattle.block_encoder.specs.State.{Encoder, symbol_of, Holds}
 use Rattle.block_encoder.specs.Calls.{done, repairing}
 use Rattle.block_encoder.specs.Promises.{Makes}
@@ -100,9 +99,9 @@ module _ (b : Block) (esi : ℕ) where
 -- ---- The call that makes repair
 
 -- The repair packet was written.
-pub made : (b : Block) (esi : ℕ) (m out out' : List ℕ) → block_in 3 m ≡ some b → leb (b.size + 6) (length out) ≡ true → b.k ≤ esi → esi < b.total
+pub made : (b : Block) (esi : ℕ) (m out out' : List ℕ) → block_in 3 m ≡ Some b → leb (b.size + 6) (length out) ≡ true → b.k ≤ esi → esi < b.total
     → (t : ℕ) → t ≡ taken_in m → b.k ≤ t → out' ≡ splice 0 (repair_packet b esi (symbol_from b.k b.size m esi)) out
-    → Makes esi m out (Done (b.size + 6)) out'
+    → Makes esi m out (Ok (b.size + 6)) out'
 made b esi m out out' h f l g t c n o =
     let y = symbol_from b.k b.size m esi in
     promise_done (λ e. repairing e esi (length out)) m out b h (repair_packet b esi y) (b.size + 6) m out'

@@ -1,8 +1,8 @@
 -- From the case that a call came to, to what it promises.
 -- Any call: kept, promise_unopened, promise_refused, promise_done. What each call comes to: opening_bad, opening_short, opening_done;
 -- adding_short, adding_full, adding-long, adding_done; repairing_short, repairing_low, repairing_high, repairing_early, repairing_done.
-use Rattle.std.specs.Prelude.{◌≡◌, ◌≤◌, ◌+◌, ◌<◌}
-use Rattle.words.specs.Words.{arith, ℕ, List, length, refl, ◌∙◌, sym, ap, [], some, true, none, false, subst, leb, le-leb, lt-leb}
+use Rattle.std.specs.Prelude.{◌≡◌, ◌≤◌, ◌+◌, ◌<◌, Result, Ok, Err}
+use Rattle.words.specs.Words.{arith, ℕ, List, length, refl, ◌∙◌, sym, ap, [], Some, true, None, false, subst, leb, le-leb, lt-leb}
 use Rattle.words.specs.Words.{some-injective, none-ne-some, lt-ltb, le-ltb}
 use Rattle.memory.specs.Part.{splice}
 use Rattle.memory.specs.Contained.{Contained}
@@ -10,11 +10,8 @@ use Rattle.memory.proofs.Parts.{length-splice, past-splice}
 use Rattle.wire.specs.declared.Refusal.{Refusal}
 use Rattle.wire.specs.Numbers.{number_of}
 use Rattle.wire.specs.Answers.{value}
-use Rattle.wire.specs.declared.Answer.{Answer}
-use Rattle.wire.specs.declared.Answer.TheVariants.{Done, Refused}
 use Rattle.history.specs.History.{memory_size}
 use Rattle.blocks.specs.declared.Block.{Block}
-use Rattle.blocks.specs.declared.Named.TheVariants.{Good, Bad}
 use Rattle.blocks.specs.Block.{block_of, setting_for}
 use Rattle.blocks.specs.Stored.{block_in}
 use Rattle.blocks.specs.Identifiers.{source_packet, repair_packet}
@@ -22,22 +19,22 @@ use Rattle.block_encoder.specs.State.{Encoder, fresh, taken, symbol_of, Holds}
 use Rattle.block_encoder.specs.Calls.{Outcome, refused, done, opening, adding, repairing}
 use Rattle.block_encoder.specs.Promises.{RefusedWith, Follows, Kept, Promise}
 
-pub kept : (n : Refusal) (m out : List ℕ) → RefusedWith (number_of n) m out (Refused n) m out
+pub kept : (n : Refusal) (m out : List ℕ) → RefusedWith (number_of n) m out (Err n) m out
 kept n m out = record { answer = refl; memory = refl; output = refl }
 
 -- ---- Any call
 
 module _ (f : Encoder → Outcome) (m out : List ℕ) where
   -- No header.
-  pub promise_unopened : block_in 3 m ≡ none → (r : Answer) → RefusedWith 3 m out r m out → Promise f m out r m out
+  pub promise_unopened : block_in 3 m ≡ None → (r : Result ℕ Refusal) → RefusedWith 3 m out r m out → Promise f m out r m out
   promise_unopened e r k = record {
     unopened = λ _. k;
     kept = λ b q. absurd (none-ne-some b (sym e ∙ q));
     follows = λ s h. absurd (none-ne-some s.block (sym e ∙ h.header));
   }
 
-  module _ (b : Block) (e : block_in 3 m ≡ some b) where
-    promise_opened : (r : Answer) (m' out' : List ℕ) → Kept b m out r m' out'
+  module _ (b : Block) (e : block_in 3 m ≡ Some b) where
+    promise_opened : (r : Result ℕ Refusal) (m' out' : List ℕ) → Kept b m out r m' out'
         → ((s : Encoder) → Holds m s → b ≡ s.block → Follows (f s) m out r m' out')
         → Promise f m out r m' out'
     promise_opened r m' out' c g = record {
@@ -48,9 +45,9 @@ module _ (f : Encoder → Outcome) (m out : List ℕ) where
 
     -- A refusal other than 3.
     pub promise_refused : (n : Refusal) → (number_of n ≡ 3 → ⊥) → ((s : Encoder) → Holds m s → b ≡ s.block → f s ≡ refused (number_of n))
-        → Promise f m out (Refused n) m out
+        → Promise f m out (Err n) m out
     promise_refused n z g =
-        promise_opened (Refused n) m out
+        promise_opened (Err n) m out
         (record { memory = record { same = refl; past = refl }; leaves = (z, refl, refl) })
         (λ s k q. rw (g s k q) (kept n m out))
 
@@ -58,9 +55,9 @@ module _ (f : Encoder → Outcome) (m out : List ℕ) where
     pub promise_done : (packet : List ℕ) (n : ℕ) (m' out' : List ℕ) → length packet ≡ n → n ≤ length out → out' ≡ splice 0 packet out
         → Contained (memory_size (setting_for b)) m m'
         → ((s : Encoder) → Holds m s → b ≡ s.block → (s' : Encoder) × (f s ≡ done packet s') × Holds m' s' × (b ≡ s'.block))
-        → Promise f m out (Done n) m' out'
+        → Promise f m out (Ok n) m' out'
     promise_done packet n m' out' l k o c g =
-        promise_opened (Done n) m' out'
+        promise_opened (Ok n) m' out'
         (record {
           memory = c;
           leaves = (
@@ -78,11 +75,11 @@ module _ (f : Encoder → Outcome) (m out : List ℕ) where
 -- ---- Opening
 
 module _ (E k total number : ℕ) (m : List ℕ) where
-  pub opening_bad : (r : Refusal) → block_of E k total number ≡ Bad r → opening E k total number (length m) ≡ refused (number_of r)
+  pub opening_bad : (r : Refusal) → block_of E k total number ≡ Err r → opening E k total number (length m) ≡ refused (number_of r)
   unfolding opening
   opening_bad r e = rw e
 
-  module _ (b : Block) (e : block_of E k total number ≡ Good b) where
+  module _ (b : Block) (e : block_of E k total number ≡ Ok b) where
     pub opening_short : length m < memory_size (setting_for b) → opening E k total number (length m) ≡ refused 2
     unfolding opening
     opening_short h = rw (e, lt-leb (memory_size (setting_for b)) (length m) h)

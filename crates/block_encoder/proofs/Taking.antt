@@ -1,7 +1,7 @@
 -- Opening, and taking an ADU: the memory afterwards holds the encoder that took it.
--- Sizes: symbols-room, symbol_room. Opening: opens. Taking: took (record Took), added.
-use Rattle.std.specs.Prelude.{◌≡◌, ◌≤◌, ◌+◌, ◌<◌, ◌∷◌, ◌*◌, ◌++◌}
-use Rattle.words.specs.Words.{arith, ℕ, List, length, refl, ◌∙◌, sym, ap, [], some, get_or, take}
+-- Sizes: symbols-room, symbol_room. Opening: opens. Taking: taken_is, took (record Took), added.
+use Rattle.std.specs.Prelude.{◌≡◌, ◌≤◌, ◌+◌, ◌<◌, ◌∷◌, ◌*◌, ◌++◌, Ok}
+use Rattle.words.specs.Words.{arith, ℕ, List, length, refl, ◌∙◌, sym, ap, [], Some, get_or, take}
 use Rattle.words.specs.Words.{length-append, not-suc-le-zero, mul-le-mul, dec_lt, get_or-append, true, leb, leb-true}
 use lib.Seq.{get_or_at}
 use Rattle.memory.specs.Part.{part, splice}
@@ -10,7 +10,6 @@ use Rattle.memory.specs.Contained.{Contained}
 use Rattle.memory.proofs.Number.{number-bytes}
 use Rattle.memory.proofs.Parts.{length-splice, past-splice, take-splice, part-splice, part-before, part-past, row_fits}
 use Rattle.wire.specs.Stored.{setting_bytes}
-use Rattle.wire.specs.declared.Answer.TheVariants.{Done}
 use Rattle.wire.specs.Packets.{symbol_at}
 use Rattle.history.specs.History.{memory_size}
 use Rattle.blocks.specs.declared.Block.{Block}
@@ -41,7 +40,7 @@ unfolding splice
 nothing = refl
 
 pub opens : (b : Block) (m : List ℕ) → Valid b → memory_size (setting_for b) ≤ length m
-    → DoneWith [] (fresh b) m [] (Done 0) (splice 0 (block_bytes 3 b) m) []
+    → DoneWith [] (fresh b) m [] (Ok 0) (splice 0 (block_bytes 3 b) m) []
 unfolding block_bytes setting_bytes
 opens b m v room = record {
   answer = refl;
@@ -60,12 +59,17 @@ opens b m v room = record {
 
 -- ---- Taking an ADU
 
+-- How many ADUs were taken.
+pub taken_is : (m : List ℕ) (n : ℕ) → n ≡ number (part 10 2 m) → n ≡ taken_in m
+unfolding taken_in
+taken_is m n e = e
+
 -- The symbol y is put in place t, and then t + 1 is written as the number of ADUs taken.
 pub record Took (b : Block) (flow : ℕ) (adu m m' : List ℕ) : Type 0 where
   pub memory : Contained (memory_size (setting_for b)) m m'
   pub holds : (e : Encoder) → Holds m e → b ≡ e.block → Holds m' (taken e flow adu)
 
-module _ (b : Block) (flow t : ℕ) (adu m : List ℕ) (h : block_in 3 m ≡ some b) (n : t < b.k) (l : 3 + length adu ≤ b.size) where
+module _ (b : Block) (flow t : ℕ) (adu m : List ℕ) (h : block_in 3 m ≡ Some b) (n : t < b.k) (l : 3 + length adu ≤ b.size) where
   abbrev y : List ℕ
   y = symbol_at flow adu b.size 0
 
@@ -149,7 +153,7 @@ module _ (b : Block) (flow t : ℕ) (adu m : List ℕ) (h : block_in 3 m ≡ som
 
   -- The symbol was put, the number written, and the source packet.
   pub added : t ≡ taken_in m → (out m₁ m₂ out' : List ℕ) → leb (length adu + 6) (length out) ≡ true → m₁ ≡ put → m₂ ≡ splice 10 (bytes 2 (t + 1)) m₁
-      → out' ≡ splice 0 (source_packet b t adu) out → Adds flow adu m out (Done (length adu + 6)) m₂ out'
+      → out' ≡ splice 0 (source_packet b t adu) out → Adds flow adu m out (Ok (length adu + 6)) m₂ out'
   added c out m₁ m₂ out' f e₁ e₂ o =
       let is : m₂ ≡ m' = e₂ ∙ ap (splice 10 (bytes 2 (t + 1))) e₁ in
       let k = took c in

@@ -1,14 +1,14 @@
 -- What each call of an encoder comes to (document 02, No. 9): the refusals in their order, else the packet that is written and the encoder after it. Refusal 3
 -- comes before all of these.
-use Rattle.std.specs.Prelude.{◌+◌, ◌&&◌}
+use Rattle.std.specs.Prelude.{◌+◌, ◌&&◌, Result, Ok, Err}
 use Rattle.words.specs.Words.{ℕ, List, length, [], Bool, cond, leb, ltb}
 use Rattle.wire.specs.Numbers.{number_of}
 use Rattle.history.specs.History.{memory_size}
-use Rattle.blocks.specs.declared.Named.{Named}
-use Rattle.blocks.specs.declared.Named.TheVariants.{Good, Bad}
 use Rattle.blocks.specs.Block.{block_of, setting_for}
 use Rattle.blocks.specs.Identifiers.{source_packet, repair_packet}
 use Rattle.block_encoder.specs.State.{Encoder, fresh, taken, symbol_of}
+use Rattle.wire.specs.declared.Refusal.{Refusal}
+use Rattle.blocks.specs.declared.Block.{Block}
 
 -- What a call comes to: the number of a refusal; or the packet written, if any, and the encoder after it.
 pub data Outcome : Type 0 where
@@ -20,9 +20,9 @@ abbrev pub unless : Bool → ℕ → Outcome → Outcome
 unless t n o = cond t o (refused n)
 
 -- Opening on `room` bytes of memory: 1 or 18, then 2.
-abbrev pub opening_with : Named → (room : ℕ) → Outcome
-opening_with (Bad r) room = refused (number_of r)
-opening_with (Good b) room = unless (leb (memory_size (setting_for b)) room) 2 (done [] (fresh b))
+abbrev pub opening_with : Result Block Refusal → (room : ℕ) → Outcome
+opening_with (Err r) room = refused (number_of r)
+opening_with (Ok b) room = unless (leb (memory_size (setting_for b)) room) 2 (done [] (fresh b))
 
 unfoldable pub opening : (E k total number room : ℕ) → Outcome
 opening E k total number room = opening_with (block_of E k total number) room

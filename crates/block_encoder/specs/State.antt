@@ -1,6 +1,6 @@
 -- What the encoder of a block is (document 02, No. 9), and how its memory holds it: a header, then the source symbols one after the other.
 use Rattle.std.specs.Prelude.{◌≡◌, ◌≤◌, ◌+◌, ◌<◌, ◌*◌, ◌++◌}
-use Rattle.words.specs.Words.{ℕ, List, length, [], some, get_or}
+use Rattle.words.specs.Words.{ℕ, List, length, [], Some, get_or}
 use Rattle.memory.specs.Part.{part}
 use Rattle.wire.specs.Packets.{source_symbols}
 use Rattle.rows.specs.Combination.{combination}
@@ -33,7 +33,7 @@ symbol_at b i = 96 + i * b.size
 
 -- The memory m holds the encoder e.
 pub record Holds (m : List ℕ) (e : Encoder) : Type 0 where
-  pub header : block_in 3 m ≡ some e.block
+  pub header : block_in 3 m ≡ Some e.block
   pub count : taken_in m ≡ length e.symbols
   pub few : length e.symbols ≤ e.block.k
   pub stored : (i : ℕ) → i < length e.symbols → part (symbol_at e.block i) e.block.size m ≡ get_or e.symbols i []

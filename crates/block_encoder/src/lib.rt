@@ -11,42 +11,35 @@ ghost use Rattle.block_encoder.specs.Promises.{Opens, Adds, Makes};
 ghost use Rattle.block_encoder.specs.Inner.{symbol_from};
 
 use blocks::identifier::Identifier;
-use blocks::{Block, Found, Named, identifier};
+use blocks::{Block, HEADER, identifier};
 use holding::front;
-use wire::Refusal;
+use wire::{Kind, Refusal};
 
 // What a call answers: the number of bytes written (opening: 0), or a refusal.
-pub use wire::Answer;
-
-// The bytes of the header; the source symbols stand one after the other after it.
-const HEADER: usize = 96;
-
-// The kind of a memory that encodes a block.
-const KIND: u16 = 3;
 
 // Opens the encoder of a block in the memory.
-pub fn open(mem: &mut [u8], size: usize, k: usize, total: usize, number: usize) -> Answer
+pub fn open(
+    mem: &mut [u8],
+    size: usize,
+    k: usize,
+    total: usize,
+    number: usize,
+) -> Result<usize, Refusal>
     ensures { Opens size k total number mem.old result mem.new }
 {
-    let block = match blocks::block_of(size, k, total, number) {
-        Named::Good(block) => block,
-        Named::Bad(why) => return Answer::Refused(why),
-    };
+    let block = blocks::block_of(size, k, total, number)?;
     if mem.len() < front::memory_size(blocks::setting_for(block)) {
-        return Answer::Refused(Refusal::Short);
+        return Err(Refusal::Short);
     }
-    blocks::write_block(mem, KIND, block);
-    Answer::Done(0)
+    blocks::write_block(mem, Kind::Encoder, block);
+    Ok(0)
 }
 
 // Whether n bytes and an identifier have room in so many.
 fn has_room(room: usize, n: usize) -> bool
     ensures { result ≡ leb (n + 6) room }
 {
-    if room < 6 {
-        return false;
-    }
-    n <= room - 6
+    6 <= room && n <= room - 6
 }
 
 // The identifier of a symbol of a block.
@@ -81,51 +74,35 @@ fn write_source(out: &mut [u8], block: Block, esi: usize, adu: &[u8])
 }
 
 // Adds an ADU, which is the next source symbol, and writes its source packet.
-pub fn add_adu(mem: &mut [u8], flow: u8, adu: &[u8], out: &mut [u8]) -> Answer
+pub fn add_adu(mem: &mut [u8], flow: u8, adu: &[u8], out: &mut [u8]) -> Result<usize, Refusal>
     ensures { Adds flow adu.now mem.old out.old result mem.new out.new }
 {
-    let Found::BlockIs(block) = blocks::read_block(mem, KIND) else {
-        return Answer::Refused(Refusal::Unopened);
-    };
+    let block = blocks::read_block(mem, Kind::Encoder).ok_or(Refusal::Unopened)?;
     if !has_room(out.len(), adu.len()) {
-        return Answer::Refused(Refusal::Short);
+        return Err(Refusal::Short);
     }
     let taken = memory::load_u16(mem, 10) as usize;
     if block.k <= taken {
-        return Answer::Refused(Refusal::Block);
+        return Err(Refusal::Block);
     }
     if block.size - 3 < adu.len() {
-        return Answer::Refused(Refusal::Long);
+        return Err(Refusal::Long);
     }
     put_adu(mem, block.size, taken, flow, adu);
     memory::store_u16(mem, 10, (taken + 1) as u16);
     write_source(out, block, taken, adu);
-    Answer::Done(adu.len() + 6)
+    Ok(adu.len() + 6)
 }
 
-// Room for the coefficients of the largest block.
-fn no_coefficients() -> [u8; 255]
-    ensures { length result ≡ 255 }
-{
-    [0; 255]
-}
-
-// The symbol with an ESI, of as many source symbols in the memory as `list` has bytes; what these are does not matter.
-fn encode_by(out: &mut [u8], mem: &[u8], list: &mut [u8], esi: usize)
-    requires { (96 + length list.old * length out.old ≤ length mem.now) × (0 < length list.old) × (length list.old ≤ 255) × (esi < 255) }
-    ensures { out.new ≡ symbol_from (length list.old) (length out.old) mem.now esi }
-{
-    interpolation::fill(list, esi);
-    sums::combine(out, list, mem, HEADER, out.len());
-}
-
-// The symbol with an ESI, of the k source symbols in the memory.
+// The symbol with an ESI, of the k source symbols in the memory, which stand one after the other after the header.
 fn encode(out: &mut [u8], mem: &[u8], k: usize, esi: usize)
     requires { (96 + k * length out.old ≤ length mem.now) × (0 < k) × (k ≤ 255) × (esi < 255) }
     ensures { out.new ≡ symbol_from k (length out.old) mem.now esi }
 {
-    let mut list = no_coefficients();
-    encode_by(out, mem, &mut list[..k], esi);
+    let mut room = [0; 255];
+    let list = &mut room[..k];
+    interpolation::fill(list, esi);
+    sums::combine(out, list, mem, HEADER, out.len());
 }
 
 // The repair packet with an ESI, at the front of the output.
@@ -140,24 +117,19 @@ fn write_repair(out: &mut [u8], mem: &[u8], block: Block, esi: usize)
 }
 
 // Writes the repair packet with an ESI.
-pub fn make_repair(mem: &[u8], esi: usize, out: &mut [u8]) -> Answer
+pub fn make_repair(mem: &[u8], esi: usize, out: &mut [u8]) -> Result<usize, Refusal>
     ensures { Makes esi mem.now out.old result out.new }
 {
-    let Found::BlockIs(block) = blocks::read_block(mem, KIND) else {
-        return Answer::Refused(Refusal::Unopened);
-    };
+    let block = blocks::read_block(mem, Kind::Encoder).ok_or(Refusal::Unopened)?;
     if !has_room(out.len(), block.size) {
-        return Answer::Refused(Refusal::Short);
+        return Err(Refusal::Short);
     }
-    if esi < block.k {
-        return Answer::Refused(Refusal::Block);
-    }
-    if block.total <= esi {
-        return Answer::Refused(Refusal::Block);
+    if esi < block.k || block.total <= esi {
+        return Err(Refusal::Block);
     }
     if (memory::load_u16(mem, 10) as usize) < block.k {
-        return Answer::Refused(Refusal::Empty);
+        return Err(Refusal::Empty);
     }
     write_repair(out, mem, block, esi);
-    Answer::Done(block.size + 6)
+    Ok(block.size + 6)
 }

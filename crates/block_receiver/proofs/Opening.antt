@@ -1,12 +1,11 @@
 -- Opening: what it answers, and that the memory it leaves holds a block of which nothing was received.
 -- Laws: opening_bad, opening-refused, opening_done.
-use Rattle.std.specs.Prelude.{◌≡◌, ◌≤◌}
-use Rattle.words.specs.Words.{arith, ℕ, length, List, refl, ◌∙◌, sym, ap, some, true, false, Bool, subst, cond, ltb, lt-leb, le-leb, ltb-true, ltb-false}
+use Rattle.std.specs.Prelude.{◌≡◌, ◌≤◌, Result, Ok, Err}
+use Rattle.words.specs.Words.{arith, ℕ, length, List, refl, ◌∙◌, sym, ap, Some, true, false, Bool, subst, cond, ltb, lt-leb, le-leb, ltb-true, ltb-false}
 use Rattle.memory.specs.Part.{splice}
 use Rattle.memory.specs.Contained.{Contained}
 use Rattle.memory.proofs.Parts.{length-splice, past-splice, get_or-past}
 use Rattle.wire.specs.declared.Refusal.{Refusal}
-use Rattle.wire.specs.declared.Answer.TheVariants.{Done, Refused}
 use Rattle.wire.specs.Numbers.{number_of}
 use Rattle.wire.specs.Answers.{value, refusal, said}
 use Rattle.wire.specs.Settings.{setting_of}
@@ -22,7 +21,6 @@ use Rattle.holding.proofs.Headers.{setting_fits}
 use Rattle.origins.proofs.Hearing.{hears_same}
 use Rattle.receiver.specs.Layout.{receiver_layout}
 use Rattle.blocks.specs.declared.Block.{Block}
-use Rattle.blocks.specs.declared.Named.TheVariants.{Good, Bad}
 use Rattle.blocks.specs.Block.{block_of, setting_for, Valid}
 use Rattle.blocks.specs.Stored.{block_bytes}
 use Rattle.blocks.proofs.Values.{block_from, good_names, setting_valid}
@@ -34,7 +32,7 @@ use Rattle.history.specs.Model.{unheard}
 use Rattle.receiver.specs.Promises as receiver
 
 module _ (E k total number : ℕ) (m : List ℕ) where
-  refused-with : (x : Refusal) → said (Refused x) ≡ opening (block_of E k total number) (length m) → Opened block_layout E k total number m m (Refused x)
+  refused-with : (x : Refusal) → said (Err x) ≡ opening (block_of E k total number) (length m) → Opened block_layout E k total number m m (Err x)
   refused-with x e = record {
     answer = e;
     refused = λ n q. refl;
@@ -43,11 +41,11 @@ module _ (E k total number : ℕ) (m : List ℕ) where
     origins = λ b q z. absurd (subst IsRefusal z tt);
   }
 
-  pub opening_bad : (x : Refusal) → block_of E k total number ≡ Bad x → Opened block_layout E k total number m m (Refused x)
+  pub opening_bad : (x : Refusal) → block_of E k total number ≡ Err x → Opened block_layout E k total number m m (Err x)
   opening_bad x e = refused-with x (ap (λ n. opening n (length m)) (sym e))
 
 -- The numbers name a block, and its memory was opened as a receiver's.
-module _ (E k total number : ℕ) (v : Valid (block_from E k total number)) (good : block_of E k total number ≡ Good (block_from E k total number))
+module _ (E k total number : ℕ) (v : Valid (block_from E k total number)) (good : block_of E k total number ≡ Ok (block_from E k total number))
     (flows m m₁ : List ℕ) where
   abbrev b : Block
   b = block_from E k total number
@@ -55,31 +53,38 @@ module _ (E k total number : ℕ) (v : Valid (block_from E k total number)) (goo
   abbrev size : ℕ
   size = memory_size (setting_for b)
 
-  named : setting_of 10 E k ≡ some (setting_for b)
+  named : setting_of 10 E k ≡ Some (setting_for b)
   named = setting-named (setting_for b) (setting_valid b v)
 
-  pub opening-refused : (x : Refusal) → receiver.Opened receiver_layout 10 E k flows m m₁ (Refused x) → Opened block_layout E k total number m m₁ (Refused x)
-  opening-refused x o =
-      subst (λ n. Opened block_layout E k total number m n (Refused x)) (sym (o.refused (number_of x) refl))
+  pub opening-refused : (x : Refusal) {r : Result ℕ Refusal} → r ≡ Err x → receiver.Opened receiver_layout 10 E k flows m m₁ r
+      → Opened block_layout E k total number m m₁ (Err x)
+  opening-refused x got answered =
+      subst (λ n. Opened block_layout E k total number m n (Err x)) (sym (o.refused (number_of x) refl))
       (refused-with E k total number m x (go (ltb (length m) size) refl))
     where
-      is : said (Refused x) ≡ cond (ltb (length m) size) (refusal 2) (value 0)
+      o : receiver.Opened receiver_layout 10 E k flows m m₁ (Err x)
+      o = subst (receiver.Opened receiver_layout 10 E k flows m m₁) got answered
+
+      is : said (Err x) ≡ cond (ltb (length m) size) (refusal 2) (value 0)
       is = o.answer ∙ ap (λ y. receiver.opening y (length m)) named
 
-      go : (t : Bool) → ltb (length m) size ≡ t → said (Refused x) ≡ opening (block_of E k total number) (length m)
+      go : (t : Bool) → ltb (length m) size ≡ t → said (Err x) ≡ opening (block_of E k total number) (length m)
       go true f =
-          let short : opening (Good b) (length m) ≡ refusal 2 = rw (lt-leb size (length m) (ltb-true (length m) size f)) in
+          let short : opening (Ok b) (length m) ≡ refusal 2 = rw (lt-leb size (length m) (ltb-true (length m) size f)) in
           (rw f at is) ∙ sym (ap (λ n. opening n (length m)) good ∙ short)
       go false f = absurd (subst IsValue (sym (rw f at is)) tt)
 
-  module _ (n : ℕ) (o : receiver.Opened receiver_layout 10 E k flows m m₁ (Done n)) where
-    is : said (Done n) ≡ cond (ltb (length m) size) (refusal 2) (value 0)
+  module _ (n : ℕ) {r : Result ℕ Refusal} (got : r ≡ Ok n) (answered : receiver.Opened receiver_layout 10 E k flows m m₁ r) where
+    o : receiver.Opened receiver_layout 10 E k flows m m₁ (Ok n)
+    o = subst (receiver.Opened receiver_layout 10 E k flows m m₁) got answered
+
+    is : said (Ok n) ≡ cond (ltb (length m) size) (refusal 2) (value 0)
     is = o.answer ∙ ap (λ y. receiver.opening y (length m)) named
 
-    long : (size ≤ length m) × (said (Done n) ≡ value 0)
+    long : (size ≤ length m) × (said (Ok n) ≡ value 0)
     long = go (ltb (length m) size) refl
       where
-        go : (t : Bool) → ltb (length m) size ≡ t → (size ≤ length m) × (said (Done n) ≡ value 0)
+        go : (t : Bool) → ltb (length m) size ≡ t → (size ≤ length m) × (said (Ok n) ≡ value 0)
         go true f = absurd (subst IsRefusal (sym (rw f at is)) tt)
         go false f = (ltb-false (length m) size f, rw f at is)
 
@@ -108,12 +113,12 @@ module _ (E k total number : ℕ) (v : Valid (block_from E k total number)) (goo
         (λ i l. get_or-past i 0 (block_bytes 4 b) m₁ (omega (arith, header_fits, header-long)) (omega arith))
         (o.origins (setting_for b) named long.1 0)
 
-    same : (c : Block) → block_of E k total number ≡ Good c → b ≡ c
+    same : (c : Block) → block_of E k total number ≡ Ok c → b ≡ c
     same c q = sym (good_names E k total number c q).0
 
-    pub opening_done : (m' : List ℕ) → m' ≡ splice 0 (block_bytes 4 b) m₁ → Opened block_layout E k total number m m' (Done 0)
-    opening_done m' e =
-        subst (λ x. Opened block_layout E k total number m x (Done 0)) (sym e) (record {
+    pub opening_done : (c : Block) (m' : List ℕ) → c ≡ b → m' ≡ splice 0 (block_bytes 4 c) m₁ → Opened block_layout E k total number m m' (Ok 0)
+    opening_done c m' i e =
+        subst (λ x. Opened block_layout E k total number m x (Ok 0)) (sym (e ∙ ap (λ x. splice 0 (block_bytes 4 x) m₁) i)) (record {
           answer = sym (ap (λ x. opening x (length m)) good ∙ rw (le-leb size (length m) long.0));
           refused = λ x q. absurd (subst IsValue q tt);
           contained = λ c q.

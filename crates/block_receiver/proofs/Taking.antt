@@ -1,8 +1,8 @@
 -- A packet's equation laid in the first row of working memory, and what becomes of it.
 -- A row: lagranges-length, first-row, work_room; laid_only, laid_works, laid_row. What was admitted: admitted_as, inserted_kept, inserted_implied, inserted_contradicts.
 -- With the origins: took_news, took_contradicts, inserted_as, updated_as, took_as.
-use Rattle.std.specs.Prelude.{◌≡◌, ◌≤◌, ◌+◌, ◌<◌, ◌%◌, ◌∷◌, ◌-◌}
-use Rattle.words.specs.Words.{arith, ℕ, length, List, refl, ◌∙◌, sym, ap, ap₂, [], some, none, suc, zero, get_or, subst, Option}
+use Rattle.std.specs.Prelude.{◌≡◌, ◌≤◌, ◌+◌, ◌<◌, ◌%◌, ◌∷◌, ◌-◌, Result, Ok, Err}
+use Rattle.words.specs.Words.{arith, ℕ, length, List, refl, ◌∙◌, sym, ap, ap₂, [], Some, None, suc, zero, get_or, subst, Option}
 use Rattle.words.specs.Words.{drop, zero-mul, zero-add, add-zero, add-suc, suc-add, mod-eq_of_lt, get_or-drop}
 use native.Mathlib.Nat.{zero-mod}
 use mathlib.Core.Path.{subst₂}
@@ -36,16 +36,13 @@ use Rattle.recovery.specs.Block.{Packet}
 use Rattle.recovery.specs.Model.{equation_of}
 use Rattle.blocks.specs.declared.Block.{Block}
 use Rattle.blocks.specs.Block.{setting_for}
-use Rattle.receiver.specs.declared.PacketAnswer.{PacketAnswer}
-use Rattle.receiver.specs.declared.PacketAnswer.TheVariants.{Accepted, NotAccepted}
 use Rattle.wire.specs.declared.Refusal.TheVariants as refusals
-use Rattle.block_receiver.specs.declared.take.Taken.{Taken}
-use Rattle.block_receiver.specs.declared.take.Taken.TheVariants.{News, Contradicts}
 use Rattle.block_receiver.specs.Inner.{shape_of, row_with, first_row, Joins, Inserted, Ready, Took}
 use Rattle.table.specs.declared.Shape.{Shape}
 use Rattle.origins.specs.Origins as origins
 use Rattle.decoder.specs.Packets as packets
 use Rattle.gather.specs.declared.Verdict.TheVariants as verdict
+use Rattle.wire.specs.declared.Refusal.{Refusal}
 
 pub lagranges-length : (k j : ℕ) → length (lagranges k j) ≡ k
 unfolding lagranges
@@ -117,9 +114,9 @@ module _ (E k : ℕ) (p : Packet) (v : List ℕ) (g : Works k E 0 v) (size : len
 -- ---- What was admitted
 
 -- One equation alone.
-alone : {A : Type 0} (o : Option A) → and_then o (λ s. some s) ≡ o
-alone none = refl
-alone (some a) = refl
+alone : {A : Type 0} (o : Option A) → and_then o (λ s. Some s) ≡ o
+alone None = refl
+alone (Some a) = refl
 
 insert_one : (E k : ℕ) (S : State (Coded E) k) (e : Row (Coded E) k) → insert_all (e ∷ []) S ≡ insert S e
 unfolding insert_all
@@ -133,8 +130,8 @@ nothing_new (suc m) f g e =
     ap₂ ◌+◌ (ap (λ o. is_new o (g 0)) (e 0) ∙ old (g 0)) (nothing_new m (λ i. f (suc i)) (λ i. g (suc i)) (λ i. e (suc i)))
   where
     old : {A : Type 0} (o : Option A) → is_new o o ≡ 0
-    old none = refl
-    old (some a) = refl
+    old None = refl
+    old (Some a) = refl
 
 spans : (k : ℕ) (l : List ℕ) → Spans k 0 k l
 spans k l j h n = absurd (n j h (ap (λ i. i % k) (zero-add j) ∙ mod-eq_of_lt h))
@@ -150,7 +147,7 @@ module _ (k E : ℕ) (m v v' : List ℕ) (g : Works k E 0 v) where
         a.outcome 0 0 0 S [] (zero-mod k) (omega arith) (zero-mod k) g.some_width (omega arith) held reduced (spans k (row k E 0 v))
         (gathered_none k E 0 S v (omega (arith, g.some_symbol)))
 
-  pub inserted_kept : (n : ℕ) (m' : List ℕ) → Admitted k E 0 k 0 0 k verdict.Kept m v v' → Committed k E 0 0 1 n v' m m' → Inserted k E m m' v v' (News n)
+  pub inserted_kept : (n : ℕ) (m' : List ℕ) → Admitted k E 0 k 0 0 k verdict.Kept m v v' → Committed k E 0 0 1 n v' m m' → Inserted k E m m' v v' (Some n)
   unfolding advance_by
   inserted_kept n m' a c = record {
     kept = c.unchanged;
@@ -159,12 +156,12 @@ module _ (k E : ℕ) (m v v' : List ℕ) (g : Works k E 0 v) where
     outcome = outcome;
   }
     where
-      outcome : (S : State (Coded E) k) → Window k E m 0 S → Rref S → Joins k E (first_row k E v) S m' (News n)
+      outcome : (S : State (Coded E) k) → Window k E m 0 S → Rref S → Joins k E (first_row k E v) S m' (Some n)
       outcome S held reduced =
           let (T, i, w, q) = c.outcome 0 S (first_row k E v ∷ []) (zero-mod k) held reduced (agreed verdict.Kept a S held reduced) in
           (T, sym (insert_one E k S (first_row k E v)) ∙ i, w, q)
 
-  pub inserted_implied : Admitted k E 0 k 0 0 k verdict.Implied m v v' → Inserted k E m m v v' (News 0)
+  pub inserted_implied : Admitted k E 0 k 0 0 k verdict.Implied m v v' → Inserted k E m m v v' (Some 0)
   unfolding place_rows newly
   inserted_implied a = record {
     kept = kept_refl;
@@ -178,7 +175,7 @@ module _ (k E : ℕ) (m v v' : List ℕ) (g : Works k E 0 v) where
     );
   }
 
-  pub inserted_contradicts : Admitted k E 0 k 0 0 k verdict.Contradiction m v v' → Inserted k E m m v v' Contradicts
+  pub inserted_contradicts : Admitted k E 0 k 0 0 k verdict.Contradiction m v v' → Inserted k E m m v v' None
   inserted_contradicts a = record {
     kept = kept_refl;
     only = row-only verdict.Contradiction a;
@@ -211,7 +208,7 @@ module _ (b : Block) (m m₁ v v' : List ℕ) (g : Ready b m v) where
   abbrev E : ℕ
   E = b.size
 
-  pub took_news : (first own n : ℕ) (m' : List ℕ) → Inserted k E m m₁ v v' (News n) → Updated k E 0 k first own m₁ m' → Took b first own m m' v v' (Accepted n 0)
+  pub took_news : (first own n : ℕ) (m' : List ℕ) → Inserted k E m m₁ v v' (Some n) → Updated k E 0 k first own m₁ m' → Took b first own m m' v v' (Ok (n, 0))
   took_news first own n m' i u = record {
     memory = contained_from (memory_size (setting_for b)) m m' (u.only.size ∙ i.kept.size)
         (λ j l. u.only.past j (omega (arith, memory_is (setting_for b))) ∙ same_past (row_offset k E k) m m₁ i.kept.past j (omega (arith, memory_is (setting_for b))));
@@ -229,12 +226,12 @@ module _ (b : Block) (m m₁ v v' : List ℕ) (g : Ready b m v) where
       past : (j : ℕ) → row_offset k E k ≤ j → get_or m₁ j 0 ≡ get_or m j 0
       past = same_past (row_offset k E k) m m₁ i.kept.past
 
-      outcome : (S : State (Coded E) k) → Window k E m 0 S → Rref S → Joins k E (first_row k E v) S m' (News n)
+      outcome : (S : State (Coded E) k) → Window k E m 0 S → Rref S → Joins k E (first_row k E v) S m' (Some n)
       outcome S held reduced =
           let (T, e, w, q) = i.outcome S held reduced in
           (T, e, origins-window pos u.only 0 T w, q)
 
-  pub took_contradicts : (first own : ℕ) → Inserted k E m m₁ v v' Contradicts → Took b first own m m₁ v v' (NotAccepted refusals.Contradiction)
+  pub took_contradicts : (first own : ℕ) → Inserted k E m m₁ v v' None → Took b first own m m₁ v v' (Err refusals.Contradiction)
   took_contradicts first own i = record {
     memory = record { same = i.kept.size; past = ap (drop (memory_size (setting_for b))) i.left };
     header = i.kept.header;
@@ -243,14 +240,14 @@ module _ (b : Block) (m m₁ v v' : List ℕ) (g : Ready b m v) where
   }
 
 -- The same with the shape and the answer as the code has them.
-pub inserted_as : (b : Block) {s : Shape} {x y : Taken} {m m' v v' : List ℕ} → s ≡ shape_of b → x ≡ y → Inserted s.width s.size m m' v v' x
+pub inserted_as : (b : Block) {s : Shape} {x y : Option ℕ} {m m' v v' : List ℕ} → s ≡ shape_of b → x ≡ y → Inserted s.width s.size m m' v v' x
     → Inserted b.k b.size m m' v v' y
-inserted_as b {m = m} {m'} {v} {v'} p q i = subst₂ (λ (s : Shape) (y : Taken). Inserted s.width s.size m m' v v' y) p q i
+inserted_as b {m = m} {m'} {v} {v'} p q i = subst₂ (λ (s : Shape) (y : Option ℕ). Inserted s.width s.size m m' v v' y) p q i
 
 pub updated_as : (b : Block) {s : Shape} {stay first own : ℕ} {m m' : List ℕ} → s ≡ shape_of b → Updated s.width s.size s.oldest stay first own m m'
     → Updated b.k b.size 0 stay first own m m'
 updated_as b {stay = stay} {first} {own} {m} {m'} p u = subst (λ (s : Shape). Updated s.width s.size s.oldest stay first own m m') p u
 
 -- And with working memory as it was laid.
-pub took_as : {b : Block} {first own : ℕ} {m m' v w v' : List ℕ} {a : PacketAnswer} → v ≡ w → Took b first own m m' v v' a → Took b first own m m' w v' a
+pub took_as : {b : Block} {first own : ℕ} {m m' v w v' : List ℕ} {a : Result (ℕ × ℕ) Refusal} → v ≡ w → Took b first own m m' v v' a → Took b first own m m' w v' a
 took_as {b} {first} {own} {m} {m'} {v' = v'} {a} e t = subst (λ x. Took b first own m m' x v' a) e t

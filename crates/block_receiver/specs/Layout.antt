@@ -2,7 +2,7 @@
 -- (crate `origins`), as a receiver of width k whose base is 0.
 -- The claims hold of every layout: a reader of them need not believe this one.
 use Rattle.std.specs.Prelude.{◌≡◌, ◌+◌}
-use Rattle.words.specs.Words.{ℕ, List, some}
+use Rattle.words.specs.Words.{ℕ, List, Some}
 use Rattle.decoder.specs.Model.{Rref}
 use Rattle.table.specs.Window.{row_offset, Window}
 use Rattle.history.specs.Model.{Origins}
@@ -13,7 +13,7 @@ use Rattle.block_receiver.specs.Promises.{Layout}
 use Rattle.origins.specs.Origins as origins
 
 pub record Holds (m : List ℕ) (b : Block) (S : System b) : Type 0 where
-  pub header : block_in 4 m ≡ some b
+  pub header : block_in 4 m ≡ Some b
   pub reduced : Rref S
   pub rows : Window b.k b.size m 0 S
 

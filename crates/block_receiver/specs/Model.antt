@@ -1,7 +1,7 @@
 -- The block that computes: the packets' equations over its k positions, in reduced row echelon form (crate `decoder`), in place of the packets.
 -- The promises give answers and states by it. That these are the history's is proved (crate `recovery`, proofs/Tracking): a reader of the claims need not
 -- believe it.
-use Rattle.words.specs.Words.{ℕ, some, none, Option, cond, ltb}
+use Rattle.words.specs.Words.{ℕ, Some, None, Option, cond, ltb}
 use Rattle.decoder.specs.Bytes.{Coded}
 use Rattle.decoder.specs.Receiver.{empty, newly}
 use Rattle.history.specs.Symbol.{Symbol}
@@ -37,8 +37,8 @@ module _ {b : Block} where
 
 module _ (b : Block) where
   abbrev pub added : System b → Option (System b) → Outcome b
-  added S none = refused 11
-  added S (some T) = done (newly (record { base = 0; window = S }) (record { base = 0; window = T })) T
+  added S None = refused 11
+  added S (Some T) = done (newly (record { base = 0; window = S }) (record { base = 0; window = T })) T
 
   -- A call of which the checks before 11 have made this.
   abbrev pub responds : System b → Reading → Outcome b
@@ -51,8 +51,8 @@ module _ (b : Block) where
 
   -- The symbol call for the ESI e: 12 for k and more, or where it is not known.
   abbrev pub shown : (e : ℕ) → Option (Symbol b.size) → Finding b.size
-  shown e none = hides 12
-  shown e (some v) = shows e v
+  shown e None = hides 12
+  shown e (Some v) = shows e v
 
   unfoldable pub finding : System b → (e : ℕ) → Finding b.size
   finding S e = cond (ltb e b.k) (shown e (decoder.known S e)) (hides 12)

@@ -8,21 +8,10 @@ ghost use Rattle.table.specs.Packet.{Works};
 ghost use Rattle.blocks.specs.Block.{Valid};
 ghost use Rattle.block_receiver.specs.Inner.{shape_of, row_with, Inserted, Ready, Took};
 
-use blocks::Block;
+use blocks::{Block, HEADER};
 use gather::Verdict;
-use receiver::PacketAnswer;
 use table::Shape;
 use wire::Refusal;
-
-// What becomes of an equation: how many source symbols have become known by it; or it contradicts those before.
-#[derive(Clone, Copy)]
-pub enum Taken {
-    News(usize),
-    Contradicts,
-}
-
-// The bytes of the header.
-const HEADER: usize = 96;
 
 // The shape of a block's window.
 pub fn shape_of(block: Block) -> Shape
@@ -48,6 +37,7 @@ pub fn lay_source(work: &mut [u8], block: Block, esi: usize, flow: u8, adu: &[u8
 }
 
 // The equation of a repair packet: the coefficients of its ESI, and its symbol.
+// Kept: it shares one call with the equation of a source packet, whose symbol is written from its parts, not copied; one function for both is longer.
 pub fn lay_repair(work: &mut [u8], block: Block, esi: usize, symbol: &[u8])
     requires { Valid block × Works block.k block.size 0 work.old × (esi < 255) × (length symbol.now ≡ block.size) }
     ensures { work.new ≡ row_with block.k esi symbol.now work.old }
@@ -58,30 +48,31 @@ pub fn lay_repair(work: &mut [u8], block: Block, esi: usize, symbol: &[u8])
 }
 
 // The equation in the first row of working memory joins those of the memory, which is only read until the equation is known to agree.
-fn insert(mem: &mut [u8], work: &mut [u8], shape: Shape) -> Taken
+fn insert(mem: &mut [u8], work: &mut [u8], shape: Shape) -> Option<usize>
     requires { Fits shape.width shape.size mem.old × Works shape.width shape.size 0 work.old × (shape.oldest ≡ 0) }
     ensures { Inserted shape.width shape.size mem.old mem.new work.old work.new result }
 {
     let k = shape.width;
-    let verdict = gather::admit(mem, work, shape, k, 0, 0, k);
-    match verdict {
-        Verdict::Kept => Taken::News(placing::commit(mem, work, shape, 0, 1)),
-        Verdict::Implied => Taken::News(0),
-        Verdict::Contradiction => Taken::Contradicts,
+    match gather::admit(mem, work, shape, k, 0, 0, k) {
+        Verdict::Kept => Some(placing::commit(mem, work, shape, 0, 1)),
+        Verdict::Implied => Some(0),
+        Verdict::Contradiction => None,
     }
 }
 
 // The same, with `own` source symbols of the packet's own from `first` on, which are heard then.
-pub fn take(mem: &mut [u8], work: &mut [u8], block: Block, first: usize, own: usize) -> PacketAnswer
+pub fn take(
+    mem: &mut [u8],
+    work: &mut [u8],
+    block: Block,
+    first: usize,
+    own: usize,
+) -> Result<(usize, u32), Refusal>
     requires { Ready block mem.old work.old × (first + own ≤ block.k) }
     ensures { Took block first own mem.old mem.new work.old work.new result }
 {
     let shape = shape_of(block);
-    match insert(mem, work, shape) {
-        Taken::News(n) => {
-            origins::update(mem, shape, block.k, first, own);
-            PacketAnswer::Accepted(n, 0)
-        }
-        Taken::Contradicts => PacketAnswer::NotAccepted(Refusal::Contradiction),
-    }
+    let n = insert(mem, work, shape).ok_or(Refusal::Contradiction)?;
+    origins::update(mem, shape, block.k, first, own);
+    Ok((n, 0))
 }

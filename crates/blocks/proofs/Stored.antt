@@ -1,8 +1,9 @@
 -- The header of a block: what reading it finds, what refusal 3 stands for, and what writing it leaves.
--- Answers told apart: block-is, block_none. Reading: Headed, headed, found, none-setting. Refusal 3: zeros-none, one_kind, short_none.
+-- Answers handed on: handed_on. Reading: Headed, headed, found, none-setting. Refusal 3: zeros-none, one_kind, short_none.
 -- Writing: block_written, none-taken, chain, block_kept.
-use Rattle.std.specs.Prelude.{◌≡◌, ◌≤◌, ◌<◌, ◌++◌}
-use Rattle.words.specs.Words.{arith, ℕ, List, length, refl, ◌∙◌, sym, ap, some, true, none, false, Bool, subst, Option, take, leb}
+use Rattle.std.specs.Prelude.{◌≡◌, ◌≤◌, ◌<◌, ◌++◌, Result, Ok, Err}
+use Rattle.std.specs.Result.{result_ok, IsErrAnd}
+use Rattle.words.specs.Words.{arith, ℕ, List, length, refl, ◌∙◌, sym, ap, Some, true, None, false, Bool, subst, Option, take, leb}
 use Rattle.words.specs.Words.{le-leb, lt-leb, leb-true, some-injective, none-ne-some, length-take, zero-add}
 use lib.Seq.{take-take}
 use Rattle.memory.specs.Part.{part, splice}
@@ -16,23 +17,17 @@ use Rattle.wire.proofs.Settings as wire
 use Rattle.wire.proofs.Adui.{front_next}
 use Rattle.history.specs.History.{memory_size}
 use Rattle.blocks.specs.declared.Block.{Block}
-use Rattle.blocks.specs.declared.Named.{Named}
-use Rattle.blocks.specs.declared.Named.TheVariants.{Good, Bad}
-use Rattle.blocks.specs.declared.Found.{Found}
-use Rattle.blocks.specs.declared.Found.TheVariants.{BlockIs, NoBlock}
 use Rattle.blocks.specs.Block.{block_of, Valid, setting_for}
-use Rattle.blocks.specs.Stored.{good_of, block_with, block_in, taken_in, block_bytes, found_of}
+use Rattle.blocks.specs.Stored.{block_with, block_in, taken_in, block_bytes}
 use Rattle.blocks.proofs.Values.{named_good, good_names, setting_valid}
+use Rattle.wire.specs.declared.Refusal.{Refusal}
 
--- ---- What an answer that was told apart says
+-- ---- What an answer that was handed on says
 
-pub block-is : (o : Option Block) (b : Block) {r : Found} → r ≡ found_of o → r ≡ BlockIs b → o ≡ some b
-block-is none b e f = cc
-block-is (some x) b e f = cc
-
-pub block_none : (o : Option Block) {r : Found} → r ≡ found_of o → r ≡ NoBlock → o ≡ none
-block_none none e f = refl
-block_none (some x) e f = cc
+-- What a `?` hands on.
+pub handed_on : {T E : Type 0} {r : Result T E} {w : E} → IsErrAnd r (λ y. y ≡ w) → r ≡ Err w
+handed_on {r = Ok x} h = absurd h
+handed_on {r = Err y} h = rw h
 
 -- ---- Reading
 
@@ -46,35 +41,35 @@ number_in m = number (part 12 4 m)
 -- What a block that was found says of the memory.
 pub record Headed (kind : ℕ) (m : List ℕ) (b : Block) : Type 0 where
   pub setting : Setting
-  pub kinds : setting_in kind m ≡ some setting
+  pub kinds : setting_in kind m ≡ Some setting
   pub size : setting.size ≡ b.size
   pub width : setting.width ≡ b.k
   pub valid : Valid b
   pub room : memory_size (setting_for b) ≤ length m
 
-pub none-setting : (kind : ℕ) (m : List ℕ) → setting_in kind m ≡ none → block_in kind m ≡ none
+pub none-setting : (kind : ℕ) (m : List ℕ) → setting_in kind m ≡ None → block_in kind m ≡ None
 unfolding block_in
 none-setting kind m e = rw e
 
-module _ (kind : ℕ) (m : List ℕ) (s : Setting) (e : setting_in kind m ≡ some s) where
-  pub none_short : length m < memory_size s → block_in kind m ≡ none
+module _ (kind : ℕ) (m : List ℕ) (s : Setting) (e : setting_in kind m ≡ Some s) where
+  pub none_short : length m < memory_size s → block_in kind m ≡ None
   unfolding block_in
   none_short h = rw (e, lt-leb (memory_size s) (length m) h)
 
-  pub found : memory_size s ≤ length m → block_in kind m ≡ good_of (block_of s.size s.width (total_in m) (number_in m))
+  pub found : memory_size s ≤ length m → block_in kind m ≡ result_ok (block_of s.size s.width (total_in m) (number_in m))
   unfolding block_in
   found h = rw (e, le-leb (memory_size s) (length m) h)
 
-headed-with : (kind : ℕ) (m : List ℕ) (b : Block) (o : Option Setting) → setting_in kind m ≡ o → block_with m o ≡ some b → Headed kind m b
-headed-with kind m b none s e = absurd (none-ne-some b e)
-headed-with kind m b (some t) s e = go (leb (memory_size t) (length m)) refl (block_of t.size t.width (total_in m) (number_in m)) refl
+headed-with : (kind : ℕ) (m : List ℕ) (b : Block) (o : Option Setting) → setting_in kind m ≡ o → block_with m o ≡ Some b → Headed kind m b
+headed-with kind m b None s e = absurd (none-ne-some b e)
+headed-with kind m b (Some t) s e = go (leb (memory_size t) (length m)) refl (block_of t.size t.width (total_in m) (number_in m)) refl
   where
-    go : (x : Bool) → leb (memory_size t) (length m) ≡ x → (n : Named) → block_of t.size t.width (total_in m) (number_in m) ≡ n → Headed kind m b
+    go : (x : Bool) → leb (memory_size t) (length m) ≡ x → (n : Result Block Refusal) → block_of t.size t.width (total_in m) (number_in m) ≡ n → Headed kind m b
     go false f n g = absurd (none-ne-some b (rw f at e))
-    go true f (Bad r) g = absurd (none-ne-some b (rw (f, g) at e))
-    go true f (Good c) g =
+    go true f (Err r) g = absurd (none-ne-some b (rw (f, g) at e))
+    go true f (Ok c) g =
         let same : c ≡ b = some-injective c b (rw (f, g) at e) in
-        let (is, v) = good_names t.size t.width (total_in m) (number_in m) b (g ∙ ap Good same) in
+        let (is, v) = good_names t.size t.width (total_in m) (number_in m) b (g ∙ ap Ok same) in
         record {
           setting = t;
           kinds = s;
@@ -84,30 +79,30 @@ headed-with kind m b (some t) s e = go (leb (memory_size t) (length m)) refl (bl
           room = subst (λ y. memory_size (setting_for y) ≤ length m) (sym is) (leb-true (memory_size t) (length m) f);
         }
 
-pub headed : (kind : ℕ) (m : List ℕ) (b : Block) → block_in kind m ≡ some b → Headed kind m b
+pub headed : (kind : ℕ) (m : List ℕ) (b : Block) → block_in kind m ≡ Some b → Headed kind m b
 unfolding block_in
 headed kind m b e = headed-with kind m b (setting_in kind m) refl e
 
 -- ---- What refusal 3 stands for
 
 -- All-zero memory.
-pub zeros-none : (kind n : ℕ) → 0 < kind → block_in kind (zeros n) ≡ none
+pub zeros-none : (kind n : ℕ) → 0 < kind → block_in kind (zeros n) ≡ None
 zeros-none kind n h = none-setting kind (zeros n) (wire.zeros-none kind n h)
 
 -- Memory that was opened for anything else: with a header of another kind, of a block or not.
-pub one_kind : (kind other : ℕ) (m : List ℕ) (s : Setting) → (kind ≡ other → ⊥) → setting_in kind m ≡ some s → block_in other m ≡ none
+pub one_kind : (kind other : ℕ) (m : List ℕ) (s : Setting) → (kind ≡ other → ⊥) → setting_in kind m ≡ Some s → block_in other m ≡ None
 one_kind kind other m s h e = none-setting other m (wire.one_kind kind other m s h e)
 
 -- Memory that is cut shorter than opening asked for.
-pub short_none : (kind : ℕ) (m : List ℕ) (b : Block) (n : ℕ) → block_in kind m ≡ some b → n < memory_size (setting_for b) → block_in kind (take n m) ≡ none
+pub short_none : (kind : ℕ) (m : List ℕ) (b : Block) (n : ℕ) → block_in kind m ≡ Some b → n < memory_size (setting_for b) → block_in kind (take n m) ≡ None
 short_none kind m b n e l = go (setting_in kind (take n m)) refl
   where
     h : Headed kind m b
     h = headed kind m b e
 
-    go : (o : Option Setting) → setting_in kind (take n m) ≡ o → block_in kind (take n m) ≡ none
-    go none f = none-setting kind (take n m) f
-    go (some t) f =
+    go : (o : Option Setting) → setting_in kind (take n m) ≡ o → block_in kind (take n m) ≡ None
+    go None f = none-setting kind (take n m) f
+    go (Some t) f =
         let c : length (take n m) ≤ n = simp length-take (omega arith) in
         let long = (wire.setting-found kind (take n m) t f).long in
         let g : setting_in kind (take n m) ≡ setting_in kind m = wire.setting_kept kind (take n m) m (take-take 8 n m (omega arith)) in
@@ -137,7 +132,7 @@ module _ (kind : ℕ) (b : Block) (m : List ℕ) (small : kind < 65536) (v : Val
   unfolding block_bytes setting_bytes part taken_in
   none-taken = ap number (part-within 0 10 2 (block_bytes kind b) m (omega arith) (omega arith))
 
-  setting-is : setting_in kind left ≡ some (setting_for b)
+  setting-is : setting_in kind left ≡ Some (setting_for b)
   unfolding block_bytes setting_bytes
   setting-is =
       let head = setting_bytes kind (setting_for b) in
@@ -149,7 +144,7 @@ module _ (kind : ℕ) (b : Block) (m : List ℕ) (small : kind < 65536) (v : Val
       ∙ wire.setting-written kind (setting_for b) m small (setting_valid b v)
 
   -- A header that was written reads as its block.
-  pub block_written : block_in kind left ≡ some b
+  pub block_written : block_in kind left ≡ Some b
   block_written =
       found kind left (setting_for b) setting-is (omega (arith, long))
       ∙ rw (total-is, number_is, named_good b.size b.k b.total b.number v.size_least v.size_most v.values)
@@ -181,5 +176,5 @@ block_kept kind m m' l e f =
     total = sym (part_front m') ∙ ap (part 8 2) e ∙ part_front m
 
     go : (o : Option Setting) → block_with m' o ≡ block_with m o
-    go none = refl
-    go (some s) = rw (l, total, f)
+    go None = refl
+    go (Some s) = rw (l, total, f)

@@ -1,15 +1,14 @@
 -- Which numbers name a block, and which refusal others meet.
 -- A test and what it says: values_true, values_false, values_told. What numbers name: named_good, bad_size, bad_values, good_names.
-use Rattle.std.specs.Prelude.{◌≡◌, ◌≤◌}
+use Rattle.std.specs.Prelude.{◌≡◌, ◌≤◌, Result, Ok, Err}
 use Rattle.words.specs.Words.{arith, ℕ, refl, sym, ap, true, false, Bool, subst, cond, leb, le-leb, lt-ltb, leb-true, ltb-true}
 use Rattle.wire.specs.declared.Refusal.TheVariants as refusals
 use Rattle.wire.specs.Numbers.{within}
 use Rattle.wire.specs.Settings as settings
 use Rattle.wire.proofs.Settings.{within_true, within_bounds, both}
 use Rattle.blocks.specs.declared.Block.{Block}
-use Rattle.blocks.specs.declared.Named.{Named}
-use Rattle.blocks.specs.declared.Named.TheVariants.{Good, Bad}
 use Rattle.blocks.specs.Block.{HaveValues, has_values, block_of, Valid, setting_for}
+use Rattle.wire.specs.declared.Refusal.{Refusal}
 
 pub values_true : (k total number : ℕ) → HaveValues k total number → has_values k total number ≡ true
 unfolding has_values
@@ -35,33 +34,33 @@ abbrev pub block_from : (E k total number : ℕ) → Block
 block_from E k total number = record { size = E; k = k; total = total; number = number }
 
 module _ (E k total number : ℕ) where
-  pub bad_size : ¬ ((4 ≤ E) × (E ≤ 1500)) → block_of E k total number ≡ Bad refusals.Values
+  pub bad_size : ¬ ((4 ≤ E) × (E ≤ 1500)) → block_of E k total number ≡ Err refusals.Values
   unfolding block_of
   bad_size n = go (within 4 1500 E) refl
     where
-      go : (b : Bool) → within 4 1500 E ≡ b → cond b (cond (has_values k total number) (Good (block_from E k total number)) (Bad refusals.Block)) (Bad refusals.Values)
-          ≡ Bad refusals.Values
+      go : (b : Bool) → within 4 1500 E ≡ b → cond b (cond (has_values k total number) (Ok (block_from E k total number)) (Err refusals.Block)) (Err refusals.Values)
+          ≡ Err refusals.Values
       go true e = absurd (n (within_bounds 4 1500 E e))
       go false e = refl
 
-  pub bad_values : 4 ≤ E → E ≤ 1500 → ¬ HaveValues k total number → block_of E k total number ≡ Bad refusals.Block
+  pub bad_values : 4 ≤ E → E ≤ 1500 → ¬ HaveValues k total number → block_of E k total number ≡ Err refusals.Block
   unfolding block_of
   bad_values a b n = rw (within_true 4 1500 E a b, values_false k total number n)
 
-  pub named_good : 4 ≤ E → E ≤ 1500 → HaveValues k total number → block_of E k total number ≡ Good (block_from E k total number)
+  pub named_good : 4 ≤ E → E ≤ 1500 → HaveValues k total number → block_of E k total number ≡ Ok (block_from E k total number)
   unfolding block_of
   named_good a b v = rw (within_true 4 1500 E a b, values_true k total number v)
 
-  abbrev block_is : Named → Block
-  block_is (Good b) = b
-  block_is (Bad r) = block_from E k total number
+  abbrev block_is : Result Block Refusal → Block
+  block_is (Ok b) = b
+  block_is (Err r) = block_from E k total number
 
-  abbrev IsGood : Named → Type 0
-  IsGood (Good b) = Unit {0}
-  IsGood (Bad r) = ⊥
+  abbrev IsGood : Result Block Refusal → Type 0
+  IsGood (Ok b) = Unit {0}
+  IsGood (Err r) = ⊥
 
   -- A block that was named is that of the numbers, and valid.
-  pub good_names : (b : Block) → block_of E k total number ≡ Good b → (b ≡ block_from E k total number) × Valid b
+  pub good_names : (b : Block) → block_of E k total number ≡ Ok b → (b ≡ block_from E k total number) × Valid b
   unfolding block_of
   good_names b e = go (within 4 1500 E) refl (has_values k total number) refl
     where

@@ -5,13 +5,17 @@
 ghost use Rattle.std.specs.Prelude.{◌≡◌, ◌≤◌, ◌<◌};
 ghost use Rattle.words.specs.Words.{length};
 ghost use Rattle.memory.specs.Part.{splice};
+ghost use Rattle.wire.specs.Stored.{kind_number};
 ghost use Rattle.blocks.specs.Block.{has_values, block_of, setting_for, Valid};
-ghost use Rattle.blocks.specs.Stored.{block_in, found_of, block_bytes};
+ghost use Rattle.blocks.specs.Stored.{block_in, block_bytes};
 
 pub mod identifier;
 
 use holding::front;
-use wire::{Checked, Refusal, Scheme, Setting};
+use wire::{Kind, Refusal, Scheme, Setting};
+
+// The bytes of the header at the front of a block's memory.
+pub const HEADER: usize = 96;
 
 // A block: the bytes in a symbol (E), how many source symbols it has, how many symbols in all, and its number.
 #[derive(Clone, Copy)]
@@ -22,44 +26,26 @@ pub struct Block {
     pub number: u32,
 }
 
-// The block that the numbers of an opening name, or their refusal.
-#[derive(Clone, Copy)]
-pub enum Named {
-    Good(Block),
-    Bad(Refusal),
-}
-
-// The block that a memory was opened for, if it was.
-#[derive(Clone, Copy)]
-pub enum Found {
-    BlockIs(Block),
-    NoBlock,
-}
-
 // Whether the number of source symbols, the total and the block number have their values.
+#[tactic(auto, unfolding(crate::specs::Block::has_values))]
 fn has_values(k: usize, total: usize, number: usize) -> bool
     ensures { result ≡ has_values k total number }
 {
-    if !wire::between(1, total, k) {
-        return false;
-    }
-    if 255 < total {
-        return false;
-    }
-    number < 16777216
+    wire::between(1, total, k) && total <= 255 && number < 16777216
 }
 
 // The block that the four numbers of an opening name.
-pub fn block_of(size: usize, k: usize, total: usize, number: usize) -> Named
+#[tactic(auto, using(crate::proofs::Values::values_told), unfolding(crate::specs::Block::block_of))]
+pub fn block_of(size: usize, k: usize, total: usize, number: usize) -> Result<Block, Refusal>
     ensures { result ≡ block_of size k total number }
 {
     if !wire::between(4, 1500, size) {
-        return Named::Bad(Refusal::Values);
+        return Err(Refusal::Values);
     }
     if !has_values(k, total, number) {
-        return Named::Bad(Refusal::Block);
+        return Err(Refusal::Block);
     }
-    Named::Good(Block {
+    Ok(Block {
         size,
         k,
         total,
@@ -78,28 +64,23 @@ pub fn setting_for(block: Block) -> Setting
     }
 }
 
-// The block in the header at the front of a memory; kind 3 encodes it, 4 recovers it.
-pub fn read_block(mem: &[u8], kind: u16) -> Found
-    ensures { result ≡ found_of (block_in kind mem.now) }
+// The block in the header at the front of a memory, of the kind that encodes it or that recovers it.
+pub fn read_block(mem: &[u8], kind: Kind) -> Option<Block>
+    ensures { result ≡ block_in (kind_number kind) mem.now }
 {
-    let Checked::Good(setting) = wire::setting_in(mem, kind) else {
-        return Found::NoBlock;
-    };
+    let setting = wire::setting_in(mem, kind)?;
     if mem.len() < front::memory_size(setting) {
-        return Found::NoBlock;
+        return None;
     }
     let total = memory::load_u16(mem, 8) as usize;
     let number = memory::load_u32(mem, 12) as usize;
-    match block_of(setting.size, setting.width, total, number) {
-        Named::Good(block) => Found::BlockIs(block),
-        Named::Bad(_) => Found::NoBlock,
-    }
+    block_of(setting.size, setting.width, total, number).ok()
 }
 
 // Writes the header of a block that has taken nothing at the front of a memory.
-pub fn write_block(mem: &mut [u8], kind: u16, block: Block)
+pub fn write_block(mem: &mut [u8], kind: Kind, block: Block)
     requires { (16 ≤ length mem.old) × Valid block }
-    ensures { mem.new ≡ splice 0 (block_bytes kind block) mem.old }
+    ensures { mem.new ≡ splice 0 (block_bytes (kind_number kind) block) mem.old }
 {
     wire::write_setting(mem, kind, setting_for(block));
     memory::store_u16(mem, 8, block.total as u16);

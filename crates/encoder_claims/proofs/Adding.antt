@@ -2,10 +2,9 @@
 -- Index
 --   refuses, writes: what an outcome says
 --   adds_judged
-use Rattle.std.specs.Prelude.{◌≡◌, ◌+◌}
+use Rattle.std.specs.Prelude.{◌≡◌, ◌+◌, Result}
 use Rattle.words.specs.Words.{arith, ℕ, List, length, refl, subst, le-leb, lt-leb}
 use Rattle.memory.specs.Part.{splice}
-use Rattle.wire.specs.declared.Answer.{Answer}
 use Rattle.wire.specs.Answers.{said}
 use Rattle.blocks.specs.declared.Block.{Block}
 use Rattle.blocks.specs.Block.{Valid}
@@ -17,17 +16,18 @@ use Rattle.block_encoder.specs.Promises.{DoneWith, Follows, Adds}
 use Rattle.block_encoder.proofs.Promising.{adding_short, adding_full, adding-long, adding_done}
 use Rattle.encoder_claims.specs.Judged.{Refuses, Writes, AduJudged}
 use Rattle.encoder_claims.proofs.Running.{holding}
+use Rattle.wire.specs.declared.Refusal.{Refusal}
 
 -- ---- What an outcome says
 
 -- A call that came to a refusal.
-pub refuses : (n : ℕ) (o : Outcome) (m m' out out' : List ℕ) (r : Answer) → o ≡ refused n → Follows o m out r m' out' → Refuses n (said r) m m' out out'
+pub refuses : (n : ℕ) (o : Outcome) (m m' out out' : List ℕ) (r : Result ℕ Refusal) → o ≡ refused n → Follows o m out r m' out' → Refuses n (said r) m m' out out'
 refuses n o m m' out out' r e f =
     let g : Follows (refused n) m out r m' out' = subst (λ x. Follows x m out r m' out') e f in
     record { answer = g.answer; memory = g.memory; output = g.output }
 
 -- A call that wrote a packet.
-pub writes : (packet : List ℕ) (s : Encoder) (m m' out out' : List ℕ) (r : Answer) → DoneWith packet s m out r m' out' → Writes packet (said r) out out'
+pub writes : (packet : List ℕ) (s : Encoder) (m m' out out' : List ℕ) (r : Result ℕ Refusal) → DoneWith packet s m out r m' out' → Writes packet (said r) out out'
 unfolding splice
 writes packet s m m' out out' r g = record { answer = g.answer; output = g.output }
 
@@ -40,7 +40,7 @@ module _ (E k total number : ℕ) (v : Valid (block_from E k total number)) (xs 
 
   -- ---- Adding an ADU
 
-  pub adds_judged : (flow : ℕ) (adu m out : List ℕ) (r : Answer) (m' out' : List ℕ) → Holds m encoder → Adds flow adu m out r m' out'
+  pub adds_judged : (flow : ℕ) (adu m out : List ℕ) (r : Result ℕ Refusal) (m' out' : List ℕ) → Holds m encoder → Adds flow adu m out r m' out'
       → AduJudged E k total number xs m adu out (said r) m' out'
   unfolding source_packet
   adds_judged flow adu m out r m' out' h p =

@@ -1,14 +1,13 @@
 -- Two encoders of a block whose calls are judged so answer and write alike.
-use Rattle.std.specs.Prelude.{◌≡◌, ◌≤◌, ◌+◌, ◌<◌, ◌∷◌, ◌++◌}
+use Rattle.std.specs.Prelude.{◌≡◌, ◌≤◌, ◌+◌, ◌<◌, ◌∷◌, ◌++◌, Result, Ok, Err}
 use Rattle.words.specs.Words.{arith, ℕ, List, length, refl, ◌∙◌, sym, ap, [], subst, map, ap₂, append_assoc, append-nil}
 use Rattle.words.specs.Words.{ext_get_or}
-use Rattle.wire.specs.declared.Answer.{Answer}
-use Rattle.wire.specs.declared.Answer.TheVariants.{Done, Refused}
 use Rattle.wire.specs.Answers.{Said, said}
 use Rattle.encoder_claims.specs.Run.{EncoderCall, added, repaired, memory_after, symbols_of}
 use Rattle.encoder_claims.specs.Judged.{Refuses, Writes, AduJudged, identified, IsSymbol, RepairJudged, CallJudged}
 use Rattle.encoder_claims.specs.Claims.{given, seen, NoChoice}
 use Rattle.encoder_claims.proofs.Running.{impossible, below, symbols-append}
+use Rattle.wire.specs.declared.Refusal.{Refusal}
 
 -- Two answers and outputs that are both so.
 Alike : Said → Said → List ℕ → List ℕ → Type 0
@@ -23,12 +22,12 @@ unfolding Alike
 both_write p q = (p.answer ∙ sym q.answer, p.output ∙ sym q.output)
 
 -- What is taken by a call hangs on its answer alone.
-taken_alike : (E flow flow₂ : ℕ) (adu adu₂ out out₂ m m₂ x y : List ℕ) (a b : Answer) → flow ≡ flow₂ → adu ≡ adu₂ → said a ≡ said b
+taken_alike : (E flow flow₂ : ℕ) (adu adu₂ out out₂ m m₂ x y : List ℕ) (a b : Result ℕ Refusal) → flow ≡ flow₂ → adu ≡ adu₂ → said a ≡ said b
     → symbols_of E (added flow adu out a m x ∷ []) ≡ symbols_of E (added flow₂ adu₂ out₂ b m₂ y ∷ [])
-taken_alike E flow flow₂ adu adu₂ out out₂ m m₂ x y (Done i) (Done j) f g e = rw (f, g)
-taken_alike E flow flow₂ adu adu₂ out out₂ m m₂ x y (Refused i) (Refused j) f g e = refl
-taken_alike E flow flow₂ adu adu₂ out out₂ m m₂ x y (Done i) (Refused j) f g e = absurd (impossible i _ e)
-taken_alike E flow flow₂ adu adu₂ out out₂ m m₂ x y (Refused i) (Done j) f g e = absurd (impossible j _ (sym e))
+taken_alike E flow flow₂ adu adu₂ out out₂ m m₂ x y (Ok i) (Ok j) f g e = rw (f, g)
+taken_alike E flow flow₂ adu adu₂ out out₂ m m₂ x y (Err i) (Err j) f g e = refl
+taken_alike E flow flow₂ adu adu₂ out out₂ m m₂ x y (Ok i) (Err j) f g e = absurd (impossible i _ e)
+taken_alike E flow flow₂ adu adu₂ out out₂ m m₂ x y (Err i) (Ok j) f g e = absurd (impossible j _ (sym e))
 
 memory_on : (m : List ℕ) (c : EncoderCall) (l : List EncoderCall) → memory_after m (c ∷ l) ≡ memory_after (memory_after m (c ∷ [])) l
 memory_on m (added flow adu out r m' x) l = refl

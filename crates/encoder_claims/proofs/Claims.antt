@@ -1,10 +1,9 @@
 -- All claims of the encoder hold.
-use Rattle.std.specs.Prelude.{◌≡◌, ◌+◌, ◌-◌, ◌∷◌, ◌*◌, ◌++◌}
-use Rattle.words.specs.Words.{arith, ℕ, List, length, ◌∙◌, ap, [], none, take, take_all, one-mul, length-append, length-replicate}
+use Rattle.std.specs.Prelude.{◌≡◌, ◌+◌, ◌-◌, ◌∷◌, ◌*◌, ◌++◌, Result}
+use Rattle.words.specs.Words.{arith, ℕ, List, length, ◌∙◌, ap, [], None, take, take_all, one-mul, length-append, length-replicate}
 use Rattle.memory.specs.Number.{bytes}
 use Rattle.wire.specs.Packets.{zeros, chunks, adui, source_symbols}
 use Rattle.wire.specs.Answers.{said}
-use Rattle.wire.specs.declared.Answer.{Answer}
 use Rattle.blocks.specs.Stored.{block_in}
 use Rattle.blocks.proofs.Stored.{zeros-none, one_kind, short_none}
 use Rattle.blocks.proofs.Values.{block_from}
@@ -17,12 +16,13 @@ use Rattle.encoder_claims.proofs.Running.{run_held}
 use Rattle.encoder_claims.proofs.Judging.{opening_judged, encoder_judged}
 use Rattle.encoder_claims.proofs.Choice.{no_choice}
 use Rattle.encoder_claims.proofs.Runs.{runs_exist}
+use Rattle.wire.specs.declared.Refusal.{Refusal}
 
 -- Memory that has no header of an encoder.
-refuses_three : (m out : List ℕ) (r : Answer) (m' out' : List ℕ) → RefusedWith 3 m out r m' out' → Refuses 3 (said r) m m' out out'
+refuses_three : (m out : List ℕ) (r : Result ℕ Refusal) (m' out' : List ℕ) → RefusedWith 3 m out r m' out' → Refuses 3 (said r) m m' out out'
 refuses_three m out r m' out' f = record { answer = f.answer; memory = f.memory; output = f.output }
 
-says_three : (m : List ℕ) → block_in 3 m ≡ none → SaysThree m
+says_three : (m : List ℕ) → block_in 3 m ≡ None → SaysThree m
 says_three m e = record {
   adds = λ flow adu out r m' out' p. refuses_three m out r m' out' (p.unopened e);
   makes = λ esi out r out' p. refuses_three m out r m out' (p.unopened e);

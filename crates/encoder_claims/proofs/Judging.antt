@@ -3,10 +3,9 @@
 --   is_symbol: the combination is the value of the polynomial
 --   repairs_judged, encoder_judged
 --   opening_judged
-use Rattle.std.specs.Prelude.{◌≡◌, ◌≤◌, ◌+◌, ◌<◌, ◌∷◌, ◌++◌}
+use Rattle.std.specs.Prelude.{◌≡◌, ◌≤◌, ◌+◌, ◌<◌, ◌∷◌, ◌++◌, Result}
 use Rattle.words.specs.Words.{arith, ℕ, List, length, refl, ◌∙◌, ap, [], get_or, subst, true, leb, le-leb, lt-leb}
 use Rattle.wire.specs.declared.Refusal.TheVariants as refusals
-use Rattle.wire.specs.declared.Answer.{Answer}
 use Rattle.wire.specs.Answers.{said}
 use Rattle.rows.specs.Combination.{dot, coefficient, combination}
 use Rattle.rows.proofs.Dot.{dot_same}
@@ -29,6 +28,7 @@ use Rattle.encoder_claims.specs.Judged.{bytes_at, IsSymbol, RepairEsi, RepairJud
 use Rattle.encoder_claims.specs.Judged.{OpeningIsJudged, EncoderJudged}
 use Rattle.encoder_claims.proofs.Running.{below, holding, ran, run_holds, run_valid, wholes_at, calls-whole}
 use Rattle.encoder_claims.proofs.Adding.{refuses, writes, adds_judged}
+use Rattle.wire.specs.declared.Refusal.{Refusal}
 
 module _ (E k total number : ℕ) (v : Valid (block_from E k total number)) (xs : List (List ℕ)) where
   abbrev block : Block
@@ -61,7 +61,7 @@ module _ (E k total number : ℕ) (v : Valid (block_from E k total number)) (xs 
       valued = λ b h q t. byte esi b h ∙ encoded-is k few (bytes_at xs b) (small b) q t esi;
     }
 
-  repairs_judged : (esi : ℕ) (m out : List ℕ) (r : Answer) (out' : List ℕ) → Wholes E xs → Holds m encoder → Makes esi m out r out'
+  repairs_judged : (esi : ℕ) (m out : List ℕ) (r : Result ℕ Refusal) (out' : List ℕ) → Wholes E xs → Holds m encoder → Makes esi m out r out'
       → RepairJudged E k total number xs m esi out (said r) out'
   unfolding repair_packet
   repairs_judged esi m out r out' whole h p =

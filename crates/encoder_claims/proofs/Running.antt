@@ -4,20 +4,16 @@
 --   symbols-append, ran: the list
 --   opened_holds, run_holds, run_valid, run_held: from the opening on
 --   wholes_at, calls-whole: the symbols
-use Rattle.std.specs.Prelude.{◌≡◌, ◌≤◌, ◌+◌, ◌<◌, ◌∷◌, ◌++◌}
+use Rattle.std.specs.Prelude.{◌≡◌, ◌≤◌, ◌+◌, ◌<◌, ◌∷◌, ◌++◌, Result, Ok, Err}
 use Rattle.words.specs.Words.{arith, ℕ, List, length, refl, ◌∙◌, sym, ap, [], suc, true, zero, get_or, false, Bool, subst, leb, ltb}
 use Rattle.words.specs.Words.{append_assoc, append-nil, dec_lt, lit<}
 use Rattle.memory.specs.Number.{Bytes}
 use Rattle.wire.specs.Packets.{source_symbols}
-use Rattle.wire.specs.declared.Answer.{Answer}
-use Rattle.wire.specs.declared.Answer.TheVariants.{Done, Refused}
 use Rattle.wire.specs.declared.Refusal.{Refusal}
 use Rattle.wire.specs.Answers.{value, refusal, said}
 use Rattle.history.specs.History.{memory_size}
 use Rattle.history.proofs.Says.{Wholes}
 use Rattle.history.proofs.Readings.{source-whole}
-use Rattle.blocks.specs.declared.Named.{Named}
-use Rattle.blocks.specs.declared.Named.TheVariants.{Good, Bad}
 use Rattle.blocks.specs.Block.{block_of, Valid, setting_for}
 use Rattle.blocks.proofs.Values.{block_from, good_names}
 use Rattle.block_encoder.specs.State.{Encoder, fresh, taken, Holds}
@@ -25,6 +21,7 @@ use Rattle.block_encoder.specs.Calls.{Outcome, refused, done, unless, opening, a
 use Rattle.block_encoder.specs.Promises.{Follows, Opens}
 use Rattle.block_encoder.proofs.Promising.{opening_bad, opening_short, opening_done}
 use Rattle.encoder_claims.specs.Run.{EncoderCall, added, repaired, Calls, memory_after, EncoderRun, symbols_of}
+use Rattle.blocks.specs.declared.Block.{Block}
 
 pub impossible : (n k : ℕ) → value n ≡ refusal k → ⊥
 impossible n k e = let z : ◌≡◌ {A = ℕ} 0 1 = cc in omega arith
@@ -46,10 +43,10 @@ passed false n o p s e = cc
 -- The symbols of calls, and of those after them.
 pub symbols-append : (E : ℕ) (k l : List EncoderCall) → symbols_of E (k ++ l) ≡ symbols_of E k ++ symbols_of E l
 symbols-append E [] l = refl
-symbols-append E (added flow adu out (Done n) m' out' ∷ k) l =
+symbols-append E (added flow adu out (Ok n) m' out' ∷ k) l =
     let new = source_symbols flow adu E in
     ap (λ (xs : List (List ℕ)). new ++ xs) (symbols-append E k l) ∙ sym (append_assoc new (symbols_of E k) (symbols_of E l))
-symbols-append E (added flow adu out (Refused n) m' out' ∷ k) l = symbols-append E k l
+symbols-append E (added flow adu out (Err n) m' out' ∷ k) l = symbols-append E k l
 symbols-append E (repaired esi out r out' ∷ k) l = symbols-append E k l
 
 module _ (E k total number : ℕ) where
@@ -59,7 +56,7 @@ module _ (E k total number : ℕ) where
 
   -- An ADU that was taken, and one that was refused.
   added_done : (xs : List (List ℕ)) (flow : ℕ) (adu : List ℕ) (n : ℕ) (m out m' out' : List ℕ) (o : Outcome) → adding (holding xs) flow adu (length out) ≡ o
-      → Follows o m out (Done n) m' out' → Holds m' (holding (xs ++ source_symbols flow adu E))
+      → Follows o m out (Ok n) m' out' → Holds m' (holding (xs ++ source_symbols flow adu E))
   unfolding adding
   added_done xs flow adu n m out m' out' (refused j) e f = absurd (impossible n j f.answer)
   added_done xs flow adu n m out m' out' (done p s) e f =
@@ -69,7 +66,7 @@ module _ (E k total number : ℕ) where
       let r : taken (holding xs) flow adu ≡ s = cc in
       rw r f.holds
 
-  added-refused : (xs : List (List ℕ)) (m out m' out' : List ℕ) (n : Refusal) (o : Outcome) → Follows o m out (Refused n) m' out' → Holds m (holding xs)
+  added-refused : (xs : List (List ℕ)) (m out m' out' : List ℕ) (n : Refusal) (o : Outcome) → Follows o m out (Err n) m' out' → Holds m (holding xs)
       → Holds m' (holding xs)
   added-refused xs m out m' out' n (refused j) f h = rw f.memory h
   added-refused xs m out m' out' n (done p s) f h = absurd (impossible (length p) _ (sym f.answer))
@@ -78,26 +75,26 @@ module _ (E k total number : ℕ) where
   pub ran : (xs : List (List ℕ)) (m : List ℕ) (before after : List EncoderCall) → Holds m (holding xs) → Calls m (before ++ after)
       → Holds (memory_after m before) (holding (xs ++ symbols_of E before)) × Calls (memory_after m before) after
   ran xs m [] after h c = (rw append-nil h, c)
-  ran xs m (added flow adu out (Done n) m' out' ∷ l) after h (f, b, p, c) =
+  ran xs m (added flow adu out (Ok n) m' out' ∷ l) after h (f, b, p, c) =
       let new = source_symbols flow adu E in
       let a = added_done xs flow adu n m out m' out' _ refl (p.follows (holding xs) h) in
       rw (← append_assoc xs new (symbols_of E l)) (ran (xs ++ new) m' l after a c)
-  ran xs m (added flow adu out (Refused n) m' out' ∷ l) after h (f, b, p, c) =
+  ran xs m (added flow adu out (Err n) m' out' ∷ l) after h (f, b, p, c) =
       ran xs m' l after (added-refused xs m out m' out' n (adding (holding xs) flow adu (length out)) (p.follows (holding xs) h) h) c
   ran xs m (repaired esi out r out' ∷ l) after h (p, c) = ran xs m l after h c
 
   -- ---- The opening
 
-  opened_holds : (m m' : List ℕ) (r : Answer) → Opens E k total number m r m' → said r ≡ value 0
+  opened_holds : (m m' : List ℕ) (r : Result ℕ Refusal) → Opens E k total number m r m' → said r ≡ value 0
       → Holds m' (holding []) × Valid (block_from E k total number)
   opened_holds m m' r f a = go (block_of E k total number) refl
     where
       comes : (o : Outcome) → opening E k total number (length m) ≡ o → Follows o m [] r m' []
       comes o e = subst (λ x. Follows x m [] r m' []) e f
 
-      go : (x : Named) → block_of E k total number ≡ x → Holds m' (holding []) × Valid (block_from E k total number)
-      go (Bad w) q = absurd (impossible 0 _ (sym a ∙ (comes (refused _) (opening_bad E k total number m w q)).answer))
-      go (Good b) q =
+      go : (x : Result Block Refusal) → block_of E k total number ≡ x → Holds m' (holding []) × Valid (block_from E k total number)
+      go (Err w) q = absurd (impossible 0 _ (sym a ∙ (comes (refused _) (opening_bad E k total number m w q)).answer))
+      go (Ok b) q =
           let (is, v) = good_names E k total number b q in
           below (length m) (memory_size (setting_for b))
           (λ l. absurd (impossible 0 2 (sym a ∙ (comes (refused 2) (opening_short E k total number m b q l)).answer)))
@@ -129,7 +126,7 @@ wholes_at E (x ∷ xs) s (suc i) = wholes_at E xs s.1 i
 -- Those of some calls, of a list that keeps its promises.
 pub calls-whole : (E : ℕ) → 0 < E → (m : List ℕ) (l after : List EncoderCall) → Calls m (l ++ after) → Wholes E (symbols_of E l)
 calls-whole E z m [] after c = tt
-calls-whole E z m (added flow adu out (Done n) m' out' ∷ l) after (f, b, p, c) =
+calls-whole E z m (added flow adu out (Ok n) m' out' ∷ l) after (f, b, p, c) =
     wholes_append E (source_symbols flow adu E) (symbols_of E l) (source-whole flow adu E z f b) (calls-whole E z m' l after c)
-calls-whole E z m (added flow adu out (Refused n) m' out' ∷ l) after (f, b, p, c) = calls-whole E z m' l after c
+calls-whole E z m (added flow adu out (Err n) m' out' ∷ l) after (f, b, p, c) = calls-whole E z m' l after c
 calls-whole E z m (repaired esi out r out' ∷ l) after (p, c) = calls-whole E z m l after c

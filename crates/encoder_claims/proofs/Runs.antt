@@ -2,14 +2,12 @@
 -- Index
 --   add, make: one call
 --   runs, runs_exist: all calls
-use Rattle.std.specs.Prelude.{◌≡◌, ◌≤◌, ◌+◌, ◌<◌, ◌∷◌}
-use Rattle.words.specs.Words.{arith, ℕ, List, length, refl, ap, [], some, map, le-leb, lt-leb}
+use Rattle.std.specs.Prelude.{◌≡◌, ◌≤◌, ◌+◌, ◌<◌, ◌∷◌, Result, Ok, Err}
+use Rattle.words.specs.Words.{arith, ℕ, List, length, refl, ap, [], Some, map, le-leb, lt-leb}
 use Rattle.memory.specs.Part.{splice}
 use Rattle.wire.specs.declared.Refusal.{Refusal}
 use Rattle.wire.specs.declared.Refusal.TheVariants as refusals
 use Rattle.wire.specs.Numbers.{number_of}
-use Rattle.wire.specs.declared.Answer.{Answer}
-use Rattle.wire.specs.declared.Answer.TheVariants.{Done, Refused}
 use Rattle.blocks.specs.declared.Block.{Block}
 use Rattle.blocks.specs.Block.{Valid}
 use Rattle.blocks.specs.Stored.{block_in, taken_in, block_bytes}
@@ -32,7 +30,7 @@ module _ (m : List ℕ) (s : Encoder) (held : Holds m s) where
   abbrev b : Block
   b = s.block
 
-  abbrev o : block_in 3 m ≡ some b
+  abbrev o : block_in 3 m ≡ Some b
   o = held.header
 
   abbrev t : ℕ
@@ -40,7 +38,7 @@ module _ (m : List ℕ) (s : Encoder) (held : Holds m s) where
 
   -- Adding an ADU.
   record Added (flow : ℕ) (adu out : List ℕ) : Type 0 where
-    answer : Answer
+    answer : Result ℕ Refusal
     memory : List ℕ
     output : List ℕ
     adds : Adds flow adu m out answer memory output
@@ -61,11 +59,11 @@ module _ (m : List ℕ) (s : Encoder) (held : Holds m s) where
     where
       refused : (n : Refusal) → (number_of n ≡ 3 → ⊥)
           → ((u : Encoder) → Holds m u → b ≡ u.block → calls.adding u flow adu (length out) ≡ calls.refused (number_of n)) → Added flow adu out
-      refused n z g = record { answer = Refused n; memory = m; output = out; adds = promise_refused _ m out b o n z g; encoder = s; holds = held }
+      refused n z g = record { answer = Err n; memory = m; output = out; adds = promise_refused _ m out b o n z g; encoder = s; holds = held }
 
       takes : length adu + 6 ≤ length out → t < b.k → 3 + length adu ≤ b.size → Added flow adu out
       takes l n g = record {
-        answer = Done (length adu + 6);
+        answer = Ok (length adu + 6);
         memory = _;
         output = splice 0 (source_packet b t adu) out;
         adds = taking.added b flow t adu m o n g refl out _ _ _ (le-leb (length adu + 6) (length out) l) refl refl refl;
@@ -75,7 +73,7 @@ module _ (m : List ℕ) (s : Encoder) (held : Holds m s) where
 
   -- Making repair.
   record Repaired (esi : ℕ) (out : List ℕ) : Type 0 where
-    answer : Answer
+    answer : Result ℕ Refusal
     output : List ℕ
     makes : Makes esi m out answer output
 
@@ -89,7 +87,7 @@ module _ (m : List ℕ) (s : Encoder) (held : Holds m s) where
       (λ g. below t b.k
       (λ n. refused refusals.Empty (λ z. omega arith) (λ u k q. repairing_early esi (length out) u b q room f g t k.count n))
       (λ n. record {
-        answer = Done (b.size + 6);
+        answer = Ok (b.size + 6);
         output = splice 0 (repair_packet b esi (symbol_from b.k b.size m esi)) out;
         makes = encoding.made b esi m out _ o room f g t refl n refl;
       }))
@@ -97,7 +95,7 @@ module _ (m : List ℕ) (s : Encoder) (held : Holds m s) where
     where
       refused : (n : Refusal) → (number_of n ≡ 3 → ⊥)
           → ((u : Encoder) → Holds m u → b ≡ u.block → calls.repairing u esi (length out) ≡ calls.refused (number_of n)) → Repaired esi out
-      refused n z g = record { answer = Refused n; output = out; makes = promise_refused _ m out b o n z g }
+      refused n z g = record { answer = Err n; output = out; makes = promise_refused _ m out b o n z g }
 
 runs : (gs : List Given) → OfBytes gs → (m : List ℕ) (s : Encoder) → Holds m s → (l : List EncoderCall) × Calls m l × (map given l ≡ gs)
 runs [] b m s h = ([], tt, refl)
@@ -121,7 +119,7 @@ runs_exist E k total number z w m room gs b =
       record {
         before = m;
         after = m';
-        answer = Done 0;
+        answer = Ok 0;
         opened = rw (opening_done E k total number m block (named_good E k total number z.0 z.1 w) room) d;
         answered = refl;
         calls = c;

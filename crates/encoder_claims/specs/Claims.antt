@@ -1,9 +1,8 @@
 -- All that is claimed of an encoder's calls, from an opening on.
-use Rattle.std.specs.Prelude.{◌≡◌, ◌≤◌, ◌+◌, ◌<◌, ◌-◌, ◌∷◌, ◌++◌}
-use Rattle.words.specs.Words.{ℕ, List, length, [], some, take, map}
+use Rattle.std.specs.Prelude.{◌≡◌, ◌≤◌, ◌+◌, ◌<◌, ◌-◌, ◌∷◌, ◌++◌, Result}
+use Rattle.words.specs.Words.{ℕ, List, length, [], Some, take, map}
 use Rattle.memory.specs.Number.{bytes, Bytes}
 use Rattle.wire.specs.declared.Setting.{Setting}
-use Rattle.wire.specs.declared.Answer.{Answer}
 use Rattle.wire.specs.Answers.{Said, said}
 use Rattle.wire.specs.Opening.{receiver_memory}
 use Rattle.wire.specs.Packets.{zeros, source_symbols}
@@ -11,6 +10,7 @@ use Rattle.wire.specs.Stored.{setting_in}
 use Rattle.block_encoder.specs.Promises.{Adds, Makes}
 use Rattle.encoder_claims.specs.Run.{EncoderCall, added, repaired, memory_after, EncoderRun}
 use Rattle.encoder_claims.specs.Judged.{Refuses, SizeAllowed, BlockAllowed, CallsJudged, OpeningIsJudged, EncoderJudged}
+use Rattle.wire.specs.declared.Refusal.{Refusal}
 
 -- What a call is given, with the output lent.
 pub data Given : Type 0 where
@@ -58,14 +58,14 @@ RunsExist =
 
 -- Both calls answer 3 on the memory m, and leave memory and output.
 pub record SaysThree (m : List ℕ) : Type 0 where
-  pub adds : (flow : ℕ) (adu out : List ℕ) (r : Answer) (m' out' : List ℕ) → Adds flow adu m out r m' out' → Refuses 3 (said r) m m' out out'
-  pub makes : (esi : ℕ) (out : List ℕ) (r : Answer) (out' : List ℕ) → Makes esi m out r out' → Refuses 3 (said r) m m out out'
+  pub adds : (flow : ℕ) (adu out : List ℕ) (r : Result ℕ Refusal) (m' out' : List ℕ) → Adds flow adu m out r m' out' → Refuses 3 (said r) m m' out out'
+  pub makes : (esi : ℕ) (out : List ℕ) (r : Result ℕ Refusal) (out' : List ℕ) → Makes esi m out r out' → Refuses 3 (said r) m m out out'
 
 -- So they do on all_zero_bytes memory; on memory with the header of another kind of end (3 encodes a block); and on an encoder's memory, after any calls, that is cut
 -- shorter than its opening asked for.
 pub record Three : Type 0 where
   pub zero : (n : ℕ) → SaysThree (zeros n)
-  pub other : (kind : ℕ) (s : Setting) (m : List ℕ) → ¬ (kind ≡ 3) → setting_in kind m ≡ some s → SaysThree m
+  pub other : (kind : ℕ) (s : Setting) (m : List ℕ) → ¬ (kind ≡ 3) → setting_in kind m ≡ Some s → SaysThree m
   pub cut : (E k total number : ℕ) (l : List EncoderCall) (r : EncoderRun E k total number l) (n : ℕ) → n < receiver_memory E k
       → SaysThree (take n (memory_after r.after l))
 

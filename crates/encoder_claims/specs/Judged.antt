@@ -2,17 +2,17 @@
 -- (document 02, No. 9; RFC 6865, section 5.1, and RFC 5510). m, out and a are memory, output and answer; m' and out' memory and output afterwards; `taken` are
 -- the source symbols of the ADUs that the encoder took before the call, in order. Each record has the refusals in the order of their tests; 3 has no place here,
 -- since the calls follow an opening.
-use Rattle.std.specs.Prelude.{◌≡◌, ◌≤◌, ◌+◌, ◌<◌, ◌∷◌, ◌*◌, ◌++◌, ◌^◌}
+use Rattle.std.specs.Prelude.{◌≡◌, ◌≤◌, ◌+◌, ◌<◌, ◌∷◌, ◌*◌, ◌++◌, ◌^◌, Result}
 use Rattle.words.specs.Words.{ℕ, List, length, [], get_or, drop}
 use Rattle.memory.specs.Number.{bytes}
 use Rattle.memory.specs.Contained.{Contained}
 use Rattle.field.specs.Powers.{power}
-use Rattle.wire.specs.declared.Answer.{Answer}
 use Rattle.wire.specs.Answers.{Said, value, refusal, said}
 use Rattle.wire.specs.Opening.{receiver_memory}
 use Rattle.interpolation.specs.Polynomial.{value as value_at, Through}
 use Rattle.block_encoder.specs.Promises.{Opens}
 use Rattle.encoder_claims.specs.Run.{EncoderCall, added, repaired, memory_after, EncoderRun, symbols_of}
+use Rattle.wire.specs.declared.Refusal.{Refusal}
 
 -- The call answers the refusal n; memory and output are as they were, byte for byte.
 pub record Refuses (n : ℕ) (a : Said) (m m' out out' : List ℕ) : Type 0 where
@@ -88,7 +88,7 @@ module _ (E k total number : ℕ) where
 -- Every opening of an encoder answers and leaves what `OpeningJudged` says.
 abbrev pub OpeningIsJudged : Type 0
 OpeningIsJudged =
-    (E k total number : ℕ) (m : List ℕ) (r : Answer) (m' : List ℕ) → Opens E k total number m r m' → OpeningJudged E k total number m (said r) m'
+    (E k total number : ℕ) (m : List ℕ) (r : Result ℕ Refusal) (m' : List ℕ) → Opens E k total number m r m' → OpeningJudged E k total number m (said r) m'
 
 -- And every call of every list after an opening that answered 0 what `CallJudged` says.
 abbrev pub EncoderJudged : Type 0

@@ -1,6 +1,6 @@
 -- The checks before 11 in plain numbers.
 -- Laws: opening_judged; identifier-is; all_checked.
-use Rattle.std.specs.Prelude.{◌≡◌, ◌≤◌, ◌+◌, ◌<◌, ◌-◌, ◌*◌}
+use Rattle.std.specs.Prelude.{◌≡◌, ◌≤◌, ◌+◌, ◌<◌, ◌-◌, ◌*◌, Result, Ok}
 use Rattle.words.specs.Words.{arith, ℕ, length, List, refl, ◌∙◌, sym, ap, [], true, false, Bool, get_or, leb, eqb}
 use Rattle.words.specs.Words.{le-leb, lt-leb, lt-ltb, eq-eqb, ne_eqb, eqb-true, ltb-true, leb-true}
 use Rattle.memory.specs.Part.{part}
@@ -13,15 +13,14 @@ use Rattle.wire.specs.Packets.{symbol_at}
 use Rattle.wire.proofs.Settings.{both}
 use Rattle.history.specs.History.{Call, source-call, repair-call, OfBytes, memory_size}
 use Rattle.blocks.specs.declared.Block.{Block}
-use Rattle.blocks.specs.declared.Named.TheVariants.{Good}
 use Rattle.blocks.specs.Block.{block_of, setting_for}
 use Rattle.blocks.specs.Identifiers.{identifier_at}
 use Rattle.blocks.proofs.Values.{block_from, bad_size, bad_values, named_good}
-use Rattle.block_receiver.specs.declared.check.Checked.{Checked}
 use Rattle.block_receiver.specs.Reading.{Reading, fails, located, names, names_source, names_repair, read_by, read_packet, reading}
 use Rattle.block_receiver.specs.Promises.{Layout, opening}
 use Rattle.block_receiver.proofs.Checking.{source_short, source_misnamed, source-long, source_good, repair_sized, repair_misnamed, repair_good}
 use Rattle.recovery_claims.specs.Checking.{OpeningIsJudged, Names, SourceChecked, RepairChecked, AllChecked}
+use Rattle.wire.specs.declared.Refusal.{Refusal}
 
 pub opening_judged : (L : Layout) → OpeningIsJudged L
 opening_judged L E k total number m m' a o = record {
@@ -35,13 +34,13 @@ opening_judged L E k total number m m' a o = record {
     refuses n e = let q = o.answer ∙ e in (q, o.refused n q)
 
     named : (4 ≤ E) × (E ≤ 1500) → (1 ≤ k) × (k ≤ total) × (total ≤ 255) × (number < 16777216)
-        → opening (block_of E k total number) (length m) ≡ opening (Good (block_from E k total number)) (length m)
+        → opening (block_of E k total number) (length m) ≡ opening (Ok (block_from E k total number)) (length m)
     named s b = ap (λ x. opening x (length m)) (named_good E k total number s.0 s.1 b)
 
-    too_short : length m < memory_size (setting_for (block_from E k total number)) → opening (Good (block_from E k total number)) (length m) ≡ refusal 2
+    too_short : length m < memory_size (setting_for (block_from E k total number)) → opening (Ok (block_from E k total number)) (length m) ≡ refusal 2
     too_short l = rw (lt-leb (memory_size (setting_for (block_from E k total number))) (length m) l)
 
-    long_enough : memory_size (setting_for (block_from E k total number)) ≤ length m → opening (Good (block_from E k total number)) (length m) ≡ value 0
+    long_enough : memory_size (setting_for (block_from E k total number)) ≤ length m → opening (Ok (block_from E k total number)) (length m) ≡ value 0
     long_enough l = rw (le-leb (memory_size (setting_for (block_from E k total number))) (length m) l)
 
 -- ---- An identifier
@@ -104,7 +103,7 @@ source_checked b room flow p (f, w) = record {
     symbol : List ℕ
     symbol = symbol_at flow (part 0 (length p - 6) p) b.size 0
 
-    by : Checked → Reading
+    by : Result ℕ Refusal → Reading
     by r = read_by symbol r
 
     inside : 6 ≤ length p → length p - 6 + 6 ≤ length p
@@ -131,7 +130,7 @@ repair_checked b room p w = record {
       ∙ ap (λ x. located (record { esi = x; symbol = part 6 b.size p })) (named p 0 (inside l) w b esi n).1;
 }
   where
-    by : Checked → Reading
+    by : Result ℕ Refusal → Reading
     by r = read_by (part 6 b.size p) r
 
     inside : length p ≡ 6 + b.size → 0 + 6 ≤ length p

@@ -1,7 +1,7 @@
 -- Memory of one of the four kinds gives 3 to the calls of the others: its header names its kind.
 -- Laws: kind_of; none-says: no header of a kind, and its calls say 3; four_kinds.
 use Rattle.std.specs.Prelude.{◌≡◌, ◌<◌, ◌≢◌}
-use Rattle.words.specs.Words.{arith, ℕ, List, refl, ◌∙◌, sym, ap, some, none, subst, take, [], none-ne-some, length}
+use Rattle.words.specs.Words.{arith, ℕ, List, refl, ◌∙◌, sym, ap, Some, None, subst, take, [], none-ne-some, length}
 use Rattle.wire.specs.declared.Setting.{Setting}
 use Rattle.wire.specs.Answers.{Said, refusal}
 use Rattle.wire.specs.Stored.{setting_in}
@@ -34,18 +34,18 @@ kind_of encoder = 3
 kind_of recovery = 4
 
 -- A recovery's memory was opened for its block.
-pub recovery_header : (E k : ℕ) (m : List ℕ) → OfRecovery E k m → (b : Block) × (block_in 4 m ≡ some b) × (b.size ≡ E) × (b.k ≡ k)
+pub recovery_header : (E k : ℕ) (m : List ℕ) → OfRecovery E k m → (b : Block) × (block_in 4 m ≡ Some b) × (b.size ≡ E) × (b.k ≡ k)
 recovery_header E k m r =
     let (b, h) = had_block (block_of E k r.total r.number) (length r.before) (sym r.opened.answer ∙ r.answered) in
     let (is, v) = good_names E k r.total r.number b h in
     let g = stands block_layout b v r.calls r.after [] (opened_stands block_layout b v E k r.total r.number r.before r.after r.answer r.opened r.answered h) r.run in
-    (b, subst (λ x. block_in 4 x ≡ some b) (sym r.left) g.held.header, ap (λ (x : Block). x.size) is, ap (λ (x : Block). x.k) is)
+    (b, subst (λ x. block_in 4 x ≡ Some b) (sym r.left) g.held.header, ap (λ (x : Block). x.size) is, ap (λ (x : Block). x.k) is)
 
-encoder_header : (E k : ℕ) (m : List ℕ) → OfEncoder E k m → (b : Block) × (block_in 3 m ≡ some b)
+encoder_header : (E k : ℕ) (m : List ℕ) → OfEncoder E k m → (b : Block) × (block_in 3 m ≡ Some b)
 encoder_header E k m r =
-    (block_from E k r.total r.number, subst (λ x. block_in 3 x ≡ some (block_from E k r.total r.number)) (sym r.left) (run_held E k r.total r.number r.calls r.run).header)
+    (block_from E k r.total r.number, subst (λ x. block_in 3 x ≡ Some (block_from E k r.total r.number)) (sym r.left) (run_held E k r.total r.number r.calls r.run).header)
 
-has_kind : (kind : Kind) (m : List ℕ) → Of kind m → (s : Setting) × (setting_in (kind_of kind) m ≡ some s)
+has_kind : (kind : Kind) (m : List ℕ) → Of kind m → (s : Setting) × (setting_in (kind_of kind) m ≡ Some s)
 has_kind sender m (t, s) = (_, (heads.opened m (sender-state.header_of (sender_in s)) (sender_held t m s).header).setting)
 has_kind receiver m (E, w, r) = let h = receiver_has E w m r in (_, (headed m h.header h.here).setting)
 has_kind encoder m (E, k, r) = let (b, h) = encoder_header E k m r in let g = blocks.headed 3 m b h in (g.setting, g.kinds)
@@ -53,27 +53,27 @@ has_kind recovery m (E, k, r) = let (b, h, s, w) = recovery_header E k m r in le
 
 -- ---- Without a header of its kind a call says 3
 
-encoder_three : (m : List ℕ) → block_in 3 m ≡ none → (x : Said) → EncoderSays m x → x ≡ refusal 3
+encoder_three : (m : List ℕ) → block_in 3 m ≡ None → (x : Said) → EncoderSays m x → x ≡ refusal 3
 encoder_three m e x (by_add flow adu out a m' out' p) = (p.unopened e).answer
 encoder_three m e x (by_repair esi out a out' p) = (p.unopened e).answer
 
-recovery_three : (m : List ℕ) → block_in 4 m ≡ none → (x : Said) → RecoverySays m x → x ≡ refusal 3
+recovery_three : (m : List ℕ) → block_in 4 m ≡ None → (x : Said) → RecoverySays m x → x ≡ refusal 3
 recovery_three m e x (by_packet c m' v v' a p) = p.received.unopened.1 e
 recovery_three m e x (by_symbol i a p) = p.unopened.1 e
 recovery_three m e x (by_place i a p) = p.unopened.1 e
 
-none-says : (kind : Kind) (m : List ℕ) → setting_in (kind_of kind) m ≡ none → (x : Said) → Says kind m x → x ≡ refusal 3
+none-says : (kind : Kind) (m : List ℕ) → setting_in (kind_of kind) m ≡ None → (x : Said) → Says kind m x → x ≡ refusal 3
 none-says sender m e x p = sender_three m (heads.none-setting m e) x p
 none-says receiver m e x p = says_three m (none-setting m e) x p
 none-says encoder m e x p = encoder_three m (blocks.none-setting 3 m e) x p
 none-says recovery m e x p = recovery_three m (blocks.none-setting 4 m e) x p
 
 -- With one it does not.
-encoder_other : (m : List ℕ) (b : Block) → block_in 3 m ≡ some b → (x : Said) → EncoderSays m x → x ≢ refusal 3
+encoder_other : (m : List ℕ) (b : Block) → block_in 3 m ≡ Some b → (x : Said) → EncoderSays m x → x ≢ refusal 3
 encoder_other m b e x (by_add flow adu out a m' out' p) z = (subst (λ y. Leaves y m out m' out') z (p.kept b e).leaves).0 refl
 encoder_other m b e x (by_repair esi out a out' p) z = (subst (λ y. Leaves y m out m out') z (p.kept b e).leaves).0 refl
 
-recovery_none : (m : List ℕ) (x : Said) → RecoverySays m x → x ≡ refusal 3 → block_in 4 m ≡ none
+recovery_none : (m : List ℕ) (x : Said) → RecoverySays m x → x ≡ refusal 3 → block_in 4 m ≡ None
 recovery_none m x (by_packet c m' v v' a p) z = p.received.unopened.0 z
 recovery_none m x (by_symbol i a p) z = p.unopened.0 z
 recovery_none m x (by_place i a p) z = p.unopened.0 z

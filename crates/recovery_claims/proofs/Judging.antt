@@ -6,11 +6,10 @@
 --   symbol_judged: what the calls that show a symbol answer
 --   every_list
 use denote.Ref.{Bor}
-use Rattle.std.specs.Prelude.{◌≡◌, ◌≤◌, ◌+◌, ◌<◌, ◌∷◌, ◌++◌, ◌↔◌, ◌⊎◌, ◌≢◌}
-use Rattle.words.specs.Words.{arith, ℕ, List, length, refl, ◌∙◌, sym, ap, [], some, none, true, false, Bool, subst, Option}
+use Rattle.std.specs.Prelude.{◌≡◌, ◌≤◌, ◌+◌, ◌<◌, ◌∷◌, ◌++◌, ◌↔◌, ◌⊎◌, ◌≢◌, Result, Ok, Err}
+use Rattle.words.specs.Words.{arith, ℕ, List, length, refl, ◌∙◌, sym, ap, [], Some, None, true, false, Bool, subst, Option}
 use Rattle.words.specs.Words.{ℕ_discrete, dec_lt, lt-ltb, le-ltb, zero-add, true≢false, inr, inl, cond}
 use Rattle.memory.specs.Part.{part}
-use Rattle.wire.specs.declared.Answer.{Answer}
 use Rattle.wire.specs.Answers.{Said, value, refusal, said}
 use Rattle.decoder.specs.Model.{insert, known}
 use Rattle.decoder.specs.Receiver.{Accepted, newly}
@@ -20,8 +19,6 @@ use Rattle.history.specs.Model.{Finding, shows, hides, Origins, bringing, unhear
 use Rattle.history.proofs.Cases.{IsRefusal, numeral}
 use Rattle.history.proofs.Counting.{count_counted}
 use Rattle.origins.proofs.Filling.{brought_in, brought_out}
-use Rattle.receiver.specs.declared.SymbolAnswer.{SymbolAnswer}
-use Rattle.receiver.specs.declared.SymbolAnswer.TheVariants.{Shown, Hidden}
 use Rattle.receiver.specs.Answers.{shown_of}
 use Rattle.claims.specs.Run.{Step, final}
 use Rattle.recovery.specs.Block.{Packet, Formed, all_say, HeardAs, Heard, HeardCount}
@@ -29,8 +26,6 @@ use Rattle.recovery.specs.Model.{equation_of, Tracks, Tracking}
 use Rattle.recovery.proofs.Recovery.{recovery, counts}
 use Rattle.recovery.proofs.Tracking.{tracking, known_is}
 use Rattle.blocks.specs.declared.Block.{Block}
-use Rattle.blocks.specs.declared.Named.{Named}
-use Rattle.blocks.specs.declared.Named.TheVariants.{Good, Bad}
 use Rattle.blocks.specs.Block.{block_of, Valid}
 use Rattle.blocks.proofs.Values.{good_names}
 use Rattle.block_receiver.specs.Reading.{Reading, fails, located}
@@ -40,6 +35,7 @@ use Rattle.block_receiver.proofs.Finding.{past_finding, inside_finding}
 use Rattle.recovery_claims.specs.Run.{Run, logged, read, goes_on, accepted}
 use Rattle.recovery_claims.specs.Judged.{Agrees, New, CallJudged, SymbolJudged, Recovers, EveryList}
 use Rattle.recovery_claims.proofs.Reading.{IsLocated, IsFails, packet_is, number_is, reading_formed}
+use Rattle.wire.specs.declared.Refusal.{Refusal}
 
 -- ---- Heard
 
@@ -179,13 +175,13 @@ module _ (L : Layout) (b : Block) (v : Valid b) where
 
         go : (o : Option (System b)) → insert S (equation_of E k x) ≡ o
             → CallJudged b ps (located x) (said t.answer) × Stands t.memory (logged ps (located x) (said t.answer))
-        go none i =
+        go None i =
             let (a, q) = subst (λ y. Follows L b (added b S y) m t.memory t.answer) i (did (located x) e) in
             let h = stays m t.memory ps q g in (
               judged_none ps x (said t.answer) a ((theory.contradicts ps S g.tracks x formed).0 i),
               subst (λ y. Stands t.memory (logged ps (located x) y)) (sym a) h,
             )
-        go (some T) i =
+        go (Some T) i =
             let (a, held) = subst (λ y. Follows L b (added b S y) m t.memory t.answer) i (did (located x) e) in
             let after : Tracks E k (x ∷ ps) T = theory.goes_on ps S T g.tracks x formed i in
             let hears = subst (λ y. L.Hears t.memory b (origins_after b (located x) (added b S y) g.origins)) i (heard_after (located x) e) in (
@@ -220,18 +216,18 @@ module _ (L : Layout) (b : Block) (v : Valid b) where
     K = g.system
 
     -- What they find.
-    finds : (o : Finding E) → finding b K e ≡ o → (a : SymbolAnswer) → SymbolShown L m e a → Finds L o (shown_of a)
+    finds : (o : Finding E) → finding b K e ≡ o → (a : Result Bool Refusal) → SymbolShown L m e a → Finds L o (shown_of a)
     finds o q a p = subst (λ x. Finds L x (shown_of a)) q (p.finds b K g.held)
 
     part-is : (o : Finding E) → finding b K e ≡ o → (memory part : Bor (List ℕ)) → memory.now ≡ m → PartShown L memory part e → Shows L b o memory part
     part-is o q memory part z p = subst (λ x. Shows L b x memory part) q (p.shows b K (subst (λ x. L.Holds x b K) (sym z) g.held))
 
-    place_is : (o : Finding E) → finding b K e ≡ o → (a : Answer) → PlaceAnswered L m e a → Places L b o m a
+    place_is : (o : Finding E) → finding b K e ≡ o → (a : Result ℕ Refusal) → PlaceAnswered L m e a → Places L b o m a
     place_is o q a p = subst (λ x. Places L b x m a) q (p.places b K g.held)
 
-    abbrev said_heard : SymbolAnswer → Bool
-    said_heard (Shown x) = x
-    said_heard (Hidden x) = false
+    abbrev said_heard : Result Bool Refusal → Bool
+    said_heard (Ok x) = x
+    said_heard (Err x) = false
 
     -- Past the k-th.
     past : k ≤ e → SymbolJudged b L m ps n e
@@ -256,44 +252,44 @@ module _ (L : Layout) (b : Block) (v : Valid b) where
       here : (o : Option (Symbol E)) → known K e ≡ o → finding b K e ≡ shown b e o
       here o q = inside_finding b K e l ∙ ap (shown b e) q
 
-      zero-or_twelve : (o : Option (Symbol E)) (a : Answer) → Finds L (shown b e o) a → (said a ≡ value 0) ⊎ (said a ≡ refusal 12)
-      zero-or_twelve none a q = inr q
-      zero-or_twelve (some x) a q = inl q
+      zero-or_twelve : (o : Option (Symbol E)) (a : Result ℕ Refusal) → Finds L (shown b e o) a → (said a ≡ value 0) ⊎ (said a ≡ refusal 12)
+      zero-or_twelve None a q = inr q
+      zero-or_twelve (Some x) a q = inl q
 
-      zero_exactly : (o : Option (Symbol E)) (a : Answer) → Finds L (shown b e o) a → (said a ≡ value 0) ↔ Accepted o
-      zero_exactly none a q = ((λ h. absurd (subst IsValue (sym h ∙ q) tt)), (λ h. absurd h))
-      zero_exactly (some x) a q = ((λ _. tt), (λ _. q))
+      zero_exactly : (o : Option (Symbol E)) (a : Result ℕ Refusal) → Finds L (shown b e o) a → (said a ≡ value 0) ↔ Accepted o
+      zero_exactly None a q = ((λ h. absurd (subst IsValue (sym h ∙ q) tt)), (λ h. absurd h))
+      zero_exactly (Some x) a q = ((λ _. tt), (λ _. q))
 
-      zero_is : (a : SymbolAnswer) → SymbolShown L m e a → (said (shown_of a) ≡ value 0) ↔ Accepted (known K e)
+      zero_is : (a : Result Bool Refusal) → SymbolShown L m e a → (said (shown_of a) ≡ value 0) ↔ Accepted (known K e)
       zero_is a p = zero_exactly (known K e) (shown_of a) (finds (shown b e (known K e)) (here (known K e) refl) a p)
 
       bytes_here : (memory part : Bor (List ℕ)) (o : Option (Symbol E)) → known K e ≡ o → Shows L b (shown b e o) memory part
           → Accepted o → (f : Filling E) → All E (all_say k ps) f → part.now ≡ bytes_of E (f e)
-      bytes_here memory part none q p a f h = absurd a
-      bytes_here memory part (some x) q p a f h = p.0 ∙ ap (bytes_of E) (sym (theory.right ps K g.tracks e x q f h))
+      bytes_here memory part None q p a f h = absurd a
+      bytes_here memory part (Some x) q p a f h = p.0 ∙ ap (bytes_of E) (sym (theory.right ps K g.tracks e x q f h))
 
       nothing_here : (memory part : Bor (List ℕ)) (o : Option (Symbol E)) → Shows L b (shown b e o) memory part → ¬ Accepted o → part.now ≡ []
-      nothing_here memory part none p n = p
-      nothing_here memory part (some x) p n = absurd (n tt)
+      nothing_here memory part None p n = p
+      nothing_here memory part (Some x) p n = absurd (n tt)
 
-      placed : (a : Answer) (o : Option (Symbol E)) → known K e ≡ o → Places L b (shown b e o) m a → Accepted o
+      placed : (a : Result ℕ Refusal) (o : Option (Symbol E)) → known K e ≡ o → Places L b (shown b e o) m a → Accepted o
           → (at : ℕ) × (said a ≡ value at) × ((f : Filling E) → All E (all_say k ps) f → part at E m ≡ bytes_of E (f e))
-      placed a none q p x = absurd x
-      placed a (some y) q p x = (_, p.0, λ f h. p.1 ∙ ap (bytes_of E) (sym (theory.right ps K g.tracks e y q f h)))
+      placed a None q p x = absurd x
+      placed a (Some y) q p x = (_, p.0, λ f h. p.1 ∙ ap (bytes_of E) (sym (theory.right ps K g.tracks e y q f h)))
 
-      unplaced : (a : Answer) (o : Option (Symbol E)) → Places L b (shown b e o) m a → ¬ Accepted o → said a ≡ refusal 12
-      unplaced a none p n = p
-      unplaced a (some x) p n = absurd (n tt)
+      unplaced : (a : Result ℕ Refusal) (o : Option (Symbol E)) → Places L b (shown b e o) m a → ¬ Accepted o → said a ≡ refusal 12
+      unplaced a None p n = p
+      unplaced a (Some x) p n = absurd (n tt)
 
-      heard_is : (a : SymbolAnswer) → SymbolShown L m e a → (a ≡ Shown true) ↔ Heard ps e
-      heard_is (Hidden x) p = (
+      heard_is : (a : Result Bool Refusal) → SymbolShown L m e a → (a ≡ Ok true) ↔ Heard ps e
+      heard_is (Err x) p = (
         (λ z. absurd (true≢false (sym (ap said_heard z)))),
-        (λ h. absurd (subst IsValue (sym ((zero_is (Hidden x) p).1 (told.1 (inr h)))) tt)),
+        (λ h. absurd (subst IsValue (sym ((zero_is (Err x) p).1 (told.1 (inr h)))) tt)),
       )
-      heard_is (Shown x) p =
+      heard_is (Ok x) p =
           let q = p.origin b K g.origins g.held g.hears x refl in (
             (λ z. (g.heard e l).0 (sym q ∙ ap said_heard z)),
-            (λ h. ap Shown (q ∙ (g.heard e l).1 h)),
+            (λ h. ap Ok (q ∙ (g.heard e l).1 h)),
           )
 
       inside : SymbolJudged b L m ps n e
@@ -319,8 +315,8 @@ module _ (L : Layout) (b : Block) (v : Valid b) where
 
   -- ---- Every list
 
-  pub opened_stands : (F j total number : ℕ) (m₀ m : List ℕ) (a : Answer) → Opened L F j total number m₀ m a → said a ≡ value 0
-      → block_of F j total number ≡ Good b → Stands m []
+  pub opened_stands : (F j total number : ℕ) (m₀ m : List ℕ) (a : Result ℕ Refusal) → Opened L F j total number m₀ m a → said a ≡ value 0
+      → block_of F j total number ≡ Ok b → Stands m []
   opened_stands F j total number m₀ m a p e h = record {
     system = opened b;
     held = p.holds b h e;
@@ -344,9 +340,9 @@ module _ (L : Layout) (b : Block) (v : Valid b) where
       }
 
 -- An opening that answers 0 had a block.
-pub had_block : (x : Named) (room : ℕ) → opening x room ≡ value 0 → (b : Block) × (x ≡ Good b)
-had_block (Bad r) room e = absurd (subst IsRefusal e tt)
-had_block (Good b) room e = (b, refl)
+pub had_block : (x : Result Block Refusal) (room : ℕ) → opening x room ≡ value 0 → (b : Block) × (x ≡ Ok b)
+had_block (Err r) room e = absurd (subst IsRefusal e tt)
+had_block (Ok b) room e = (b, refl)
 
 pub every_list : (L : Layout) → EveryList L
 every_list L E k total number m₀ m a p e ts r =

@@ -5,8 +5,8 @@
 --   after: a memory for the next system, with the header and the bytes past its size that it had
 --   next: a call
 --   runs_exist
-use Rattle.std.specs.Prelude.{◌≡◌, ◌≤◌, ◌+◌, ◌<◌, ◌%◌, ◌∷◌, ◌≢◌, ◌&&◌, ◌||◌, ◌-◌}
-use Rattle.words.specs.Words.{arith, ℕ, length, List, refl, ◌∙◌, sym, ap, [], some, none, suc, zero, true, false, Bool, subst, Option, drop}
+use Rattle.std.specs.Prelude.{◌≡◌, ◌≤◌, ◌+◌, ◌<◌, ◌%◌, ◌∷◌, ◌≢◌, ◌&&◌, ◌||◌, ◌-◌, Result, Ok, Err}
+use Rattle.words.specs.Words.{arith, ℕ, length, List, refl, ◌∙◌, sym, ap, [], Some, None, suc, zero, true, false, Bool, subst, Option, drop}
 use Rattle.words.specs.Words.{take, cond, leb, dec_lt, map, mod-eq_of_lt, leb-true, ltb, inr, none-ne-some, some-injective, length-replicate, length-take, length-drop}
 use lib.Seq.{take-take}
 use Rattle.memory.specs.Part.{part, splice}
@@ -29,8 +29,6 @@ use Rattle.origins.specs.Origins.{origin_at, heard_in, Hears}
 use Rattle.origins.proofs.Filling.{brought_out}
 use Rattle.holding.proofs.Headers.{memory_is, setting_fits}
 use Rattle.holding.proofs.Building.{Built, built}
-use Rattle.receiver.specs.declared.PacketAnswer.{PacketAnswer}
-use Rattle.receiver.specs.declared.PacketAnswer.TheVariants.{Accepted, NotAccepted}
 use Rattle.receiver.specs.Answers.{answer_of}
 use Rattle.claims.specs.Run.{Step}
 use Rattle.claims.specs.NotEmpty.{Asked, asked, AllOfBytes}
@@ -39,8 +37,6 @@ use Rattle.recovery.specs.Model.{equation_of}
 use Rattle.blocks.specs.declared.Block.{Block}
 use Rattle.blocks.specs.Block.{block_of, setting_for, Valid}
 use Rattle.blocks.proofs.Values.{good_names, setting_valid}
-use Rattle.block_receiver.specs.declared.check.Checked.{Checked}
-use Rattle.block_receiver.specs.declared.check.Checked.TheVariants.{Good, Bad}
 use Rattle.block_receiver.specs.Reading.{Reading, fails, located, source_check, repair_check, read_by, read_packet, reading}
 use Rattle.block_receiver.specs.Model.{System, opened, hearing}
 use Rattle.block_receiver.specs.Promises.{PacketAnswered}
@@ -62,14 +58,14 @@ module _ (b : Block) where
   reason_of_lem : (c : Call) (n : ℕ) → read_packet b c ≡ fails n → (x : Refusal) × (number_of x ≡ n) × (n ≢ 3)
   reason_of_lem (source-call flow p) n e = go (source_check b p) refl e
     where
-      go : (y : Checked) → source_check b p ≡ y → read_by (symbol_at flow (part 0 (length p - 6) p) b.size 0) y ≡ fails n → (x : Refusal) × (number_of x ≡ n) × (n ≢ 3)
-      go (Good i) q z = absurd (subst IsFails (sym z) tt)
-      go (Bad x) q z = (x, ap number_is z, λ h. source_bad b p x q (ap number_is z ∙ h))
+      go : (y : Result ℕ Refusal) → source_check b p ≡ y → read_by (symbol_at flow (part 0 (length p - 6) p) b.size 0) y ≡ fails n → (x : Refusal) × (number_of x ≡ n) × (n ≢ 3)
+      go (Ok i) q z = absurd (subst IsFails (sym z) tt)
+      go (Err x) q z = (x, ap number_is z, λ h. source_bad b p x q (ap number_is z ∙ h))
   reason_of_lem (repair-call p) n e = go (repair_check b p) refl e
     where
-      go : (y : Checked) → repair_check b p ≡ y → read_by (part 6 b.size p) y ≡ fails n → (x : Refusal) × (number_of x ≡ n) × (n ≢ 3)
-      go (Good i) q z = absurd (subst IsFails (sym z) tt)
-      go (Bad x) q z = (x, ap number_is z, λ h. repair_bad b p x q (ap number_is z ∙ h))
+      go : (y : Result ℕ Refusal) → repair_check b p ≡ y → read_by (part 6 b.size p) y ≡ fails n → (x : Refusal) × (number_of x ≡ n) × (n ≢ 3)
+      go (Ok i) q z = absurd (subst IsFails (sym z) tt)
+      go (Err x) q z = (x, ap number_is z, λ h. repair_bad b p x q (ap number_is z ∙ h))
 
   reason : (room : ℕ) (c : Call) (n : ℕ) → reading b room c ≡ fails n → (x : Refusal) × (number_of x ≡ n) × (n ≢ 3)
   reason room c n e = go (leb (working_size (setting_for b)) room) e
@@ -94,10 +90,10 @@ new_most zero f g = omega arith
 new_most (suc m) f g = omega (arith, one (f 0) (g 0), new_most m (λ i. f (suc i)) (λ i. g (suc i)))
   where
     one : {A : Type 0} (o p : Option A) → is_new o p ≤ 1
-    one none none = omega arith
-    one none (some y) = omega arith
-    one (some x) none = omega arith
-    one (some x) (some y) = omega arith
+    one None None = omega arith
+    one None (Some y) = omega arith
+    one (Some x) None = omega arith
+    one (Some x) (Some y) = omega arith
 
 -- ---- A memory for the next system
 
@@ -172,7 +168,7 @@ module _ (b : Block) (v : Valid b) (m : List ℕ) (S : System b) (h : Holds m b 
     most = new_most k (known T) _
 
     -- The call that makes it so was taken.
-    taken : (w : List ℕ) → insert S (first_row k E w) ≡ some T → Took b first own m after w w (Accepted (newly (record { base = 0; window = S }) (record { base = 0; window = T })) 0)
+    taken : (w : List ℕ) → insert S (first_row k E w) ≡ Some T → Took b first own m after w w (Ok (newly (record { base = 0; window = S }) (record { base = 0; window = T }), 0))
     taken w e = record {
       memory = contained;
       header = header;
@@ -200,7 +196,7 @@ module _ (b : Block) (v : Valid b) (m : List ℕ) (S : System b) (h : Holds m b 
 record Next (b : Block) (m : List ℕ) (q : Asked) : Type 0 where
   pub memory : List ℕ
   pub left : List ℕ
-  pub answer : PacketAnswer
+  pub answer : Result (ℕ × ℕ) Refusal
   pub answered : PacketAnswered block_layout q.call m memory q.working left answer
   pub system : System b
   pub held : Holds memory b system
@@ -218,7 +214,7 @@ module _ (b : Block) (v : Valid b) (m : List ℕ) (S : System b) (h : Holds m b 
       record {
         memory = m;
         left = q.working;
-        answer = NotAccepted x;
+        answer = Err x;
         answered = unchanged q.call m q.working x (λ z. absurd (three (sym is ∙ ap numeral z)))
             (λ z. absurd (none-ne-some b (sym z ∙ h.header)))
             (λ c z.
@@ -243,10 +239,10 @@ module _ (b : Block) (v : Valid b) (m : List ℕ) (S : System b) (h : Holds m b 
 
     module _ (first own : ℕ) (few : first + own ≤ k) (own_is : (H : Origins) (x : ℕ) → bringing first own H x ≡ hearing b p H x) where
       next_by : (o : Option (System b)) → insert S (equation_of E k p) ≡ o → Next b m q
-      next_by none i = record {
+      next_by None i = record {
         memory = m;
         left = row;
-        answer = NotAccepted refusals.Contradiction;
+        answer = Err refusals.Contradiction;
         answered = took b m q.working opens p sized q.call (lent b room_lent q.call p e).1 first own own_is m row _ (record {
           memory = record { same = refl; past = refl };
           header = refl;
@@ -256,7 +252,7 @@ module _ (b : Block) (v : Valid b) (m : List ℕ) (S : System b) (h : Holds m b 
         system = S;
         held = h;
       }
-      next_by (some T) i =
+      next_by (Some T) i =
           let r = (subst (elimination.Added (laws E pos) S (equation_of E k p)) i (elimination.insert_added (laws E pos) S (equation_of E k p) h.reduced)).0 in
           record {
             memory = after b v m S h T r first own few;

@@ -6,14 +6,13 @@
 --   all_sent: so it satisfies all that was accepted
 --   sent_accepted, sent-shown
 use denote.Ref.{Bor}
-use Rattle.std.specs.Prelude.{◌≡◌, ◌≤◌, ◌+◌, ◌<◌, ◌-◌, ◌∷◌, ◌++◌}
+use Rattle.std.specs.Prelude.{◌≡◌, ◌≤◌, ◌+◌, ◌<◌, ◌-◌, ◌∷◌, ◌++◌, Result, Ok}
 use Rattle.words.specs.Words.{arith, ℕ, List, length, refl, ◌∙◌, sym, ap, ap₂, [], get_or, true, false, Bool, subst, drop, take, cond, leb, suc, zero}
 use Rattle.words.specs.Words.{length-append, append-nil, get_or-append, take-append_seam, dec_lt}
 use lib.ListN.{get_or-eq_default}
 use lib.Seq.{get_or_at}
 use Rattle.memory.specs.Part.{part}
 use Rattle.memory.specs.Number.{bytes}
-use Rattle.wire.specs.declared.Answer.TheVariants.{Done}
 use Rattle.wire.specs.Answers.{Said, value, refusal, said}
 use Rattle.wire.specs.Opening.{working_memory}
 use Rattle.wire.specs.Packets.{symbol_at}
@@ -38,13 +37,13 @@ use Rattle.encoder_claims.specs.Judged.{Writes, AduJudged, RepairJudged, IsSymbo
 use Rattle.encoder_claims.proofs.Running.{impossible, below, symbols-append, calls-whole}
 use Rattle.encoder_claims.proofs.Judging.{encoder_judged}
 use Rattle.block_receiver.specs.Reading.{Reading, fails, located, read_packet, reading}
-use Rattle.receiver.specs.declared.SymbolAnswer.{SymbolAnswer}
 use Rattle.block_receiver.specs.Promises.{Layout, SymbolShown, PartShown}
 use Rattle.recovery_claims.specs.Run.{logged, read, goes_on, accepted}
 use Rattle.recovery_claims.specs.Judged.{CallJudged}
 use Rattle.recovery_claims.specs.Sent.{Wrote, wrote_source, wrote_repair, AsWritten, Peers, SentAccepted, SentShown}
 use Rattle.recovery_claims.proofs.Reading.{IsLocated, packet_is, source_reads, repair_reads}
 use Rattle.recovery_claims.proofs.Checking.{enough}
+use Rattle.wire.specs.declared.Refusal.{Refusal}
 
 -- ---- The encoder's symbols
 
@@ -67,7 +66,7 @@ through_same k s t q e p = record { under = p.under; passes = λ i l. p.passes i
 -- ---- What was written
 
 -- The packet at the front of the output.
-front : (packet out out' : List ℕ) (n : ℕ) → Writes packet (said (Done n)) out out' → take n out' ≡ packet
+front : (packet out out' : List ℕ) (n : ℕ) → Writes packet (said (Ok n)) out out' → take n out' ≡ packet
 front packet out out' n w =
     let i : n ≡ length packet = ap numeral w.answer in
     ap₂ (λ x y. take x y) i w.output ∙ take-append_seam packet (drop (length packet) out)
@@ -104,20 +103,20 @@ module _ (b : Block) (v : Valid b) (l : List EncoderCall) (r : EncoderRun b.size
 
   -- A source packet.
   module _ (before after : List EncoderCall) (flow : ℕ) (adu out : List ℕ) (n : ℕ) (m' out' : List ℕ)
-      (e : l ≡ before ++ (added flow adu out (Done n) m' out' ∷ after)) where
+      (e : l ≡ before ++ (added flow adu out (Ok n) m' out' ∷ after)) where
     abbrev taken : List (List ℕ)
     taken = symbols_of E before
 
     abbrev adus : Packet
     adus = record { esi = length taken; symbol = symbol_at flow adu E 0 }
 
-    adding_judged : AduJudged E k b.total b.number taken (memory_after r.after before) adu out (said (Done n)) m' out'
-    adding_judged = encoder_judged E k b.total b.number l r before (added flow adu out (Done n) m' out') after e
+    adding_judged : AduJudged E k b.total b.number taken (memory_after r.after before) adu out (said (Ok n)) m' out'
+    adding_judged = encoder_judged E k b.total b.number l r before (added flow adu out (Ok n) m' out') after e
 
     module _ (y : length taken < k) (z : 3 + length adu ≤ E) where
       split : all ≡ taken ++ (symbol_at flow adu E 0 ∷ symbols_of E after)
       split =
-          ap (symbols_of E) e ∙ symbols-append E before (added flow adu out (Done n) m' out' ∷ after)
+          ap (symbols_of E) e ∙ symbols-append E before (added flow adu out (Ok n) m' out' ∷ after)
           ∙ ap (λ x. taken ++ (x ++ symbols_of E after)) (only_symbol flow adu E z)
 
       here : get_or all (length taken) [] ≡ symbol_at flow adu E 0
@@ -131,7 +130,7 @@ module _ (b : Block) (v : Valid b) (l : List EncoderCall) (r : EncoderRun b.size
           let w = subst (Whole E) here (whole_at E all wholes (length taken) inside) in
           record { small = omega (arith, y, few); sized = w.sized; bytes = w.small }
 
-      adu-sent : Writes (adu ++ identifier_bytes (identifier_of b (length taken))) (said (Done n)) out out' → Sent (source-call flow (take n out'))
+      adu-sent : Writes (adu ++ identifier_bytes (identifier_of b (length taken))) (said (Ok n)) out out' → Sent (source-call flow (take n out'))
       adu-sent o = record {
         packet = adus;
         reads = ap (λ x. read_packet b (source-call flow x)) (front _ out out' n o) ∙ source_reads b v flow adu (length taken) y z;
@@ -149,28 +148,28 @@ module _ (b : Block) (v : Valid b) (l : List EncoderCall) (r : EncoderRun b.size
         (λ y. absurd (impossible n 18 (j.full x y).answer)))
 
   -- A repair packet.
-  module _ (before after : List EncoderCall) (esi : ℕ) (out : List ℕ) (n : ℕ) (out' : List ℕ) (e : l ≡ before ++ (repaired esi out (Done n) out' ∷ after)) where
+  module _ (before after : List EncoderCall) (esi : ℕ) (out : List ℕ) (n : ℕ) (out' : List ℕ) (e : l ≡ before ++ (repaired esi out (Ok n) out' ∷ after)) where
     abbrev held : List (List ℕ)
     held = symbols_of E before
 
-    making_judged : RepairJudged E k b.total b.number held (memory_after r.after before) esi out (said (Done n)) out'
-    making_judged = encoder_judged E k b.total b.number l r before (repaired esi out (Done n) out') after e
+    making_judged : RepairJudged E k b.total b.number held (memory_after r.after before) esi out (said (Ok n)) out'
+    making_judged = encoder_judged E k b.total b.number l r before (repaired esi out (Ok n) out') after e
 
     same_byte : k ≤ length held → (x : ℕ) → x < E → (i : ℕ) → i < k → byte_at E (carried E all) x i ≡ bytes_at held x i
     same_byte h x g i q =
-        let stands = before_at before (repaired esi out (Done n) out' ∷ after) e i (omega arith) in
+        let stands = before_at before (repaired esi out (Ok n) out' ∷ after) e i (omega arith) in
         ap (λ y. get_or y x 0) (carries E all wholes i (inside i h q) ∙ stands)
       where
         inside : (i : ℕ) → k ≤ length held → i < k → i < length all
         inside i h q =
             omega (
               arith,
-              ap length (ap (symbols_of E) e ∙ symbols-append E before (repaired esi out (Done n) out' ∷ after)),
-              length-append held (symbols_of E (repaired esi out (Done n) out' ∷ after)),
+              ap length (ap (symbols_of E) e ∙ symbols-append E before (repaired esi out (Ok n) out' ∷ after)),
+              length-append held (symbols_of E (repaired esi out (Ok n) out' ∷ after)),
             )
 
     symbol_sent : k ≤ esi → esi < b.total → k ≤ length held → (y : List ℕ) → IsSymbol E k b.total b.number held esi y
-        → Writes (identifier_bytes (identifier_of b esi) ++ y) (said (Done n)) out out' → Sent (repair-call (take n out'))
+        → Writes (identifier_bytes (identifier_of b esi) ++ y) (said (Ok n)) out out' → Sent (repair-call (take n out'))
     symbol_sent f g h y s o = record {
       packet = made;
       reads = reads;
@@ -257,7 +256,7 @@ module _ (L : Layout) (b : Block) (l : List EncoderCall) (ts : List Step) (m : L
       let s = sent b valid l p.encoder c w in
       j.accepted.1 (s.packet, enough b room c h ∙ s.reads, (carried E (symbols_of E l), (s.satisfied, fills)))
 
-  shows_it : (e : ℕ) → e < length (symbols_of E l) → (x : SymbolAnswer) → SymbolShown L m e x → said (shown_of x) ≡ value 0
+  shows_it : (e : ℕ) → e < length (symbols_of E l) → (x : Result Bool Refusal) → SymbolShown L m e x → said (shown_of x) ≡ value 0
       → (memory part : Bor (List ℕ)) → memory.now ≡ m → PartShown L memory part e → part.now ≡ get_or (symbols_of E l) e []
   shows_it e i x q z memory part y r =
       let (n, h) = p.recovers.different in

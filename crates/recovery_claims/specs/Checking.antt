@@ -1,10 +1,9 @@
 -- The checks before 11 a second time, in plain numbers: what opening and the packet calls refuse, in which order (document 02, No. 9). An identifier is read
 -- from six bytes: block number, ESI, number of source symbols.
-use Rattle.std.specs.Prelude.{◌≡◌, ◌≤◌, ◌+◌, ◌<◌, ◌-◌, ◌*◌}
+use Rattle.std.specs.Prelude.{◌≡◌, ◌≤◌, ◌+◌, ◌<◌, ◌-◌, ◌*◌, Result}
 use Rattle.words.specs.Words.{ℕ, length, List, get_or}
 use Rattle.memory.specs.Part.{part}
 use Rattle.wire.specs.Answers.{said}
-use Rattle.wire.specs.declared.Answer.{Answer}
 use Rattle.wire.specs.Opening.{working_memory}
 use Rattle.wire.specs.Packets.{symbol_at}
 use Rattle.history.specs.History.{source-call, repair-call, OfBytes}
@@ -12,11 +11,12 @@ use Rattle.blocks.specs.declared.Block.{Block}
 use Rattle.encoder_claims.specs.Judged.{OpeningJudged}
 use Rattle.block_receiver.specs.Reading.{fails, located, reading}
 use Rattle.block_receiver.specs.Promises.{Layout, Opened}
+use Rattle.wire.specs.declared.Refusal.{Refusal}
 
 -- Opening answers and leaves what an encoder's does: 1, 18, 2, else 0.
 abbrev pub OpeningIsJudged : Layout → Type 0
 OpeningIsJudged L =
-    (E k total number : ℕ) (m m' : List ℕ) (a : Answer) → Opened L E k total number m m' a → OpeningJudged E k total number m (said a) m'
+    (E k total number : ℕ) (m m' : List ℕ) (a : Result ℕ Refusal) → Opened L E k total number m m' a → OpeningJudged E k total number m (said a) m'
 
 -- The six bytes of an identifier from a place on name this block and this ESI.
 pub record Names (b : Block) (p : List ℕ) (at esi : ℕ) : Type 0 where

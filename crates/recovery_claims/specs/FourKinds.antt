@@ -1,15 +1,12 @@
 -- Memory that was opened for one of the four kinds of end gives 3 to the calls of the others (document 02, No. 9). By the promises alone.
 use Rattle.std.specs.Borrow.{Bor}
-use Rattle.std.specs.Prelude.{◌≡◌, ◌<◌, ◌≢◌}
-use Rattle.words.specs.Words.{ℕ, List, take, []}
+use Rattle.std.specs.Prelude.{◌≡◌, ◌<◌, ◌≢◌, Result}
+use Rattle.words.specs.Words.{ℕ, List, take, [], Bool}
 use Rattle.wire.specs.declared.Setting.{Setting}
-use Rattle.wire.specs.declared.Answer.{Answer}
 use Rattle.wire.specs.Answers.{Said, value, refusal, said}
 use Rattle.wire.specs.Opening.{receiver_memory}
 use Rattle.wire.specs.Packets.{zeros}
 use Rattle.history.specs.History.{Call}
-use Rattle.receiver.specs.declared.PacketAnswer.{PacketAnswer}
-use Rattle.receiver.specs.declared.SymbolAnswer.{SymbolAnswer}
 use Rattle.receiver.specs.Answers.{answer_of, shown_of}
 use Rattle.claims.specs.Run.{Step, final}
 use Rattle.claims.specs.AnyMemory.{OfSender, OfReceiver, SenderSays, ReceiverSays}
@@ -18,6 +15,7 @@ use Rattle.block_receiver.specs.Promises.{Opened, PacketAnswered, SymbolShown, P
 use Rattle.block_receiver.specs.Layout.{block_layout}
 use Rattle.encoder_claims.specs.Run.{EncoderCall, EncoderRun, memory_after}
 use Rattle.recovery_claims.specs.Run.{Run}
+use Rattle.wire.specs.declared.Refusal.{Refusal}
 
 -- A memory of an encoder, and of a recovery, of a block of k source symbols of E bytes: as a list of its calls left it, from an opening that answered 0.
 pub record OfEncoder (E k : ℕ) (m : List ℕ) : Type 0 where
@@ -32,7 +30,7 @@ pub record OfRecovery (E k : ℕ) (m : List ℕ) : Type 0 where
   pub number : ℕ
   pub before : List ℕ
   pub after : List ℕ
-  pub answer : Answer
+  pub answer : Result ℕ Refusal
   pub opened : Opened block_layout E k total number before after answer
   pub answered : said answer ≡ value 0
   pub calls : List Step
@@ -41,13 +39,13 @@ pub record OfRecovery (E k : ℕ) (m : List ℕ) : Type 0 where
 
 -- What a call of an encoder, or of a recovery, may say on the memory m by its promise.
 pub data EncoderSays (m : List ℕ) : Said → Type 0 where
-  by_add : (flow : ℕ) (adu out : List ℕ) (a : Answer) (m' out' : List ℕ) → Adds flow adu m out a m' out' → EncoderSays m (said a)
-  by_repair : (esi : ℕ) (out : List ℕ) (a : Answer) (out' : List ℕ) → Makes esi m out a out' → EncoderSays m (said a)
+  by_add : (flow : ℕ) (adu out : List ℕ) (a : Result ℕ Refusal) (m' out' : List ℕ) → Adds flow adu m out a m' out' → EncoderSays m (said a)
+  by_repair : (esi : ℕ) (out : List ℕ) (a : Result ℕ Refusal) (out' : List ℕ) → Makes esi m out a out' → EncoderSays m (said a)
 
 pub data RecoverySays (m : List ℕ) : Said → Type 0 where
-  by_packet : (c : Call) (m' v v' : List ℕ) (a : PacketAnswer) → PacketAnswered block_layout c m m' v v' a → RecoverySays m (said (answer_of a))
-  by_symbol : (e : ℕ) (a : SymbolAnswer) → SymbolShown block_layout m e a → RecoverySays m (said (shown_of a))
-  by_place : (e : ℕ) (a : Answer) → PlaceAnswered block_layout m e a → RecoverySays m (said a)
+  by_packet : (c : Call) (m' v v' : List ℕ) (a : Result (ℕ × ℕ) Refusal) → PacketAnswered block_layout c m m' v v' a → RecoverySays m (said (answer_of a))
+  by_symbol : (e : ℕ) (a : Result Bool Refusal) → SymbolShown block_layout m e a → RecoverySays m (said (shown_of a))
+  by_place : (e : ℕ) (a : Result ℕ Refusal) → PlaceAnswered block_layout m e a → RecoverySays m (said a)
 
 -- The four kinds of end: whose memory it is, and what that end's calls may say on it.
 pub data Kind : Type 0 where
@@ -76,5 +74,5 @@ pub record FourKinds : Type 0 where
   pub zero : (kind : Kind) (n : ℕ) (x : Said) → Says kind (zeros n) x → x ≡ refusal 3
   pub short : (E k : ℕ) (m : List ℕ) → OfRecovery E k m → (n : ℕ) → n < receiver_memory E k → (x : Said) → RecoverySays (take n m) x → x ≡ refusal 3
   -- Where the calls of a recovery say 3, its part is empty.
-  pub part : (m part : Bor (List ℕ)) → ((x : Said) → RecoverySays m.now x → x ≡ refusal 3) → (e : ℕ) (a : SymbolAnswer) → SymbolShown block_layout m.now e a
+  pub part : (m part : Bor (List ℕ)) → ((x : Said) → RecoverySays m.now x → x ≡ refusal 3) → (e : ℕ) (a : Result Bool Refusal) → SymbolShown block_layout m.now e a
       → PartShown block_layout m part e → part.now ≡ []

@@ -1,24 +1,21 @@
 -- What is claimed of every list of packet calls from an opening to recover a block (document 02, No. 9). The packets accepted say, each, that its symbol is the
 -- one with its ESI (`says`, crate `recovery`: `Recovery.polynomial` and `sources` tell what that is); a block is a filling of the positions 0 to k - 1.
 use Rattle.std.specs.Borrow.{Bor}
-use Rattle.std.specs.Prelude.{◌≡◌, ◌≤◌, ◌<◌, ◌∷◌, ◌++◌, ◌↔◌, ◌⊎◌}
-use Rattle.words.specs.Words.{ℕ, List, [], true}
+use Rattle.std.specs.Prelude.{◌≡◌, ◌≤◌, ◌<◌, ◌∷◌, ◌++◌, ◌↔◌, ◌⊎◌, Result, Ok}
+use Rattle.words.specs.Words.{ℕ, List, [], true, Bool}
 use Rattle.memory.specs.Part.{part}
-use Rattle.wire.specs.declared.Answer.{Answer}
 use Rattle.wire.specs.Answers.{Said, value, refusal, said}
 use Rattle.history.specs.Symbol.{bytes_of}
 use Rattle.history.specs.History.{Filling, All, Consistent, Known, Counted, IsValue}
-use Rattle.receiver.specs.declared.SymbolAnswer.{SymbolAnswer}
-use Rattle.receiver.specs.declared.SymbolAnswer.TheVariants.{Shown}
 use Rattle.receiver.specs.Answers.{shown_of}
 use Rattle.claims.specs.Run.{Step, final}
 use Rattle.recovery.specs.Block.{Packet, says, all_say, Heard, HeardCount, Recovery}
 use Rattle.blocks.specs.declared.Block.{Block}
-use Rattle.blocks.specs.declared.Named.TheVariants.{Good}
 use Rattle.blocks.specs.Block.{block_of}
 use Rattle.block_receiver.specs.Reading.{Reading, fails, located}
 use Rattle.block_receiver.specs.Promises.{Layout, Opened, SymbolShown, PartShown, PlaceAnswered}
 use Rattle.recovery_claims.specs.Run.{Run, read, accepted}
+use Rattle.wire.specs.declared.Refusal.{Refusal}
 
 module _ (b : Block) where
   open b use {size as E, k}
@@ -44,19 +41,19 @@ module _ (b : Block) where
   -- their promises.
   pub record SymbolJudged (L : Layout) (m : List ℕ) (ps : List Packet) (n e : ℕ) : Type 0 where
     -- The symbol call answers 0 or 12; 0 exactly for one of the k source symbols, when k symbols with different ESIs were accepted, or that one was.
-    pub answers : (a : SymbolAnswer) → SymbolShown L m e a → (said (shown_of a) ≡ value 0) ⊎ (said (shown_of a) ≡ refusal 12)
-    pub shown : (a : SymbolAnswer) → SymbolShown L m e a → (said (shown_of a) ≡ value 0) ↔ ((e < k) × ((k ≤ n) ⊎ Heard ps e))
+    pub answers : (a : Result Bool Refusal) → SymbolShown L m e a → (said (shown_of a) ≡ value 0) ⊎ (said (shown_of a) ≡ refusal 12)
+    pub shown : (a : Result Bool Refusal) → SymbolShown L m e a → (said (shown_of a) ≡ value 0) ↔ ((e < k) × ((k ≤ n) ⊎ Heard ps e))
     -- That is when all blocks that satisfy every accepted packet have the same bytes there; then those are shown, and else the part is empty.
-    pub known : (a : SymbolAnswer) → SymbolShown L m e a → (said (shown_of a) ≡ value 0) ↔ ((e < k) × Known E (all_say k ps) e)
+    pub known : (a : Result Bool Refusal) → SymbolShown L m e a → (said (shown_of a) ≡ value 0) ↔ ((e < k) × Known E (all_say k ps) e)
     pub bytes : (memory shown : Bor (List ℕ)) → memory.now ≡ m → PartShown L memory shown e → e < k → Known E (all_say k ps) e
         → (f : Filling E) → All E (all_say k ps) f → shown.now ≡ bytes_of E (f e)
     pub nothing : (memory shown : Bor (List ℕ)) → memory.now ≡ m → PartShown L memory shown e → ¬ ((e < k) × Known E (all_say k ps) e) → shown.now ≡ []
     -- The call for its place answers where these bytes start in the memory, or 12.
-    pub place : (a : Answer) → PlaceAnswered L m e a → e < k → Known E (all_say k ps) e
+    pub place : (a : Result ℕ Refusal) → PlaceAnswered L m e a → e < k → Known E (all_say k ps) e
         → (at : ℕ) × (said a ≡ value at) × ((f : Filling E) → All E (all_say k ps) f → part at E m ≡ bytes_of E (f e))
-    pub nowhere : (a : Answer) → PlaceAnswered L m e a → ¬ ((e < k) × Known E (all_say k ps) e) → said a ≡ refusal 12
+    pub nowhere : (a : Result ℕ Refusal) → PlaceAnswered L m e a → ¬ ((e < k) × Known E (all_say k ps) e) → said a ≡ refusal 12
     -- Beside the 0 the symbol call says heard exactly when a source packet brought it.
-    pub heard : (a : SymbolAnswer) → SymbolShown L m e a → (a ≡ Shown true) ↔ ((e < k) × Heard ps e)
+    pub heard : (a : Result Bool Refusal) → SymbolShown L m e a → (a ≡ Ok true) ↔ ((e < k) × Heard ps e)
 
   -- Each call of the list, after the calls before it, is answered so.
   abbrev pub Answered : List Step → Type 0
@@ -78,6 +75,6 @@ module _ (b : Block) where
 -- From memory on which opening has just answered 0, with any E, k, total and block number, it holds of every list of packet calls.
 abbrev pub EveryList : Layout → Type 0
 EveryList L =
-    (E k total number : ℕ) (m₀ m : List ℕ) (a : Answer) → Opened L E k total number m₀ m a → said a ≡ value 0
+    (E k total number : ℕ) (m₀ m : List ℕ) (a : Result ℕ Refusal) → Opened L E k total number m₀ m a → said a ≡ value 0
     → (ts : List Step) → Run L m ts
-    → (b : Block) × (block_of E k total number ≡ Good b) × Recovers b L ts (final m ts)
+    → (b : Block) × (block_of E k total number ≡ Ok b) × Recovers b L ts (final m ts)

@@ -1,140 +1,80 @@
 -- `block_encoder::add_adu` meets its contract.
 use Rattle.std.specs.Prelude.{◌≡◌, ◌≤◌, ◌<◌, ◌+◌}
-use Rattle.words.specs.Words.{arith, ℕ, List, length, ◌∙◌, sym, some, true, leb, leb-true}
-use Rattle.memory.specs.Number.{number}
-use Rattle.memory.specs.Part.{part}
-use Rattle.blocks.specs.declared.Block.{Block}
-use Rattle.blocks.specs.Stored.{block_in, taken_in}
-use Rattle.blocks.proofs.Stored.{block-is, block_none, Headed, headed}
-use Rattle.block_encoder.proofs.Promising.{kept, promise_unopened, promise_refused, adding_short, adding_full, adding-long}
-use Rattle.block_encoder.proofs.Taking.{symbols-room, symbol_room, added}
+use Rattle.words.specs.Words.{arith, ℕ, length, ◌∙◌, sym, Some, leb-true}
+use Rattle.blocks.specs.Stored.{block_in}
+use Rattle.blocks.proofs.Stored.{Headed, headed}
+use Rattle.block_encoder.proofs.Promising.{promise_refused, adding_short, adding_full, adding-long}
+use Rattle.block_encoder.proofs.Taking.{symbols-room, symbol_room, taken_is, added}
 use Rattle.block_encoder.proofs.add_adu.Goals as goal
+use Rattle.block_encoder.proofs.add_adu.Goals.{In_ok-block}
 
--- How many ADUs were taken.
-taken_is : (m : List ℕ) (n : ℕ) → n ≡ number (part 10 2 m) → n ≡ taken_in m
-unfolding taken_in
-taken_is m n e = e
+-- The block that the memory was opened for.
+has : (c : In_ok-block) → block_in 3 c.args.mem.now ≡ Some c.in_ok-block.block
+has c = sym c.read_block.ensures ∙ c.in_ok-block.ensures.ok_part
+
+says : (c : In_ok-block) → Headed 3 c.args.mem.now c.in_ok-block.block
+says c = headed 3 _ _ (has c)
 
 -- Where there is a place for one more, that is one of the first 255.
-small : (m : List ℕ) (b : Block) (n : ℕ) → Headed 3 m b → n < b.k → n < 255
-small m b n says next = let v = says.valid.values in omega (arith, next, v.1, v.2)
-
-pub returns-in_default : goal.returns-in_default
-returns-in_default c =
-    promise_unopened _ _ _ (block_none _ c.read_block.ensures c.in_default.is) _ (kept _ _ _)
+small : (c : In_ok-block) (n : ℕ) → n < c.in_ok-block.block.k → n < 255
+small c n next = let v = (says c).valid.values in omega (arith, next, v.1, v.2)
 
 pub returns-then-not-has_room : goal.returns-then-not-has_room
 returns-then-not-has_room c =
-    let b = c.in-BlockIs.block in
-    let has : block_in 3 c.args.mem.now ≡ some b = block-is _ b c.read_block.ensures c.in-BlockIs.is in
-    let f = sym c.has_room.ensures ∙ c.if-not-has_room.true in
-    promise_refused _ _ _ b has _ (λ e. omega arith) (λ s k q. adding_short _ _ _ s f)
+    promise_refused _ _ _ _ (has (goal.at.returns-then-not-has_room c).In_ok-block) _ (λ e. omega arith)
+    (λ s k q. adding_short _ _ _ s (sym c.has_room.ensures ∙ c.if-not-has_room.true))
 
 pub load_u16-taken-requires : goal.load_u16-taken-requires
-load_u16-taken-requires c =
-    let b = c.in-BlockIs.block in
-    let has : block_in 3 c.args.mem.now ≡ some b = block-is _ b c.read_block.ensures c.in-BlockIs.is in
-    let says : Headed 3 c.args.mem.now b = headed 3 _ b has in
-    omega (arith, says.room, symbols-room b)
+load_u16-taken-requires c = omega (arith, (says (goal.at.load_u16-taken-requires c).In_ok-block).room, symbols-room c.in_ok-block.block)
 
 pub returns-then-block-taken : goal.returns-then-block-taken
 returns-then-block-taken c =
-    let b = c.in-BlockIs.block in
-    let has : block_in 3 c.args.mem.now ≡ some b = block-is _ b c.read_block.ensures c.in-BlockIs.is in
-    let roomy : leb (length c.args.adu.now + 6) (length c.args.out.now) ≡ true = sym c.has_room.ensures ∙ c.if-not-has_room.false in
-    let n = c.load_u16-taken.result in
-    let taken = taken_is c.args.mem.now n c.load_u16-taken.ensures in
-    promise_refused _ _ _ b has _ (λ e. omega arith)
-    (λ s k q. adding_full _ _ _ s roomy b q n (taken ∙ k.count) (omega (arith, c.if-block-taken.true)))
+    promise_refused _ _ _ _ (has (goal.at.returns-then-block-taken c).In_ok-block) _ (λ e. omega arith)
+    (λ s k q.
+    adding_full _ _ _ s (sym c.has_room.ensures ∙ c.if-not-has_room.false) _ q _ (taken_is _ _ c.load_u16-taken.ensures ∙ k.count)
+    c.if-block-taken.true)
 
 pub overflow_sub-block : goal.overflow_sub-block
-overflow_sub-block c =
-    let b = c.in-BlockIs.block in
-    let has : block_in 3 c.args.mem.now ≡ some b = block-is _ b c.read_block.ensures c.in-BlockIs.is in
-    let says : Headed 3 c.args.mem.now b = headed 3 _ b has in
-    omega (arith, says.valid.size_least)
+overflow_sub-block c = omega (arith, (says (goal.at.overflow_sub-block c).In_ok-block).valid.size_least)
 
 pub returns-then-block-adu : goal.returns-then-block-adu
 returns-then-block-adu c =
-    let b = c.in-BlockIs.block in
-    let has : block_in 3 c.args.mem.now ≡ some b = block-is _ b c.read_block.ensures c.in-BlockIs.is in
-    let says : Headed 3 c.args.mem.now b = headed 3 _ b has in
-    let roomy : leb (length c.args.adu.now + 6) (length c.args.out.now) ≡ true = sym c.has_room.ensures ∙ c.if-not-has_room.false in
-    let n = c.load_u16-taken.result in
-    let taken = taken_is c.args.mem.now n c.load_u16-taken.ensures in
-    let next : n < b.k = omega (arith, c.if-block-taken.false) in
-    let v = says.valid in
-    promise_refused _ _ _ b has _ (λ e. omega arith)
-    (λ s k q. adding-long _ _ _ s roomy b q n (taken ∙ k.count) next (omega (arith, c.if-block-adu.true, v.size_least)))
+    let v = (says (goal.at.returns-then-block-adu c).In_ok-block).valid in
+    promise_refused _ _ _ _ (has (goal.at.returns-then-block-adu c).In_ok-block) _ (λ e. omega arith)
+    (λ s k q.
+    adding-long _ _ _ s (sym c.has_room.ensures ∙ c.if-not-has_room.false) _ q _ (taken_is _ _ c.load_u16-taken.ensures ∙ k.count)
+    c.if-block-taken.false (omega (arith, c.if-block-adu.true, v.size_least)))
 
 pub put_adu-requires : goal.put_adu-requires
 put_adu-requires c =
-    let b = c.in-BlockIs.block in
-    let has : block_in 3 c.args.mem.now ≡ some b = block-is _ b c.read_block.ensures c.in-BlockIs.is in
-    let says : Headed 3 c.args.mem.now b = headed 3 _ b has in
-    let n = c.load_u16-taken.result in
-    let next : n < b.k = omega (arith, c.if-block-taken.false) in
-    let short : 3 + length c.args.adu.now ≤ b.size = omega (arith, c.if-block-adu.false, says.valid.size_least) in
+    let before = (goal.at.put_adu-requires c).In_ok-block in
+    let says = says before in
     let v = says.valid in (
       v.size_least,
       v.size_most,
-      small _ b n says next,
-      omega (arith, says.room, symbol_room b _ next),
-      short,
+      small before _ c.if-block-taken.false,
+      omega (arith, says.room, symbol_room c.in_ok-block.block _ c.if-block-taken.false),
+      omega (arith, c.if-block-adu.false, v.size_least),
     )
 
-pub overflow_add-taken : goal.overflow_add-taken
-overflow_add-taken c =
-    let b = c.in-BlockIs.block in
-    let has : block_in 3 c.args.mem.now ≡ some b = block-is _ b c.read_block.ensures c.in-BlockIs.is in
-    let says : Headed 3 c.args.mem.now b = headed 3 _ b has in
-    let n = c.load_u16-taken.result in
-    let next : n < b.k = omega (arith, c.if-block-taken.false) in
-    omega (arith, small _ b n says next)
-
 pub overflow_cast-taken-2 : goal.overflow_cast-taken-2
-overflow_cast-taken-2 c =
-    let b = c.in-BlockIs.block in
-    let has : block_in 3 c.args.mem.now ≡ some b = block-is _ b c.read_block.ensures c.in-BlockIs.is in
-    let says : Headed 3 c.args.mem.now b = headed 3 _ b has in
-    let n = c.load_u16-taken.result in
-    let next : n < b.k = omega (arith, c.if-block-taken.false) in
-    omega (arith, small _ b n says next)
+overflow_cast-taken-2 c = omega (arith, small (goal.at.overflow_cast-taken-2 c).In_ok-block _ c.if-block-taken.false)
 
 pub store_u16-requires : goal.store_u16-requires
 store_u16-requires c =
-    let b = c.in-BlockIs.block in
-    let has : block_in 3 c.args.mem.now ≡ some b = block-is _ b c.read_block.ensures c.in-BlockIs.is in
-    let says : Headed 3 c.args.mem.now b = headed 3 _ b has in
-    omega (arith, says.room, symbols-room b, c.put_adu.auto.mem)
+    omega (arith, (says (goal.at.store_u16-requires c).In_ok-block).room, symbols-room c.in_ok-block.block, c.put_adu.auto.mem)
 
 pub write_source-requires : goal.write_source-requires
 write_source-requires c =
-    let b = c.in-BlockIs.block in
-    let has : block_in 3 c.args.mem.now ≡ some b = block-is _ b c.read_block.ensures c.in-BlockIs.is in
-    let says : Headed 3 c.args.mem.now b = headed 3 _ b has in
-    let roomy : leb (length c.args.adu.now + 6) (length c.args.out.now) ≡ true = sym c.has_room.ensures ∙ c.if-not-has_room.false in
-    let n = c.load_u16-taken.result in
-    let next : n < b.k = omega (arith, c.if-block-taken.false) in
-    (says.valid, omega (arith, small _ b n says next), leb-true _ _ roomy)
-
-pub overflow_add-result : goal.overflow_add-result
-overflow_add-result c =
-    let b = c.in-BlockIs.block in
-    let has : block_in 3 c.args.mem.now ≡ some b = block-is _ b c.read_block.ensures c.in-BlockIs.is in
-    let says : Headed 3 c.args.mem.now b = headed 3 _ b has in
-    let short : 3 + length c.args.adu.now ≤ b.size = omega (arith, c.if-block-adu.false, says.valid.size_least) in
-    omega (arith, short, says.valid.size_most)
+    let before = (goal.at.write_source-requires c).In_ok-block in (
+      (says before).valid,
+      omega (arith, small before _ c.if-block-taken.false),
+      leb-true _ _ (sym c.has_room.ensures ∙ c.if-not-has_room.false),
+    )
 
 pub returns : goal.returns
 returns c =
-    let b = c.in-BlockIs.block in
-    let has : block_in 3 c.args.mem.now ≡ some b = block-is _ b c.read_block.ensures c.in-BlockIs.is in
-    let says : Headed 3 c.args.mem.now b = headed 3 _ b has in
-    let roomy : leb (length c.args.adu.now + 6) (length c.args.out.now) ≡ true = sym c.has_room.ensures ∙ c.if-not-has_room.false in
-    let n = c.load_u16-taken.result in
-    let taken = taken_is c.args.mem.now n c.load_u16-taken.ensures in
-    let next : n < b.k = omega (arith, c.if-block-taken.false) in
-    let short : 3 + length c.args.adu.now ≤ b.size = omega (arith, c.if-block-adu.false, says.valid.size_least) in
-    added b _ n _ _ has next short taken _ _ _ _ roomy c.put_adu.ensures
-    c.store_u16.ensures c.write_source.ensures
+    let before = (goal.at.returns c).In_ok-block in
+    let short : 3 + length c.args.adu.now ≤ c.in_ok-block.block.size = omega (arith, c.if-block-adu.false, (says before).valid.size_least) in
+    added _ _ _ _ _ (has before) c.if-block-taken.false short (taken_is _ _ c.load_u16-taken.ensures) _ _ _ _
+    (sym c.has_room.ensures ∙ c.if-not-has_room.false) c.put_adu.ensures c.store_u16.ensures c.write_source.ensures

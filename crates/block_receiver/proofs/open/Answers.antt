@@ -1,56 +1,39 @@
 -- `block_receiver::open` meets its contract.
-use Rattle.std.specs.Prelude.{◌≡◌}
+use Rattle.std.specs.Prelude.{◌≡◌, Ok}
 use Rattle.words.specs.Words.{arith, ◌∙◌, sym, ap, subst}
-use Rattle.memory.specs.Part.{splice}
-use Rattle.wire.specs.declared.Answer.{Answer}
-use Rattle.receiver.specs.Layout.{receiver_layout}
-use Rattle.receiver.specs.Promises as receiver
-use Rattle.blocks.specs.declared.Block.{Block}
-use Rattle.blocks.specs.declared.Named.TheVariants.{Good}
 use Rattle.blocks.specs.Block.{block_of, Valid}
-use Rattle.blocks.specs.Stored.{block_bytes}
 use Rattle.blocks.proofs.Values.{block_from, good_names}
-use Rattle.block_receiver.proofs.Opening.{opening_bad, opening-refused, opened-room, opening_done}
+use Rattle.blocks.proofs.Stored.{handed_on}
+use Rattle.block_receiver.proofs.Opening.{opening-refused, opened-room, opening_done}
 use Rattle.block_receiver.proofs.open.Goals as goal
+use Rattle.block_receiver.proofs.open.Goals.{In_ok-block}
 
-pub returns-in-Bad : goal.returns-in-Bad
-returns-in-Bad c =
-    opening_bad _ _ _ _ _ _ (sym c.block_of.ensures ∙ c.in-Bad.is)
+-- The block is that of the numbers, which is valid.
+has : (c : In_ok-block) → block_of c.args.size c.args.k c.args.total c.args.number ≡ Ok c.in_ok-block.block
+has c = sym c.block_of.ensures ∙ c.in_ok-block.was
+
+is : (c : In_ok-block) → c.in_ok-block.block ≡ block_from c.args.size c.args.k c.args.total c.args.number
+is c = (good_names _ _ _ _ _ (has c)).0
+
+valid : (c : In_ok-block) → Valid (block_from c.args.size c.args.k c.args.total c.args.number)
+valid c = subst Valid (is c) (good_names _ _ _ _ _ (has c)).1
+
+good : (c : In_ok-block) → block_of c.args.size c.args.k c.args.total c.args.number ≡ Ok (block_from c.args.size c.args.k c.args.total c.args.number)
+good c = has c ∙ ap Ok (is c)
+
+pub returns-in_err-open : goal.returns-in_err-open
+returns-in_err-open c =
+    let before = (goal.at.returns-in_err-open c).In_ok-block in
+    rw (handed_on c.from_residual-in_err-open.ensures.1)
+    (opening-refused _ _ _ _ (valid before) (good before) _ _ _ _ c.in_err-open.was c.«open».ensures)
 
 pub write_block-requires : goal.write_block-requires
 write_block-requires c =
-    let a = c.args in
-    let b = c.in-Good.block in
-    let theirs = block_from a.size a.k a.total a.number in
-    let named = good_names a.size a.k a.total a.number b (sym c.block_of.ensures ∙ c.in-Good.is) in
-    let is : b ≡ theirs = named.0 in
-    let valid : Valid theirs = subst Valid is named.1 in
-    let good : block_of a.size a.k a.total a.number ≡ Good theirs = sym c.block_of.ensures ∙ c.in-Good.is ∙ ap Good is in
-    let opens = λ (y : Answer). receiver.Opened receiver_layout 10 a.size a.k c.no_flows-flows.result a.mem.now c.«open».new.mem y in
-    let r = opened-room _ _ _ _ valid good _ _ _ _ (subst opens c.in-Done.is c.«open».ensures) in
-    (omega (arith, r), subst Valid (sym is) valid)
+    let before = (goal.at.write_block-requires c).In_ok-block in
+    let room = opened-room _ _ _ _ (valid before) (good before) _ _ _ _ c.in_ok-open.was c.«open».ensures in
+    (omega (arith, room), subst Valid (sym (is before)) (valid before))
 
-pub returns-in-Refused : goal.returns-in-Refused
-returns-in-Refused c =
-    let a = c.args in
-    let b = c.in-Good.block in
-    let theirs = block_from a.size a.k a.total a.number in
-    let named = good_names a.size a.k a.total a.number b (sym c.block_of.ensures ∙ c.in-Good.is) in
-    let is : b ≡ theirs = named.0 in
-    let valid : Valid theirs = subst Valid is named.1 in
-    let good : block_of a.size a.k a.total a.number ≡ Good theirs = sym c.block_of.ensures ∙ c.in-Good.is ∙ ap Good is in
-    let opens = λ (y : Answer). receiver.Opened receiver_layout 10 a.size a.k c.no_flows-flows.result a.mem.now c.«open».new.mem y in
-    opening-refused _ _ _ _ valid good _ _ _ _ (subst opens c.in-Refused.is c.«open».ensures)
-
-pub returns-in-Done : goal.returns-in-Done
-returns-in-Done c =
-    let a = c.args in
-    let b = c.in-Good.block in
-    let theirs = block_from a.size a.k a.total a.number in
-    let named = good_names a.size a.k a.total a.number b (sym c.block_of.ensures ∙ c.in-Good.is) in
-    let is : b ≡ theirs = named.0 in
-    let valid : Valid theirs = subst Valid is named.1 in
-    let good : block_of a.size a.k a.total a.number ≡ Good theirs = sym c.block_of.ensures ∙ c.in-Good.is ∙ ap Good is in
-    let opens = λ (y : Answer). receiver.Opened receiver_layout 10 a.size a.k c.no_flows-flows.result a.mem.now c.«open».new.mem y in
-    opening_done _ _ _ _ valid good _ _ _ _ (subst opens c.in-Done.is c.«open».ensures) _
-    (c.write_block.ensures ∙ ap (λ (x : Block). splice 0 (block_bytes 4 x) c.«open».new.mem) is)
+pub returns : goal.returns
+returns c =
+    let before = (goal.at.returns c).In_ok-block in
+    opening_done _ _ _ _ (valid before) (good before) _ _ _ _ c.in_ok-open.was c.«open».ensures _ _ (is before) c.write_block.ensures
