@@ -1,9 +1,6 @@
 -- The bytes that are kept of a line that has not ended.
 use Rattle.std.specs.Prelude.{◌≡◌, ◌≤◌, ◌+◌, ◌<◌, ◌++◌}
-use Rattle.words.specs.Words.{arith, ℕ, List, length, refl, [], length-append}
-use Rattle.memory.specs.Part.{part, splice}
-use Rattle.memory.proofs.Parts.{whole}
-use Rattle.printing.proofs.Laws.{put_splice}
+use Rattle.words.specs.Words.{arith, ℕ, List, length, refl, ◌∙◌, ap, [], take, length-append}
 use Rattle.lines.specs.Forms.{longest}
 use Rattle.records.specs.Standing.{Kept}
 
@@ -16,11 +13,11 @@ kept_over line' q bytes k h = record {
 }
 
 -- bytes that fit
-pub kept_more : (have : ℕ) (line q bytes : List ℕ) → Kept have line q → have + length bytes ≤ longest → longest ≤ length line
-    → Kept (have + length bytes) (splice have (part 0 (length bytes) bytes) line) (q ++ bytes)
-kept_more have line q bytes k h g = record {
+pub kept_more : (have : ℕ) (line line' q bytes : List ℕ) → Kept have line q → have + length bytes ≤ longest
+    → take (have + length bytes) line' ≡ take have line ++ bytes → Kept (have + length bytes) line' (q ++ bytes)
+kept_more have line line' q bytes k h e = record {
   count = rw length-append (omega (arith, k.count));
-  bytes = λ l. rw (whole (length bytes) bytes refl, (put_splice have bytes line (omega arith)).bytes, k.bytes (omega (arith, k.count)));
+  bytes = λ l. e ∙ ap (λ (x : List ℕ). x ++ bytes) (k.bytes (omega (arith, k.count)));
 }
 
 -- none are kept at first
@@ -28,8 +25,7 @@ pub kept_none : (line : List ℕ) → Kept 0 line []
 kept_none line = record { count = omega arith; bytes = λ h. refl }
 
 -- all bytes of a line that is not too long are kept
-pub kept_line : (have : ℕ) (line l : List ℕ) → Kept have line l → have ≤ longest → part 0 have line ≡ l
-unfolding part
+pub kept_line : (have : ℕ) (line l : List ℕ) → Kept have line l → have ≤ longest → take have line ≡ l
 kept_line have line l k h = k.bytes (omega (arith, k.count))
 
 pub kept_long : (have : ℕ) (line l : List ℕ) → Kept have line l → longest < have → longest < length l

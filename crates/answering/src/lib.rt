@@ -6,38 +6,47 @@ ghost use Rattle.words.specs.Words.{length};
 ghost use Rattle.wire.specs.Answers.{said};
 ghost use Rattle.receiver.specs.Promises.{answer_of};
 ghost use Rattle.records.specs.Replay.{record_of};
-ghost use Rattle.answering.specs.Inner.{KeptMore, OpenedBy, Answered};
+ghost use Rattle.answering.specs.Inner.{fault_number, told, KeptMore, OpenedBy, Answered};
 
 use holding::front;
 use lines::{First, Spoken};
-use receiver::{Answer, PacketAnswer};
-use records::Record;
-use wire::Checked;
+use wire::Refusal;
 
-// The most characters that a line has, and what stands for more.
+// The most characters that a line has.
 const LONGEST: usize = 8192;
 
+// Kept: a count in place of an Option, since `Kept` of `records`, on which `worked_through` stands, counts the bytes of a line up to one more than it may have.
+// What is counted of a line that is longer.
 const TOO_LONG: usize = 8193;
 
 // The most bytes that a receiver's memory or the working memory may have.
 const ROOM: usize = 65536;
 
-// The answer to a line that is not of the form.
-const MALFORMED: u64 = 15;
+// Why a packet line was not accepted: the receiver refused its packet, or it is not of the form.
+#[derive(Clone, Copy)]
+pub enum Fault {
+    Refused(Refusal),
+    Malformed,
+}
 
-// The record of what a packet call answered.
-fn recorded(answer: PacketAnswer) -> Record
-    ensures { result ≡ record_of (said (answer_of answer)) }
+impl From<Fault> for u8 {
+    ghost from_gives = { λ fault number. number ≡ fault_number fault };
+
+    fn from(fault: Fault) -> u8 {
+        match fault {
+            Fault::Refused(refusal) => u8::from(refusal),
+            Fault::Malformed => 15,
+        }
+    }
+}
+
+// How many positions a packet made known, or why it was not accepted.
+fn recorded(answer: Result<(usize, u32), Refusal>) -> Result<usize, Fault>
+    ensures { told result ≡ record_of (said (answer_of answer)) }
 {
     match answer {
-        PacketAnswer::Accepted(n, _) => Record {
-            answer: 0,
-            known: n as u64,
-        },
-        PacketAnswer::NotAccepted(refusal) => Record {
-            answer: wire::refusal_number(refusal) as u64,
-            known: 0,
-        },
+        Ok((n, _)) => Ok(n),
+        Err(refusal) => Err(Fault::Refused(refusal)),
     }
 }
 
@@ -46,14 +55,12 @@ pub fn keep(line: &mut [u8], have: usize, bytes: &[u8]) -> usize
     requires { 8192 ≤ length line.old }
     ensures { KeptMore have result line.old line.new bytes.now }
 {
-    if LONGEST < have {
+    if LONGEST < have || LONGEST - have < bytes.len() {
         return TOO_LONG;
     }
-    if LONGEST - have < bytes.len() {
-        return TOO_LONG;
-    }
-    memory::copy_part(line, have, bytes, 0, bytes.len());
-    have + bytes.len()
+    let end = have + bytes.len();
+    line[have..end].copy_from_slice(bytes);
+    end
 }
 
 // Opens the receiver that the first line names, if it names one, with all flows announced.
@@ -64,10 +71,17 @@ pub fn open_by(line: &[u8], have: usize, mem: &mut [u8]) -> bool
     if LONGEST < have {
         return false;
     }
-    let First::Values(scheme, size, width) = lines::read_first(memory::part(line, 0, have)) else {
+    let Some(
+        First {
+            scheme,
+            size,
+            width,
+        },
+    ) = lines::read_first(&line[..have])
+    else {
         return false;
     };
-    let Checked::Good(setting) = wire::setting_of(scheme, size, width) else {
+    let Some(setting) = wire::setting_of(scheme, size, width) else {
         return false;
     };
     // the receiver's own memory is the smaller, and opening tests it
@@ -75,41 +89,31 @@ pub fn open_by(line: &[u8], have: usize, mem: &mut [u8]) -> bool
         return false;
     }
     let announced = [255; 32];
-    let Answer::Done(_) = receiver::open(mem, scheme, size, width, &announced) else {
-        return false;
-    };
-    true
+    receiver::open(mem, scheme, size, width, &announced).is_ok()
 }
 
-// Answers a packet line.
+// Answers a packet line: how many positions became known, or why it was not accepted.
 pub fn answer_line(
     line: &[u8],
     have: usize,
     mem: &mut [u8],
     work: &mut [u8],
     packet: &mut [u8],
-) -> Record
+) -> Result<usize, Fault>
     requires { (8192 ≤ length line.now) × (length work.old ≡ 65536) × (4096 ≤ length packet.old) }
-    ensures { Answered have line.now mem.old mem.new result }
+    ensures { Answered have line.now mem.old mem.new (told result) }
 {
     if LONGEST < have {
-        return Record {
-            answer: MALFORMED,
-            known: 0,
-        };
+        return Err(Fault::Malformed);
     }
-    match lines::read_line(memory::part(line, 0, have), packet) {
-        Spoken::Source(flow, n) => {
-            recorded(receiver::receive_source(mem, work, flow, memory::part(packet, 0, n)))
-        }
-        Spoken::Repair(n) => recorded(receiver::receive_repair(
+    match lines::read_line(&line[..have], packet) {
+        Some(Spoken::Source(flow, n)) => recorded(receiver::receive_source(
             mem,
             work,
-            memory::part(packet, 0, n),
+            flow,
+            &packet[..n],
         )),
-        Spoken::Malformed => Record {
-            answer: MALFORMED,
-            known: 0,
-        },
+        Some(Spoken::Repair(n)) => recorded(receiver::receive_repair(mem, work, &packet[..n])),
+        None => Err(Fault::Malformed),
     }
 }

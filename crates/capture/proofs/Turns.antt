@@ -1,13 +1,13 @@
 -- Calls of `feed` one after the other: one call more.
 use Rattle.std.specs.Prelude.{◌≡◌, ◌≤◌, ◌+◌, ◌<◌, ◌-◌, ◌∷◌, ◌++◌}
-use Rattle.words.specs.Words.{arith, ℕ, List, length, refl, ◌∙◌, sym, ap, [], true, false, Bool, subst, drop, take, inr}
-use Rattle.words.specs.Words.{inl, append_assoc, length-drop, append-nil, not, take-append-drop, drop-drop, drop-length}
+use Rattle.words.specs.Words.{arith, ℕ, List, length, refl, ◌∙◌, sym, ap, [], true, false, subst, drop, take, inr}
+use Rattle.words.specs.Words.{inl, append_assoc, length-drop, append-nil, take-append-drop, drop-drop, drop-length}
 use Rattle.records.specs.declared.Progress.{Progress}
 use Rattle.records.specs.declared.Pass.{Pass}
 use Rattle.records.specs.Promises.{is_over, Fed}
 use Rattle.records.specs.Pieces.{Piece, taken, InTurn, reached, line_left, memory_left}
 use Rattle.replay.proofs.Feeding.{left}
-use Rattle.capture.specs.Going.{Handed, Went}
+use Rattle.capture.specs.Going.{Handed, Through}
 
 module _ (x : Piece) where
   turn_more : (xs : List Piece) (p : Progress) (line m : List ℕ) → InTurn p line m xs
@@ -69,13 +69,13 @@ next_moves n input h o f =
     let l : length (take (length input - n) (drop n input)) ≡ length input - n = ap length (left n input) ∙ length-drop n input in
     (f.moves o (omega arith), omega (arith, f.taken))
 
--- no more is wanted; all was taken
+-- no more is wanted, or all was taken
 pub went_over : (p : Progress) (line line' m m' input : List ℕ) (p' : Progress) (rest : List ℕ) → Handed p line m input p' line' m' rest → is_over p' ≡ true
-    → Went p line line' m m' input (record { progress = p'; more = false; failed = false })
-went_over p line line' m m' input p' rest h o = record { more = λ _. ap not (sym o); left = rest; handed = λ _. h; all = λ _. inr o }
+    → Through p line line' m m' input p'
+went_over p line line' m m' input p' rest h o = record { left = rest; handed = h; all = inr o }
 
-pub went_all : (p : Progress) (line line' m m' input : List ℕ) (p' : Progress) (n : ℕ) (b : Bool) → Handed p line m input p' line' m' (drop n input)
-    → n ≤ length input → length input ≤ n → b ≡ not (is_over p') → Went p line line' m m' input (record { progress = p'; more = b; failed = false })
-went_all p line line' m m' input p' n b h k l e =
+pub went_all : (p : Progress) (line line' m m' input : List ℕ) (p' : Progress) (n : ℕ) → Handed p line m input p' line' m' (drop n input)
+    → n ≤ length input → length input ≤ n → Through p line line' m m' input p'
+went_all p line line' m m' input p' n h k l =
     let same : n ≡ length input = omega arith in
-    record { more = λ _. e; left = drop n input; handed = λ _. h; all = λ _. inl (rw same (drop-length input)) }
+    record { left = drop n input; handed = h; all = inl (rw same (drop-length input)) }

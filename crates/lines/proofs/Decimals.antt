@@ -1,6 +1,6 @@
 -- Exactly the decimal numbers are read, up to the largest.
 use Rattle.std.specs.Prelude.{◌≡◌, ◌≤◌, ◌+◌, ◌<◌, ◌-◌, ◌%◌, ◌∷◌, ◌*◌, ◌++◌, ◌/◌}
-use Rattle.words.specs.Words.{arith, ℕ, List, refl, ◌∙◌, [], some, suc, true, zero, false, Bool, subst, leb, eqb}
+use Rattle.words.specs.Words.{arith, ℕ, List, refl, ◌∙◌, [], Some, suc, true, zero, false, Bool, subst, leb, eqb}
 use Rattle.words.specs.Words.{le-leb, some-injective, none-ne-some, ne_eqb, append_assoc, leb-true, eqb-true, ⊎_elim, eqb-false}
 use native.Mathlib.Nat.{eq-zero-or-pos}
 use Rattle.text.specs.Text.{decimal}
@@ -47,13 +47,13 @@ Stops [] = Unit {0}
 Stops (b ∷ l) = is_digit b ≡ false
 
 -- there the number ends
-stopped : (most n : ℕ) (l : List ℕ) → Stops l → number_from most n l ≡ some (record { value = n; rest = l })
+stopped : (most n : ℕ) (l : List ℕ) → Stops l → number_from most n l ≡ Some (record { value = n; rest = l })
 unfolding number_from
 stopped most n [] s = refl
 stopped most n (b ∷ l) s = rw s
 
 -- a number that is small enough is read
-pub number_read : (most n : ℕ) (l : List ℕ) → n ≤ most → Stops l → number_in most (decimal n ++ l) ≡ some (record { value = n; rest = l })
+pub number_read : (most n : ℕ) (l : List ℕ) → n ≤ most → Stops l → number_in most (decimal n ++ l) ≡ Some (record { value = n; rest = l })
 unfolding number_in
 number_read most n l h s =
     ⊎_elim
@@ -69,13 +69,13 @@ pub record Written (most : ℕ) (l : List ℕ) (r : Numbered) : Type 0 where
   pub small : r.value ≤ most
 
 -- after its first digits
-digits-written : (most v : ℕ) (l : List ℕ) (r : Numbered) → 0 < v → v ≤ most → number_from most v l ≡ some r → Written most (decimal v ++ l) r
+digits-written : (most v : ℕ) (l : List ℕ) (r : Numbered) → 0 < v → v ≤ most → number_from most v l ≡ Some r → Written most (decimal v ++ l) r
 unfolding number_from
 digits-written most v [] r p h e = subst (Written most (decimal v ++ [])) (some-injective _ r e) (record { text = refl; small = h })
 digits-written most v (b ∷ l) r p h e = go (is_digit b) refl (λ k. digits-written most (v * 10 + (b - 48)) l r (omega arith) k)
   where
     go : (t : Bool) → is_digit b ≡ t
-        → (v * 10 + (b - 48) ≤ most → number_from most (v * 10 + (b - 48)) l ≡ some r → Written most (decimal (v * 10 + (b - 48)) ++ l) r)
+        → (v * 10 + (b - 48) ≤ most → number_from most (v * 10 + (b - 48)) l ≡ Some r → Written most (decimal (v * 10 + (b - 48)) ++ l) r)
         → Written most (decimal v ++ (b ∷ l)) r
     go true f more =
         let k = within_bounds 48 57 b f in
@@ -85,7 +85,7 @@ digits-written most v (b ∷ l) r p h e = go (is_digit b) refl (λ k. digits-wri
     go false f more = subst (Written most (decimal v ++ (b ∷ l))) (some-injective _ r (rw f at e)) (record { text = refl; small = h })
 
 -- from its first digit on
-pub number-written : (most : ℕ) (l : List ℕ) (r : Numbered) → 9 ≤ most → number_in most l ≡ some r → Written most l r
+pub number-written : (most : ℕ) (l : List ℕ) (r : Numbered) → 9 ≤ most → number_in most l ≡ Some r → Written most l r
 unfolding number_in
 number-written most [] r h e = absurd (none-ne-some r e)
 number-written most (b ∷ l) r h e = go (eqb b 48) refl

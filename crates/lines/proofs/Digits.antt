@@ -1,4 +1,4 @@
--- Laws of hexadecimal digits: which bytes they are, the byte that two of them write, and the bytes that those from a place of a line on write.
+-- Laws of hexadecimal digits: which bytes they are, the byte that two of them write, and the bytes that digits write.
 -- Index
 --   digits-named: 0 to 9 and A to F
 --   next_looked_at: a byte more is looked at
@@ -6,15 +6,15 @@
 --   Paired, paired
 --   odd_digits: an odd number of digits
 --   no_digits: a byte that is no digit
---   Bytewise: the digits from `at` on, and what was read of them, its k bytes at the front of a packet
+--   Bytewise: digits, and what was read of them, its k bytes at the front of a packet
 --   nothing_read: nothing yet
 --   all_read: all of them
 --   next_digits: the next two
 --   more-read: a byte more
 use Rattle.std.specs.Prelude.{◌≡◌, ◌≤◌, ◌+◌, ◌<◌, ◌-◌, ◌%◌, ◌∷◌, ◌*◌, ◌++◌, ◌/◌, ◌&&◌}
-use Rattle.words.specs.Words.{arith, ℕ, List, length, refl, ◌∙◌, ap, [], some, suc, true, zero, none, get_or, false}
-use Rattle.words.specs.Words.{Bool, Option, drop, take, cond, ltb, eqb, add-zero, add-one, bit_xor, lt-ltb, le_of_suc-le-suc, append_assoc, set}
-use Rattle.words.specs.Words.{length-drop, eqb-true, append-nil, ltb-true, ⊎_elim, get_or-drop, drop-cons, drop-length}
+use Rattle.words.specs.Words.{arith, ℕ, List, length, refl, ◌∙◌, ap, [], Some, suc, true, zero, None, get_or, false}
+use Rattle.words.specs.Words.{Bool, Option, drop, take, cond, ltb, eqb, add-one, bit_xor, lt-ltb, le_of_suc-le-suc, append_assoc, set}
+use Rattle.words.specs.Words.{eqb-true, append-nil, ltb-true, ⊎_elim, drop-cons, drop-length}
 use mathlib.Core.Bool.{and_assoc, and-true}
 use native.Mathlib.Nat.{eq-or-lt_of_le}
 use lib.Bits.{bit_and, and_le_r}
@@ -57,11 +57,6 @@ unfolding all_digits
 digit_in [] e i h = absurd (omega arith)
 digit_in (b ∷ l) e zero h = ltb-true (value_of b) 16 (both (ltb (value_of b) 16) (all_digits l) e).0
 digit_in (b ∷ l) e (suc i) h = digit_in l (both (ltb (value_of b) 16) (all_digits l) e).1 i (omega arith)
-
-digit_at : (line : List ℕ) (at i : ℕ) → all_digits (drop at line) ≡ true → at ≤ i → i < length line → value_of (get_or line i 0) < 16
-digit_at line at i e l h =
-    let k : at + (i - at) ≡ i = omega arith in
-    rw (get_or-drop, k) at (digit_in (drop at line) e (i - at) (simp length-drop (omega arith)))
 
 -- ---- the byte of two digits
 
@@ -110,29 +105,29 @@ paired high low h l = record {
 
 -- bytes before bytes
 before-before : (x y : List ℕ) (o : Option (List ℕ)) → before x (before y o) ≡ before (x ++ y) o
-before-before x y none = refl
-before-before x y (some l) = rw append_assoc
+before-before x y None = refl
+before-before x y (Some l) = rw append_assoc
 
 -- no bytes before bytes
 before_nothing : (o : Option (List ℕ)) → o ≡ before [] o
-before_nothing none = refl
-before_nothing (some l) = refl
+before_nothing None = refl
+before_nothing (Some l) = refl
 
 -- an odd number of digits
-pub odd_digits : (l : List ℕ) → length l % 2 ≡ 1 → bytes_in l ≡ none
+pub odd_digits : (l : List ℕ) → length l % 2 ≡ 1 → bytes_in l ≡ None
 unfolding bytes_in
 odd_digits [] h = absurd (omega arith)
 odd_digits (a ∷ []) h = refl
-odd_digits (a ∷ (b ∷ l)) h = rw (odd_digits l (omega arith)) (cond_same (ltb (value_of a) 16 && ltb (value_of b) 16) none)
+odd_digits (a ∷ (b ∷ l)) h = rw (odd_digits l (omega arith)) (cond_same (ltb (value_of a) 16 && ltb (value_of b) 16) None)
 
 -- a byte that is no digit
-pub no_digits : (l : List ℕ) → all_digits l ≡ false → bytes_in l ≡ none
+pub no_digits : (l : List ℕ) → all_digits l ≡ false → bytes_in l ≡ None
 unfolding all_digits bytes_in
 no_digits [] e = cc
 no_digits (a ∷ []) e = refl
 no_digits (a ∷ (b ∷ l)) e = go (ltb (value_of a) 16 && ltb (value_of b) 16) refl (no_digits l)
   where
-    go : (t : Bool) → (ltb (value_of a) 16 && ltb (value_of b) 16) ≡ t → (all_digits l ≡ false → bytes_in l ≡ none) → bytes_in (a ∷ (b ∷ l)) ≡ none
+    go : (t : Bool) → (ltb (value_of a) 16 && ltb (value_of b) 16) ≡ t → (all_digits l ≡ false → bytes_in l ≡ None) → bytes_in (a ∷ (b ∷ l)) ≡ None
     go true f rest = let r : all_digits l ≡ false = rw (← and_assoc, f) at e in rw (f, rest r)
     go false f rest = rw f
 
@@ -144,33 +139,33 @@ two_digits line j h x y =
     let k : j + 2 ≡ suc (suc j) = omega arith in
     rw (k, add-one, drop-cons line j 0 (omega arith), drop-cons line (suc j) 0 (omega arith), lt-ltb _ 16 x, lt-ltb _ 16 (rw add-one at y))
 
--- the digits from `at` on, and what was read of them, its k bytes at the front of a packet
-pub record Bytewise (line : List ℕ) (at : ℕ) (packet : List ℕ) (k : ℕ) : Type 0 where
-  pub digits : all_digits (drop at line) ≡ true
-  pub known : bytes_in (drop at line) ≡ before (take k packet) (bytes_in (drop (at + 2 * k) line))
+-- digits, and what was read of them, its k bytes at the front of a packet
+pub record Bytewise (digits packet : List ℕ) (k : ℕ) : Type 0 where
+  pub all : all_digits digits ≡ true
+  pub known : bytes_in digits ≡ before (take k packet) (bytes_in (drop (2 * k) digits))
 
 -- nothing yet
-pub nothing_read : {line : List ℕ} {at : ℕ} (packet : List ℕ) → all_digits (drop at line) ≡ true → Bytewise line at packet 0
-nothing_read {line} {at} packet d = record { digits = d; known = rw add-zero (before_nothing (bytes_in (drop at line))) }
+pub nothing_read : {digits : List ℕ} (packet : List ℕ) → all_digits digits ≡ true → Bytewise digits packet 0
+nothing_read {digits} packet d = record { all = d; known = before_nothing (bytes_in digits) }
 
-module _ {line : List ℕ} {at : ℕ} {packet : List ℕ} {k : ℕ} (b : Bytewise line at packet k) where
+module _ {digits packet : List ℕ} {k : ℕ} (b : Bytewise digits packet k) where
   -- all of them
-  pub all_read : at + 2 * k ≡ length line → some (take k packet) ≡ bytes_in (drop at line)
+  pub all_read : 2 * k ≡ length digits → Some (take k packet) ≡ bytes_in digits
   unfolding bytes_in
   all_read e = rw (b.known, e, drop-length, append-nil)
 
   -- the next two
-  pub next_digits : at + 2 * k + 1 < length line → (value_of (get_or line (at + 2 * k) 0) < 16) × (value_of (get_or line (at + 2 * k + 1) 0) < 16)
-  next_digits h = (digit_at line at (at + 2 * k) b.digits (omega arith) (omega arith), digit_at line at (at + 2 * k + 1) b.digits (omega arith) h)
+  pub next_digits : 2 * k + 1 < length digits → (value_of (get_or digits (2 * k) 0) < 16) × (value_of (get_or digits (2 * k + 1) 0) < 16)
+  next_digits h = (digit_in digits b.all (2 * k) (omega arith), digit_in digits b.all (2 * k + 1) h)
 
   -- a byte more
-  pub more-read : {v : ℕ} → at + 2 * k + 1 < length line → k < length packet
-      → v ≡ value_of (get_or line (at + 2 * k) 0) * 16 + value_of (get_or line (at + 2 * k + 1) 0) → Bytewise line at (set packet k v) (k + 1)
+  pub more-read : {v : ℕ} → 2 * k + 1 < length digits → k < length packet
+      → v ≡ value_of (get_or digits (2 * k) 0) * 16 + value_of (get_or digits (2 * k + 1) 0) → Bytewise digits (set packet k v) (k + 1)
   more-read {v} h m e = record {
-    digits = b.digits;
+    all = b.all;
     known =
-        let n : at + 2 * (k + 1) ≡ at + 2 * k + 2 = omega arith in
+        let n : 2 * (k + 1) ≡ 2 * k + 2 = omega arith in
         let d = next_digits h in
         rw (n, add-one, take-suc-set packet k v m, ← before-before, e)
-        (b.known ∙ ap (before (take k packet)) (two_digits line (at + 2 * k) h d.0 d.1));
+        (b.known ∙ ap (before (take k packet)) (two_digits digits (2 * k) h d.0 d.1));
   }

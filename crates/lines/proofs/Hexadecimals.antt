@@ -1,6 +1,6 @@
 -- Exactly the bytes in hexadecimal are read.
 use Rattle.std.specs.Prelude.{◌≡◌, ◌≤◌, ◌+◌, ◌<◌, ◌-◌, ◌%◌, ◌∷◌, ◌*◌, ◌++◌, ◌/◌, ◌&&◌}
-use Rattle.words.specs.Words.{arith, ℕ, List, refl, [], some, suc, true, zero, none, false, Bool, subst, Option}
+use Rattle.words.specs.Words.{arith, ℕ, List, refl, [], Some, suc, true, zero, None, false, Bool, subst, Option}
 use Rattle.words.specs.Words.{ltb, le-leb, some-injective, none-ne-some, lt-leb, lt-ltb, le-ltb, ltb-true, ltb-false}
 use Rattle.memory.specs.Number.{Bytes}
 use Rattle.text.specs.Text.{digit, hexadecimal}
@@ -48,7 +48,7 @@ digit_value b h = go (within 48 57 b) refl
 -- ---- the text is read
 
 -- bytes in hexadecimal are read
-pub bytes_read : (p : List ℕ) → Bytes p → bytes_in (hexadecimal p) ≡ some p
+pub bytes_read : (p : List ℕ) → Bytes p → bytes_in (hexadecimal p) ≡ Some p
 unfolding bytes_in hexadecimal
 bytes_read [] h = refl
 bytes_read (b ∷ p) h =
@@ -61,9 +61,9 @@ bytes_read (b ∷ p) h =
 -- ---- what is read is the text
 
 -- bytes before what was read
-before-some : (x : List ℕ) (o : Option (List ℕ)) (p : List ℕ) → before x o ≡ some p → (q : List ℕ) × (o ≡ some q) × (x ++ q ≡ p)
-before-some x none p e = absurd (none-ne-some p e)
-before-some x (some q) p e = (q, refl, some-injective (x ++ q) p e)
+before-some : (x : List ℕ) (o : Option (List ℕ)) (p : List ℕ) → before x o ≡ Some p → (q : List ℕ) × (o ≡ Some q) × (x ++ q ≡ p)
+before-some x None p e = absurd (none-ne-some p e)
+before-some x (Some q) p e = (q, refl, some-injective (x ++ q) p e)
 
 -- a line is bytes in hexadecimal
 pub record Written (l p : List ℕ) : Type 0 where
@@ -83,7 +83,7 @@ one_more a b l p ha hb w =
     more (suc i) = w.bytes i
 
 -- a line that is read is so
-pub bytes-written : (l p : List ℕ) → bytes_in l ≡ some p → Written l p
+pub bytes-written : (l p : List ℕ) → bytes_in l ≡ Some p → Written l p
 unfolding bytes_in hexadecimal
 bytes-written [] p e = subst (Written []) (some-injective [] p e) (record { text = refl; bytes = λ i. omega arith })
 bytes-written (a ∷ []) p e = absurd (none-ne-some p e)

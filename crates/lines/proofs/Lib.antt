@@ -3,8 +3,8 @@ pub mod Options
 pub mod Texts
 pub mod Numbers
 pub mod Digits
-pub mod Answers
 pub mod Breaks
 pub mod Decimals
 pub mod Hexadecimals
 pub mod Promises
+pub mod Answers

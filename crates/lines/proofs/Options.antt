@@ -1,6 +1,6 @@
 -- Laws of what may be read or not.
 use Rattle.std.specs.Prelude.{◌≡◌}
-use Rattle.words.specs.Words.{refl, some, true, none, false, Bool, Option, cond, none-ne-some}
+use Rattle.words.specs.Words.{refl, Some, true, None, false, Bool, Option, cond, none-ne-some}
 use Rattle.lines.specs.Reading.{on}
 
 -- a test whose arms are the same
@@ -9,11 +9,11 @@ cond_same true x = refl
 cond_same false x = refl
 
 -- what was read after a test: the test held
-pub cond_some : {A : Type 0} (b : Bool) (o : Option A) (a : A) → cond b o none ≡ some a → (b ≡ true) × (o ≡ some a)
+pub cond_some : {A : Type 0} (b : Bool) (o : Option A) (a : A) → cond b o None ≡ Some a → (b ≡ true) × (o ≡ Some a)
 cond_some true o a e = (refl, e)
 cond_some false o a e = (cc, cc)
 
 -- what was read after a reading: that one read
-pub on_some : {A B : Type 0} (o : Option A) (f : A → Option B) (b : B) → on o f ≡ some b → (a : A) × (o ≡ some a) × (f a ≡ some b)
-on_some (some a) f b e = (a, refl, e)
-on_some none f b e = absurd (none-ne-some b e)
+pub on_some : {A B : Type 0} (o : Option A) (f : A → Option B) (b : B) → on o f ≡ Some b → (a : A) × (o ≡ Some a) × (f a ≡ Some b)
+on_some (Some a) f b e = (a, refl, e)
+on_some None f b e = absurd (none-ne-some b e)

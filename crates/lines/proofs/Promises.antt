@@ -1,6 +1,6 @@
 -- What is promised of how lines are read (specs/Promises).
 use Rattle.std.specs.Prelude.{◌≡◌, ◌≤◌, ◌∷◌, ◌++◌, ◌⊎◌}
-use Rattle.words.specs.Words.{arith, ℕ, List, length, refl, ◌∙◌, ap, [], some, none, subst, Option, leb, le-leb, some-injective}
+use Rattle.words.specs.Words.{arith, ℕ, List, length, refl, ◌∙◌, ap, [], Some, None, subst, Option, leb, le-leb, some-injective}
 use Rattle.words.specs.Words.{none-ne-some, inr, inl, leb-true, append-nil, ⊎_elim}
 use Rattle.text.specs.Text.{ascii, decimal, hexadecimal}
 use Rattle.memory.specs.Number.{Bytes}
@@ -18,15 +18,15 @@ use Rattle.lines.proofs.Hexadecimals.{bytes_read, bytes-written}
 
 -- a name and a number are read
 field-read : (name : List ℕ) (most n : ℕ) (l : List ℕ) → n ≤ most → Stops l
-    → field_in name most (name ++ (decimal n ++ l)) ≡ some (record { value = n; rest = l })
+    → field_in name most (name ++ (decimal n ++ l)) ≡ Some (record { value = n; rest = l })
 field-read name most n l h s = rw (text-after name (decimal n ++ l)) (number_read most n l h s)
 
 -- a name and bytes are read
-packet-read : (name p : List ℕ) → Bytes p → packet_in name (name ++ hexadecimal p) ≡ some p
+packet-read : (name p : List ℕ) → Bytes p → packet_in name (name ++ hexadecimal p) ≡ Some p
 packet-read name p h = rw (text-after name (hexadecimal p)) (bytes_read p h)
 
 -- a number that was read after a name is there
-field-written : (name : List ℕ) (most : ℕ) (l : List ℕ) (r : Numbered) → 9 ≤ most → field_in name most l ≡ some r
+field-written : (name : List ℕ) (most : ℕ) (l : List ℕ) (r : Numbered) → 9 ≤ most → field_in name most l ≡ Some r
     → (l ≡ name ++ (decimal r.value ++ r.rest)) × (r.value ≤ most)
 field-written name most l r h e =
     let (t, a, n) = on_some (after name l) (number_in most) r e in
@@ -34,7 +34,7 @@ field-written name most l r h e =
     (after_text name l t a ∙ ap (λ (x : List ℕ). name ++ x) w.text, w.small)
 
 -- bytes that were read after a name are there
-packet-written : (name l p : List ℕ) → packet_in name l ≡ some p → (l ≡ name ++ hexadecimal p) × Bytes p
+packet-written : (name l p : List ℕ) → packet_in name l ≡ Some p → (l ≡ name ++ hexadecimal p) × Bytes p
 packet-written name l p e =
     let (t, a, n) = on_some (after name l) bytes_in p e in
     let w = bytes-written t p n in
@@ -43,16 +43,16 @@ packet-written name l p e =
 -- ---- the first line
 
 -- nothing was left of a line that was read
-whole-some : (v w : Values) (rest : List ℕ) → whole v rest ≡ some w → (rest ≡ []) × (v ≡ w)
+whole-some : (v w : Values) (rest : List ℕ) → whole v rest ≡ Some w → (rest ≡ []) × (v ≡ w)
 whole-some v w [] e = (refl, some-injective v w e)
 whole-some v w (b ∷ l) e = absurd (none-ne-some w e)
 
 -- a first line is read
-values_read : (v : Values) → Small v → values_in (first_line v) ≡ some v
+values_read : (v : Values) → Small v → values_in (first_line v) ≡ Some v
 unfolding values_in
 values_read v (a, b, c) =
     let last = ascii " width=" ++ decimal v.width in
-    let read : field_in (ascii " width=") 1500 last ≡ some (record { value = v.width; rest = [] })
+    let read : field_in (ascii " width=") 1500 last ≡ Some (record { value = v.width; rest = [] })
     = rw append-nil at (field-read (ascii " width=") 1500 v.width [] c tt) in
     rw (
       field-read (ascii "scheme=") 1500 v.scheme (ascii " e=" ++ (decimal v.size ++ last)) a refl,
@@ -61,7 +61,7 @@ values_read v (a, b, c) =
     )
 
 -- a first line that was read is one
-values_written : (l : List ℕ) (v : Values) → values_in l ≡ some v → (l ≡ first_line v) × Small v
+values_written : (l : List ℕ) (v : Values) → values_in l ≡ Some v → (l ≡ first_line v) × Small v
 unfolding values_in
 values_written l v e =
     let (a, ea, more) = on_some (field_in (ascii "scheme=") 1500 l) _ v e in
@@ -77,23 +77,23 @@ values_written l v e =
 -- ---- packet lines
 
 -- one of two readings read
-or_some : {A : Type 0} (o q : Option A) (a : A) → or o q ≡ some a → (o ≡ some a) ⊎ (q ≡ some a)
-or_some none q a e = inr e
-or_some (some x) q a e = inl e
+or_some : {A : Type 0} (o q : Option A) (a : A) → or o q ≡ Some a → (o ≡ Some a) ⊎ (q ≡ Some a)
+or_some None q a e = inr e
+or_some (Some x) q a e = inl e
 
 -- a line is a call's, whose flow and packet are bytes
 abbrev Written : List ℕ → Call → Type 0
 Written l c = (l ≡ packet_line c) × OfBytes c
 
 -- a repair packet's line that was read is one
-repair-written : (l : List ℕ) (c : Call) → repair_in l ≡ some c → Written l c
+repair-written : (l : List ℕ) (c : Call) → repair_in l ≡ Some c → Written l c
 unfolding repair_in
 repair-written l c e =
     let (p, read, same) = on_some (packet_in (ascii "kind=repair packet=") l) _ c e in
     subst (Written l) (some-injective (repair-call p) c same) (packet-written (ascii "kind=repair packet=") l p read)
 
 -- and so is a source packet's
-source-written : (l : List ℕ) (c : Call) → source_in l ≡ some c → Written l c
+source-written : (l : List ℕ) (c : Call) → source_in l ≡ Some c → Written l c
 unfolding source_in
 source-written l c e =
     let (r, flow, more) = on_some (field_in (ascii "kind=source flow=") most_flow l) _ c e in
@@ -103,12 +103,12 @@ source-written l c e =
     subst (Written l) (some-injective (source-call r.value p) c same) (cc (f.0, w.0), (omega (arith, f.1), w.1))
 
 -- a source packet's line is no repair packet's
-other_kind : (l : List ℕ) → after (ascii "kind=repair packet=") (ascii "kind=source flow=" ++ l) ≡ none
+other_kind : (l : List ℕ) → after (ascii "kind=repair packet=") (ascii "kind=source flow=" ++ l) ≡ None
 unfolding after
 other_kind l = refl
 
 -- a call's line is read
-call-read : (c : Call) → OfBytes c → or (repair_in (packet_line c)) (source_in (packet_line c)) ≡ some c
+call-read : (c : Call) → OfBytes c → or (repair_in (packet_line c)) (source_in (packet_line c)) ≡ Some c
 unfolding repair_in source_in
 call-read (repair-call p) h = rw (packet-read (ascii "kind=repair packet=") p h)
 call-read (source-call flow p) h =
@@ -119,7 +119,7 @@ call-read (source-call flow p) h =
     )
 
 -- with the length of the line: what was read is said
-says : (l : List ℕ) (c : Call) → call_in l ≡ some c → Says l c
+says : (l : List ℕ) (c : Call) → call_in l ≡ Some c → Says l c
 unfolding call_in
 says l c e =
     let (t, o) = cond_some (leb (length l) longest) _ c e in
@@ -127,7 +127,7 @@ says l c e =
     record { text = w.0; bytes = w.1; short = leb-true (length l) longest t }
 
 -- and what is said is read
-said : (l : List ℕ) (c : Call) → Says l c → call_in l ≡ some c
+said : (l : List ℕ) (c : Call) → Says l c → call_in l ≡ Some c
 unfolding call_in
 said l c s = rw (le-leb (length l) longest s.short, s.text) (call-read c s.bytes)
 

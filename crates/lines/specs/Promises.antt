@@ -1,6 +1,6 @@
 -- What is proved of how lines are read (proofs/Promises): exactly the lines of the forms are read, and as what they say.
 use Rattle.std.specs.Prelude.{◌≡◌, ◌≤◌, ◌<◌, ◌∷◌, ◌++◌, ◌↔◌}
-use Rattle.words.specs.Words.{ℕ, List, length, [], some, get_or}
+use Rattle.words.specs.Words.{ℕ, List, length, [], Some, get_or}
 use Rattle.history.specs.History.{Call}
 use Rattle.lines.specs.Lines.{unended, lines_of}
 use Rattle.lines.specs.Forms.{Values, first_line, Says}
@@ -26,5 +26,5 @@ Small v = (v.scheme ≤ 1500) × (v.size ≤ 1500) × (v.width ≤ 1500)
 pub record ReadExactly : Type 0 where
   -- lines that end at 0A, and the bytes after the last of them
   pub lines : (ls : List (List ℕ)) (p : List ℕ) → AllUnbroken ls → Unbroken p → lines_of (joined ls ++ p) ≡ ls ++ unended p
-  pub values : (l : List ℕ) (v : Values) → (values_in l ≡ some v) ↔ ((l ≡ first_line v) × Small v)
-  pub calls : (l : List ℕ) (c : Call) → (call_in l ≡ some c) ↔ Says l c
+  pub values : (l : List ℕ) (v : Values) → (values_in l ≡ Some v) ↔ ((l ≡ first_line v) × Small v)
+  pub calls : (l : List ℕ) (c : Call) → (call_in l ≡ Some c) ↔ Says l c

@@ -1,10 +1,10 @@
 -- Laws of texts that are put into a buffer one after the other.
 use Rattle.std.specs.Prelude.{◌≡◌, ◌≤◌, ◌+◌, ◌<◌, ◌-◌, ◌∷◌, ◌++◌, ◌^◌}
-use Rattle.words.specs.Words.{arith, ℕ, List, length, refl, ◌∙◌, sym, ap, [], drop, take, add-one, length-append, set}
-use Rattle.words.specs.Words.{append_assoc, length-set, length-take, take_at, drop-drop}
+use Rattle.words.specs.Words.{arith, ℕ, List, length, refl, ◌∙◌, sym, ap, [], drop, add-one, length-append, set}
+use Rattle.words.specs.Words.{append_assoc, length-set, length-take, drop-drop}
 use lib.Seq.{take-suc-set, drop-set-lt}
-use Rattle.memory.specs.Part.{part, splice}
-use Rattle.memory.proofs.Parts.{length-splice, past-splice, whole}
+use borrow.Rule.Slice.PartMut.{put_mid}
+use Rattle.std.proofs.lemmas.Slice.{take-put_mid, drop-put_mid}
 use Rattle.text.specs.Text.{decimal}
 use Rattle.printing.specs.Printed.{record_line}
 use Rattle.printing.specs.Inner.{Put}
@@ -25,21 +25,16 @@ put_then {a} {b} {mid = mid} {next = next} p q = record {
   past = q.past ∙ past_more b a mid next (omega (arith, q.ends)) p.past;
 }
 
--- a part of the buffer that is replaced
-pub put_splice : (at : ℕ) (x m : List ℕ) → at + length x ≤ length m → Put m (splice at x m) at (at + length x) x
-unfolding splice
-put_splice at x m h = record {
-  bytes =
-      let l : length (take at m ++ x) ≡ at + length x = simp (length-append, length-take) (omega arith) in
-      rw (← append_assoc (take at m)) (take_at (take at m ++ x) _ (at + length x) l);
-  ends = refl;
-  within = rw (length-splice at x m h) h;
-  past = past-splice (at + length x) at x m (omega arith) (omega arith);
-}
-
 -- a text that is copied
-pub put_copy : (at : ℕ) (x m m' : List ℕ) → m' ≡ splice at (part 0 (length x) x) m → at + length x ≤ length m → Put m m' at (at + length x) x
-put_copy at x m m' e h = rw (e, whole (length x) x refl) (put_splice at x m h)
+pub put_copy : (at : ℕ) (x m : List ℕ) → at + length x ≤ length m → Put m (put_mid at (at + length x - at) m x) at (at + length x) x
+put_copy at x m h =
+    let n : length x ≡ at + length x - at = omega arith in
+    record {
+      bytes = take-put_mid at _ m x _ refl (omega arith);
+      ends = refl;
+      within = simp (length-append, length-take) (omega arith);
+      past = drop-put_mid at _ m x _ (omega arith) (omega arith) n;
+    }
 
 -- a byte that is stored
 pub put_byte : (at v : ℕ) (m : List ℕ) → at < length m → Put m (set m at v) at (at + 1) (v ∷ [])

@@ -12,8 +12,9 @@ fn put_text(out: &mut [u8], at: usize, text: &[u8]) -> usize
     requires { at + length text.now ≤ length out.old }
     ensures { Put out.old out.new at result text.now }
 {
-    memory::copy_part(out, at, text, 0, text.len());
-    at + text.len()
+    let next = at + text.len();
+    out[at..next].copy_from_slice(text);
+    next
 }
 
 // Puts a number in decimal from `at` on, and gives where it ends.
@@ -22,11 +23,11 @@ fn put_decimal(out: &mut [u8], at: usize, n: u64) -> usize
     ensures { Put out.old out.new at result (decimal n) }
 {
     if n < 10 {
-        out[at] = 48 + n as u8;
+        out[at] = b'0' + n as u8;
         return at + 1;
     }
     let next = put_decimal(out, at, n / 10);
-    out[next] = 48 + (n % 10) as u8;
+    out[next] = b'0' + (n % 10) as u8;
     next + 1
 }
 
@@ -39,6 +40,7 @@ fn put_field(out: &mut [u8], at: usize, name: &[u8], n: u64) -> usize
     put_decimal(out, next, n)
 }
 
+// Kept: a put for each field names it once; a loop over names and numbers needs the line as a fold, and is no shorter.
 // Puts the line of a packet line from `at` on, and gives where it ends.
 pub fn put_record(out: &mut [u8], at: usize, n: u64, answer: u64, known: u64) -> usize
     requires { at + 78 ≤ length out.old }

@@ -1,6 +1,6 @@
 -- What is printed of a capture is what is claimed of it.
 use Rattle.std.specs.Prelude.{◌≡◌, ◌≤◌, ◌<◌, ◌∷◌, ◌&&◌}
-use Rattle.words.specs.Words.{arith, ℕ, List, length, refl, ◌∙◌, sym, ap, some, none, subst, Option, take, leb, le-leb}
+use Rattle.words.specs.Words.{arith, ℕ, List, length, refl, ◌∙◌, sym, ap, Some, None, subst, Option, take, leb, le-leb}
 use Rattle.words.specs.Words.{some-injective, length-append, leb-true}
 use Rattle.wire.specs.declared.Setting.{Setting}
 use Rattle.wire.specs.declared.Scheme.{Scheme}
@@ -26,23 +26,23 @@ use Rattle.records.proofs.Judging.{records, records_once}
 
 -- ---- First lines
 
-fits : (s s' : Setting) → fitting s ≡ some s' → (s ≡ s') × (memory_size s ≤ room) × (working_size s ≤ room)
+fits : (s s' : Setting) → fitting s ≡ Some s' → (s ≡ s') × (memory_size s ≤ room) × (working_size s ≤ room)
 fits s s' e =
-    let (t, same) = cond_some (leb (memory_size s) room && leb (working_size s) room) (some s) s' e in
+    let (t, same) = cond_some (leb (memory_size s) room && leb (working_size s) room) (Some s) s' e in
     let (m, w) = both (leb (memory_size s) room) (leb (working_size s) room) t in
     (some-injective _ _ same, leb-true (memory_size s) room m, leb-true (working_size s) room w)
 
 values_of_lem : (v : Values) (s : Setting) → Named v.scheme v.size v.width s → v ≡ values_of s
 values_of_lem v s n = λ i. record { scheme = sym n.scheme i; size = sym n.size i; width = sym n.width i }
 
-opens : (l : List ℕ) (s : Setting) → setting_named l ≡ some s → Opens l s
+opens : (l : List ℕ) (s : Setting) → setting_named l ≡ Some s → Opens l s
 unfolding setting_named
 opens l s e =
     let (_, e₁) = cond_some (leb (length l) longest) (on (values_in l) setting_with) s e in
     let (v, ev, e₂) = on_some (values_in l) setting_with s e₁ in
     let (s₁, es, e₃) = on_some (setting_of v.scheme v.size v.width) fitting s e₂ in
     let (same, m, w) = fits s₁ s e₃ in
-    let named = setting-names v.scheme v.size v.width s (es ∙ ap some same) in
+    let named = setting-names v.scheme v.size v.width s (es ∙ ap Some same) in
     record {
       text = ((read_exactly.values l v).0 ev).0 ∙ ap first_line (values_of_lem v s named);
       valid = named.valid;
@@ -63,7 +63,7 @@ scheme_small s = go s.scheme
     go Gf2 = omega arith
     go Gf256 = omega arith
 
-opened_by : (l : List ℕ) (s : Setting) → Opens l s → setting_named l ≡ some s
+opened_by : (l : List ℕ) (s : Setting) → Opens l s → setting_named l ≡ Some s
 unfolding setting_named
 opened_by l s o =
     let v = values_of s in
@@ -71,7 +71,7 @@ opened_by l s o =
     let b : v.size ≤ 1500 = omega (arith, o.valid.size_most) in
     let c : v.width ≤ 1500 = omega (arith, o.valid.width_most) in
     let short : length l ≤ longest = rw o.text (first_short v a b c) in
-    let read : values_in l ≡ some v = (read_exactly.values l v).1 (o.text, (a, b, c)) in
+    let read : values_in l ≡ Some v = (read_exactly.values l v).1 (o.text, (a, b, c)) in
     rw (le-leb (length l) longest short, read, setting-named s o.valid, le-leb (memory_size s) room o.memory, le-leb (working_size s) room o.working)
 
 -- ---- What is printed
@@ -89,7 +89,7 @@ good input l packets s e o =
       all = all_counted rs;
     }
 
-none-printed : (packets : List (List ℕ)) → printed_with none packets ≡ last_line 0 0 0 0
+none-printed : (packets : List (List ℕ)) → printed_with None packets ≡ last_line 0 0 0 0
 unfolding printed_with summary total
 none-printed packets = refl
 
@@ -98,9 +98,9 @@ bad : (input l : List ℕ) (packets : List (List ℕ)) → lines_of input ≡ l 
 unfolding printed_lines
 bad input l packets e never = rw e (go (setting_named l) (λ s h. never s (opens l s h)))
   where
-    go : (o : Option Setting) → ((s : Setting) → ¬ (o ≡ some s)) → printed_with o packets ≡ last_line 0 0 0 0
-    go none h = none-printed packets
-    go (some s) h = absurd (h s refl)
+    go : (o : Option Setting) → ((s : Setting) → ¬ (o ≡ Some s)) → printed_with o packets ≡ last_line 0 0 0 0
+    go None h = none-printed packets
+    go (Some s) h = absurd (h s refl)
 
 pub prints : Prints
 unfolding printed_lines summary total

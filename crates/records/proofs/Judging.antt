@@ -1,6 +1,6 @@
 -- Each record is what the history asks of its line, and nothing else can be one.
 use Rattle.std.specs.Prelude.{◌≡◌, ◌<◌, ◌∷◌, ◌≢◌}
-use Rattle.words.specs.Words.{arith, ℕ, List, refl, ◌∙◌, sym, ap, [], some, suc, true, zero, none, false, Bool, subst, Option, ap₂, cond}
+use Rattle.words.specs.Words.{arith, ℕ, List, refl, ◌∙◌, sym, ap, [], Some, suc, true, zero, None, false, Bool, subst, Option, ap₂, cond}
 use Rattle.words.specs.Words.{eqb, some-injective, none-ne-some, ne_eqb}
 use Rattle.wire.specs.declared.Setting.{Setting}
 use Rattle.history.specs.History.{Call, source-call, repair-call, OfBytes, esi_of, Side, behind, ahead, Reading, fails, located, check, from_side, read_source}
@@ -14,8 +14,7 @@ use Rattle.history.proofs.Readings.{reading_passes}
 use Rattle.lines.specs.Forms.{Says}
 use Rattle.lines.specs.Reading.{call_in}
 use Rattle.lines.proofs.Promises.{read_exactly}
-use Rattle.records.specs.declared.Record.{Record}
-use Rattle.records.specs.Records.{room}
+use Rattle.records.specs.Records.{Record, room}
 use Rattle.records.specs.Replay.{record_of, record_at, state_at, records_from}
 use Rattle.records.specs.Claims.{said_by, logged_by, Recorded, Records}
 use Rattle.decoder.specs.Receiver as decoder
@@ -68,8 +67,8 @@ module _ (s : Setting) (some_bytes : 0 < s.size) where
   positive t c = go (found_by s t (esi_of c)) (reading s all_flows (found_by s t (esi_of c)).base room c) (numbered s all_flows (found_by s t (esi_of c)).base room c)
     where
       got : (j : Joined s) (o : Option (Joined s)) → Positive (said_of (added s j o))
-      got j none = omega arith
-      got j (some j') = tt
+      got j None = omega arith
+      got j (Some j') = tt
 
       go : (j : Joined s) (r : Reading) → Numbered r → Positive (said_of (responds s j r))
       go j (fails n) h = h
@@ -94,7 +93,7 @@ module _ (s : Setting) (some_bytes : 0 < s.size) where
   -- the record of a line, and the state after it
   at_line : (log : Log) (t : State s) (l : List ℕ) → Tracks s some_bytes log t → (o : Option Call) → call_in l ≡ o
       → Recorded s log l (record_at s t o) × Tracks s some_bytes (logged_by s log o (record_at s t o)) (state_at s t o)
-  at_line log t l k none e = (
+  at_line log t l k None e = (
     record {
       answered = λ c h. absurd (none-ne-some c (sym e ∙ (read_exactly.calls l c).1 h));
       nothing = λ h. refl;
@@ -102,7 +101,7 @@ module _ (s : Setting) (some_bytes : 0 < s.size) where
     },
     k,
   )
-  at_line log t l k (some c) e =
+  at_line log t l k (Some c) e =
       let says : Says l c = (read_exactly.calls l c).0 e in
       let a = said_of (receiving s all_flows t room c) in
       let (j, n) = called log t c k says.bytes in
@@ -150,14 +149,14 @@ same_record r r' h h' e =
 module _ (s : Setting) where
   -- a line has one record
   one_line : (log : Log) (l : List ℕ) (o : Option Call) → call_in l ≡ o → (r r' : Record) → Recorded s log l r → Recorded s log l r' → r ≡ r'
-  one_line log l none e r r' h h' =
+  one_line log l None e r r' h h' =
       let never : (c : Call) → ¬ Says l c = λ c x. none-ne-some c (sym e ∙ (read_exactly.calls l c).1 x) in
       let a = h.other never in
       let a' = h'.other never in
       let n = h.nothing (λ x. omega arith) in
       let n' = h'.nothing (λ x. omega arith) in
       ap₂ (λ (x y : ℕ). record { answer = x; known = y }) (a ∙ sym a') (n ∙ sym n')
-  one_line log l (some c) e r r' h h' =
+  one_line log l (Some c) e r r' h h' =
       let says : Says l c = (read_exactly.calls l c).0 e in
       same_record r r' h.nothing h'.nothing
       (judged_once s log (read_after s all_flows log room c) (said_by r) (said_by r') (h.answered c says) (h'.answered c says))

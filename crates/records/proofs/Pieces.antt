@@ -5,7 +5,7 @@
 --   Goes: packet lines
 --   stops
 use Rattle.std.specs.Prelude.{◌≡◌, ◌≤◌, ◌+◌, ◌∷◌, ◌++◌}
-use Rattle.words.specs.Words.{arith, ℕ, List, length, refl, ◌∙◌, sym, ap, [], some, true, none, false, Bool, subst, Option, take, ltb}
+use Rattle.words.specs.Words.{arith, ℕ, List, length, refl, ◌∙◌, sym, ap, [], Some, true, None, false, Bool, subst, Option, take, ltb}
 use Rattle.words.specs.Words.{le-leb, length-append, append_assoc, leb-true, ltb-true, ⊎_elim, min, ltb-false}
 use Rattle.wire.specs.declared.Setting.{Setting}
 use Rattle.history.specs.Model.{State, opened}
@@ -13,9 +13,8 @@ use Rattle.lines.specs.Lines.{lines_from, lines_of}
 use Rattle.lines.specs.Reading.{call_in}
 use Rattle.lines.specs.Promises.{Unbroken, AllUnbroken, joined}
 use Rattle.lines.proofs.Breaks.{ended, lines_go_on}
-use Rattle.records.specs.declared.Record.{Record}
 use Rattle.records.specs.declared.Progress.{Progress}
-use Rattle.records.specs.Records.{most_lines}
+use Rattle.records.specs.Records.{Record, most_lines}
 use Rattle.records.specs.Replay.{record_at, state_at, setting_named, printed_lines}
 use Rattle.records.specs.Standing.{Standing, opening, closed, working, opened_with, after_line, printed_line, after, printed_by, last_of, Stands}
 use Rattle.records.specs.Claims.{Opens}
@@ -164,10 +163,10 @@ stops p line m xs b t l ls q u v e d =
   where
     go : (o : Option Setting) → setting_named l ≡ o → Stands (reached p xs) (memory_left m xs) (after (opened_with (setting_named l)) ls)
         → is_over (reached p xs) ≡ true
-    go none f k =
+    go None f k =
         closed_over (reached p xs) (memory_left m xs)
         (subst (Stands (reached p xs) (memory_left m xs)) (ap (λ (o : Option Setting). after (opened_with o) ls) f ∙ (still_after closed closed_still ls).0) k)
-    go (some s) f k =
+    go (Some s) f k =
         let x = after_working ls s (opened s) [] in
         let n : most_lines ≤ length ls = ⊎_elim (λ (never : (s : Setting) → ¬ Opens l s). absurd (never s ((prints.settings l s).0 f))) (λ h. h) d in
         full_over (reached p xs) (memory_left m xs) s x.state x.records

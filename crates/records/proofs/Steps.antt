@@ -1,13 +1,12 @@
 -- Sums of records, and what a line makes of a capture's standing.
 use Rattle.std.specs.Prelude.{◌≡◌, ◌≤◌, ◌+◌, ◌<◌, ◌-◌, ◌∷◌, ◌++◌}
-use Rattle.words.specs.Words.{arith, ℕ, List, length, refl, ◌∙◌, sym, ap, [], some, suc, true, zero, none, false, Bool}
+use Rattle.words.specs.Words.{arith, ℕ, List, length, refl, ◌∙◌, sym, ap, [], Some, suc, true, zero, None, false, Bool}
 use Rattle.words.specs.Words.{Option, take, cond, ltb, eqb, length-append, lt-ltb, append_assoc, append-nil, le-ltb, ltb-true, ltb-false}
 use Rattle.wire.specs.declared.Setting.{Setting}
 use Rattle.history.specs.Model.{State}
 use Rattle.printing.specs.Printed.{record_line}
 use Rattle.lines.specs.Reading.{call_in}
-use Rattle.records.specs.declared.Record.{Record}
-use Rattle.records.specs.Records.{most_lines, total, accepted_in, refused_in, record_lines, summary}
+use Rattle.records.specs.Records.{Record, most_lines, total, accepted_in, refused_in, record_lines, summary}
 use Rattle.records.specs.Replay.{record_at, state_at, records_from, setting_named, printed_with, printed_lines}
 use Rattle.records.specs.Standing.{Standing, opening, closed, working, opened_with, after_line, printed_line, after, printed_by, last_of}
 
@@ -103,8 +102,8 @@ to_come_past s t rs ls ls' h = let e : most_lines - length rs ≡ 0 = omega arit
 
 to_come_opens : (o : Option Setting) (ls : List (List ℕ)) → printed_with o ls ≡ to_come (opened_with o) ls
 unfolding to_come printed_with
-to_come_opens none ls = refl
-to_come_opens (some s) ls = refl
+to_come_opens None ls = refl
+to_come_opens (Some s) ls = refl
 
 -- a line more
 to_come_line : (w : Standing) (l : List ℕ) (ls : List (List ℕ)) → to_come w (l ∷ ls) ≡ printed_line w l ++ to_come (after_line w l) ls

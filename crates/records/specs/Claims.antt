@@ -1,6 +1,6 @@
 -- What is claimed of what is printed (proofs/Claims), in the words of document 02, No. 4, and of the receiver's history.
 use Rattle.std.specs.Prelude.{◌≡◌, ◌≤◌, ◌+◌, ◌<◌, ◌∷◌, ◌++◌, ◌≢◌, ◌↔◌}
-use Rattle.words.specs.Words.{ℕ, List, length, [], some, true, none, Option, take, cond, eqb}
+use Rattle.words.specs.Words.{ℕ, List, length, [], Some, true, None, Option, take, cond, eqb}
 use Rattle.wire.specs.declared.Setting.{Setting}
 use Rattle.wire.specs.Settings.{scheme_number, Valid}
 use Rattle.wire.specs.Answers.{Said, value, refusal}
@@ -10,8 +10,7 @@ use Rattle.printing.specs.Printed.{last_line}
 use Rattle.lines.specs.Lines.{lines_of}
 use Rattle.lines.specs.Forms.{Values, first_line, Says}
 use Rattle.lines.specs.Reading.{call_in}
-use Rattle.records.specs.declared.Record.{Record}
-use Rattle.records.specs.Records.{room, most_lines, accepted_in, refused_in, known_in, record_lines}
+use Rattle.records.specs.Records.{Record, room, most_lines, accepted_in, refused_in, known_in, record_lines}
 use Rattle.records.specs.Replay.{setting_named, printed}
 
 -- the values that name a setting
@@ -32,8 +31,8 @@ said_by r = cond (eqb r.answer 0) (value r.known) (refusal r.answer)
 module _ (s : Setting) where
   -- what the accepted packets are after a line with a record: a line that is not of the form says nothing to the receiver
   abbrev pub logged_by : Log → Option Call → Record → Log
-  logged_by log none r = log
-  logged_by log (some c) r = logged s log (read_after s all_flows log room c) (said_by r)
+  logged_by log None r = log
+  logged_by log (Some c) r = logged s log (read_after s all_flows log room c) (said_by r)
 
   -- the record of a line, after the packets that were accepted before it, where all flows are announced
   pub record Recorded (log : Log) (l : List ℕ) (r : Record) : Type 0 where
@@ -59,7 +58,7 @@ pub record Printing (s : Setting) (packets : List (List ℕ)) (output : List ℕ
 
 pub record Prints : Type 0 where
   -- the setting that is read off a first line is the one that it opens
-  pub settings : (l : List ℕ) (s : Setting) → (setting_named l ≡ some s) ↔ Opens l s
+  pub settings : (l : List ℕ) (s : Setting) → (setting_named l ≡ Some s) ↔ Opens l s
   pub good : (input l : List ℕ) (packets : List (List ℕ)) (s : Setting) → lines_of input ≡ l ∷ packets → Opens l s → Printing s packets (printed input)
   -- a bad first line, or none: only the last line, with zeros
   pub bad : (input l : List ℕ) (packets : List (List ℕ)) → lines_of input ≡ l ∷ packets → ((s : Setting) → ¬ Opens l s) → printed input ≡ last_line 0 0 0 0

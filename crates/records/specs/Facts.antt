@@ -1,7 +1,7 @@
 -- Computed from the definitions: document 02's sample, answers of each kind, inputs that end without 0A, bad first lines, and
 -- what is taken of a piece.
 use Rattle.std.specs.Prelude.{◌≡◌, ◌∷◌}
-use Rattle.words.specs.Words.{[], ℕ, List, refl, some, none, map}
+use Rattle.words.specs.Words.{[], ℕ, List, refl, Some, None, map}
 use Prim.Native.String.{String}
 use Rattle.history.specs.Computing.{computing}
 use Rattle.rows.specs.Combination.{combination}
@@ -47,9 +47,9 @@ pub first_lines : map (λ t. setting_named (ascii t))
     ∷ "scheme=8 e=4 width=2" ∷ "scheme=9 e=3 width=2" ∷ "scheme=9 e=4 width=0" ∷ "scheme=9 e=4 width=256"
     ∷ "scheme=9 e=757 width=77" ∷ "scheme=10 e=246 width=159" ∷ "scheme=9 e=735 width=79" ∷ "scheme=9 e=4 width=251"
     ∷ "scheme=09 e=4 width=2" ∷ "scheme=9  e=4 width=2" ∷ "scheme=18446744073709551625 e=4 width=2" ∷ "scheme=9 e=4 width=2\r" ∷ "" ∷ [])
-    ≡ some (record { scheme = Gf2; size = 4; width = 2 }) ∷ some (record { scheme = Gf256; size = 245; width = 159 })
-    ∷ some (record { scheme = Gf2; size = 734; width = 79 }) ∷ some (record { scheme = Gf2; size = 4; width = 250 })
-    ∷ none ∷ none ∷ none ∷ none ∷ none ∷ none ∷ none ∷ none ∷ none ∷ none ∷ none ∷ none ∷ none ∷ []
+    ≡ Some (record { scheme = Gf2; size = 4; width = 2 }) ∷ Some (record { scheme = Gf256; size = 245; width = 159 })
+    ∷ Some (record { scheme = Gf2; size = 734; width = 79 }) ∷ Some (record { scheme = Gf2; size = 4; width = 250 })
+    ∷ None ∷ None ∷ None ∷ None ∷ None ∷ None ∷ None ∷ None ∷ None ∷ None ∷ None ∷ None ∷ None ∷ []
 unfolding in_range setting_of after number_from number_in values_in setting_named
 first_lines = refl
 

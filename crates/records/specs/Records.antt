@@ -2,7 +2,11 @@
 use Rattle.std.specs.Prelude.{◌+◌, ◌∷◌, ◌++◌}
 use Rattle.words.specs.Words.{ℕ, List, length, [], cond, eqb}
 use Rattle.printing.specs.Printed.{record_line, last_line}
-use Rattle.records.specs.declared.Record.{Record}
+
+-- What is printed of a packet line: 0 or the number of the refusal, 15 where the line is not of the form; and how many positions became known.
+pub record Record : Type 0 where
+  pub answer : ℕ
+  pub known : ℕ
 
 -- the most bytes that a receiver's memory and the working memory may have; as much of each is lent
 abbrev pub room : ℕ

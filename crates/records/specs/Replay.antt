@@ -1,7 +1,7 @@
 -- What is printed of a capture, as a definition that computes. That it is what document 02 asks for is claimed in the history's words (Claims): a
 -- reader need not believe this.
 use Rattle.std.specs.Prelude.{◌∷◌, ◌++◌, ◌&&◌}
-use Rattle.words.specs.Words.{ℕ, List, length, [], some, none, Option, take, cond, leb}
+use Rattle.words.specs.Words.{ℕ, List, length, [], Some, None, Option, take, cond, leb}
 use Rattle.wire.specs.declared.Setting.{Setting}
 use Rattle.wire.specs.Settings.{setting_of}
 use Rattle.wire.specs.Answers.{Said, value, refusal}
@@ -11,8 +11,7 @@ use Rattle.history.specs.Model.{State, opened, said_of, state_after, receiving}
 use Rattle.lines.specs.Lines.{lines_of}
 use Rattle.lines.specs.Forms.{Values, longest}
 use Rattle.lines.specs.Reading.{on, values_in, call_in}
-use Rattle.records.specs.declared.Record.{Record}
-use Rattle.records.specs.Records.{room, most_lines, record_lines, summary}
+use Rattle.records.specs.Records.{Record, room, most_lines, record_lines, summary}
 
 -- ---- Packet lines
 
@@ -27,12 +26,12 @@ malformed = record { answer = 15; known = 0 }
 module _ (s : Setting) where
   -- what a line says to a receiver in a state, where all flows are announced: its record, and the state after it; a line that is not of the form says nothing
   abbrev pub record_at : State s → Option Call → Record
-  record_at t none = malformed
-  record_at t (some c) = record_of (said_of (receiving s all_flows t room c))
+  record_at t None = malformed
+  record_at t (Some c) = record_of (said_of (receiving s all_flows t room c))
 
   abbrev pub state_at : State s → Option Call → State s
-  state_at t none = t
-  state_at t (some c) = state_after t (receiving s all_flows t room c)
+  state_at t None = t
+  state_at t (Some c) = state_after t (receiving s all_flows t room c)
 
   -- the records of packet lines
   unfoldable pub records_from : State s → List (List ℕ) → List Record
@@ -43,20 +42,20 @@ module _ (s : Setting) where
 
 -- the setting that it names: none where it is not of the form or too long, opening refuses its values, or a memory would be too large
 abbrev pub fitting : Setting → Option Setting
-fitting s = cond (leb (memory_size s) room && leb (working_size s) room) (some s) none
+fitting s = cond (leb (memory_size s) room && leb (working_size s) room) (Some s) None
 
 abbrev pub setting_with : Values → Option Setting
 setting_with v = on (setting_of v.scheme v.size v.width) fitting
 
 unfoldable pub setting_named : List ℕ → Option Setting
-setting_named l = cond (leb (length l) longest) (on (values_in l) setting_with) none
+setting_named l = cond (leb (length l) longest) (on (values_in l) setting_with) None
 
 -- ---- What is printed
 
 -- after the first line: the records' lines and the last line; where the first line is bad, only the last line
 unfoldable pub printed_with : Option Setting → (packets : List (List ℕ)) → List ℕ
-printed_with none ls = summary []
-printed_with (some s) ls = let rs = records_from s (opened s) (take most_lines ls) in record_lines 0 rs ++ summary rs
+printed_with None ls = summary []
+printed_with (Some s) ls = let rs = records_from s (opened s) (take most_lines ls) in record_lines 0 rs ++ summary rs
 
 unfoldable pub printed_lines : List (List ℕ) → List ℕ
 printed_lines [] = summary []

@@ -1,6 +1,6 @@
 -- Where a capture stands after lines of it, and what is printed on the way. The claims need only that it is kept: a reader need not believe it.
 use Rattle.std.specs.Prelude.{◌≡◌, ◌≤◌, ◌+◌, ◌∷◌, ◌*◌, ◌++◌}
-use Rattle.words.specs.Words.{ℕ, List, length, [], some, none, Option, take, cond, ltb, min}
+use Rattle.words.specs.Words.{ℕ, List, length, [], Some, None, Option, take, cond, ltb, min}
 use Rattle.wire.specs.declared.Setting.{Setting}
 use Rattle.wire.specs.Flows.{all_flows}
 use Rattle.history.specs.Model.{State, opened}
@@ -8,10 +8,9 @@ use Rattle.holding.specs.Layout.{HoldsWith}
 use Rattle.printing.specs.Printed.{record_line}
 use Rattle.lines.specs.Forms.{longest}
 use Rattle.lines.specs.Reading.{call_in}
-use Rattle.records.specs.declared.Record.{Record}
 use Rattle.records.specs.declared.Stage.TheVariants.{Opening, Working, Closed}
 use Rattle.records.specs.declared.Progress.{Progress}
-use Rattle.records.specs.Records.{most_lines, accepted_in, refused_in, known_in, summary}
+use Rattle.records.specs.Records.{Record, most_lines, accepted_in, refused_in, known_in, summary}
 use Rattle.records.specs.Replay.{record_at, state_at, setting_named}
 
 -- the first line is to come; it was bad; or the receiver's state, and the records so far
@@ -22,8 +21,8 @@ pub data Standing : Type 0 where
 
 -- after a line: after the first, as it names a setting or not; after a packet line there is a record more, as long as they are not the most
 abbrev pub opened_with : Option Setting → Standing
-opened_with none = closed
-opened_with (some s) = working s (opened s) []
+opened_with None = closed
+opened_with (Some s) = working s (opened s) []
 
 unfoldable pub after_line : Standing → List ℕ → Standing
 after_line opening l = opened_with (setting_named l)

@@ -2,13 +2,6 @@
 // follows for every list of them. The types of these, and no code.
 #![tactic(auto)]
 
-// What is printed of a packet line: 0 or the number of the refusal, 15 where the line is not of the form; and how many positions became known.
-#[derive(Clone, Copy)]
-pub struct Record {
-    pub answer: u64,
-    pub known: u64,
-}
-
 // Where a capture stands: its first line is to come; its packet lines are worked through; or its first line was bad.
 #[derive(Clone, Copy)]
 pub enum Stage {

@@ -9,23 +9,26 @@
 --   packet-past: the most have been read
 --   packet-read: a record is printed
 --   line-opening, line_working, line_closed
-use Rattle.std.specs.Prelude.{◌≡◌, ◌≤◌, ◌+◌, ◌<◌, ◌-◌, ◌%◌, ◌∷◌, ◌++◌, ◌^◌}
-use Rattle.words.specs.Words.{arith, ℕ, List, length, refl, ◌∙◌, sym, ap, [], some, true, none, false, Bool, subst}
-use Rattle.words.specs.Words.{Option, take, cond, eqb, length-append, append-nil}
+use Rattle.std.specs.Prelude.{◌≡◌, ◌≤◌, ◌+◌, ◌<◌, ◌-◌, ◌∷◌, ◌++◌, ◌^◌, Result, Ok, Err}
+use Rattle.words.specs.Words.{arith, ℕ, List, length, refl, ◌∙◌, sym, ap, [], Some, true, None, false, Bool, subst}
+use Rattle.words.specs.Words.{Option, take, cond, eqb, ne_eqb, length-append, append-nil}
 use Rattle.wire.specs.declared.Setting.{Setting}
 use Rattle.printing.specs.Printed.{record_line}
 use Rattle.printing.specs.Inner.{Put}
 use Rattle.printing.proofs.Laws.{past_more, record_length}
 use Rattle.lines.specs.Reading.{call_in}
-use Rattle.records.specs.declared.Record.{Record}
 use Rattle.records.specs.declared.Stage.{Stage}
 use Rattle.records.specs.declared.Stage.TheVariants.{Opening, Working, Closed}
 use Rattle.records.specs.declared.Progress.{Progress}
 use Rattle.replay.specs.declared.Ended.{Ended}
-use Rattle.records.specs.Records.{most_lines}
+use Rattle.records.specs.Records.{Record, most_lines}
 use Rattle.records.specs.Replay.{state_at, setting_named}
 use Rattle.records.specs.Standing.{Standing, opening, closed, working, after_line, printed_line, Counts, Stands, Kept}
-use Rattle.answering.specs.Inner.{OpensOrNot, OpenedBy, Answered}
+use Rattle.wire.specs.declared.Refusal.TheVariants.{Values, Short, Unopened, Long, Form, Range, Empty, Behind, Ahead, Draws, Contradiction, Unknown}
+use Rattle.wire.specs.declared.Refusal.TheVariants.{NoStart, Padding, Unannounced, Grid, Block}
+use Rattle.answering.specs.declared.Fault.{Fault}
+use Rattle.answering.specs.declared.Fault.TheVariants.{Refused, Malformed}
+use Rattle.answering.specs.Inner.{fault_number, told, OpensOrNot, OpenedBy, Answered}
 use Rattle.replay.specs.Inner.{Counted, moved_to, Grown, Passed, FirstEnded, AtPackets, PacketEnded, LineEnded}
 use Rattle.records.proofs.Steps.{total-more, all_counted, line_read, line-past, line_opens}
 
@@ -42,8 +45,8 @@ one-or-none false = (omega arith, refl)
 
 -- a record more: the sums are far from wrapping
 pub counted : (p : Progress) (r : Record) (p' : Progress) (a : ℕ) → a ≡ cond (eqb r.answer 0) 1 0 → p'.stage ≡ Working → p'.have ≡ 0
-    → p'.lines ≡ (p.lines + 1) % 2 ^ 64 → p'.accepted ≡ (p.accepted + a) % 2 ^ 64 → p'.refused ≡ (p.refused + (1 - a)) % 2 ^ 64
-    → p'.known ≡ (p.known + r.known) % 2 ^ 64 → Counted p r p'
+    → (p.lines + 1 < 2 ^ 64 → p'.lines ≡ p.lines + 1) → (p.accepted + a < 2 ^ 64 → p'.accepted ≡ p.accepted + a)
+    → (p.refused + (1 - a) < 2 ^ 64 → p'.refused ≡ p.refused + (1 - a)) → (p.known + r.known < 2 ^ 64 → p'.known ≡ p.known + r.known) → Counted p r p'
 counted p r p' a ea stage have l ac re kn = record {
   stage = stage;
   have = have;
@@ -60,6 +63,34 @@ counted p r p' a ea stage have l ac re kn = record {
         small = omega (arith, k.small, total-more (λ x. x.known) rs r);
       };
 }
+
+-- the number of a fault is none of an accepted packet's, and small
+fault_bounds : (f : Fault) → (0 < fault_number f) × (fault_number f ≤ 18)
+fault_bounds Malformed = (omega arith, omega arith)
+fault_bounds (Refused Values) = (omega arith, omega arith)
+fault_bounds (Refused Short) = (omega arith, omega arith)
+fault_bounds (Refused Unopened) = (omega arith, omega arith)
+fault_bounds (Refused Long) = (omega arith, omega arith)
+fault_bounds (Refused Form) = (omega arith, omega arith)
+fault_bounds (Refused Range) = (omega arith, omega arith)
+fault_bounds (Refused Empty) = (omega arith, omega arith)
+fault_bounds (Refused Behind) = (omega arith, omega arith)
+fault_bounds (Refused Ahead) = (omega arith, omega arith)
+fault_bounds (Refused Draws) = (omega arith, omega arith)
+fault_bounds (Refused Contradiction) = (omega arith, omega arith)
+fault_bounds (Refused Unknown) = (omega arith, omega arith)
+fault_bounds (Refused NoStart) = (omega arith, omega arith)
+fault_bounds (Refused Padding) = (omega arith, omega arith)
+fault_bounds (Refused Unannounced) = (omega arith, omega arith)
+fault_bounds (Refused Grid) = (omega arith, omega arith)
+fault_bounds (Refused Block) = (omega arith, omega arith)
+
+pub fault_none : (f : Fault) → ◌≡◌ {A = ℕ} 0 (cond (eqb (fault_number f) 0) 1 0)
+fault_none f = let b = fault_bounds f in rw (ne_eqb (fault_number f) 0 (λ e. omega arith))
+
+told_small : (x : Result ℕ Fault) → (told x).answer ≤ 18
+told_small (Ok n) = omega arith
+told_small (Err f) = (fault_bounds f).1
 
 -- ---- Output
 
@@ -90,9 +121,9 @@ first-opened p r line m m' b o t e = record {
 }
   where
     go : (l : List ℕ) → Counts p [] → (x : Option Setting) → setting_named l ≡ x → OpensOrNot x m' b → Stands (moved_to p Working 0) m' (after_line opening l)
-    go l k none q f = let z : ◌≡◌ {A = ℕ} 0 1 = cc in absurd (omega arith)
-    go l k (some s) q f =
-        subst (Stands (moved_to p Working 0) m') (sym (line_opens l (some s) q))
+    go l k None q f = let z : ◌≡◌ {A = ℕ} 0 1 = cc in absurd (omega arith)
+    go l k (Some s) q f =
+        subst (Stands (moved_to p Working 0) m') (sym (line_opens l (Some s) q))
         (record { stage = refl; holds = f.1; counts = moved-counts p Working 0 [] k })
 
 pub first_closed : (p r : Progress) (line m m' : List ℕ) (b : Bool) → OpenedBy p.have line m' b → b ≡ false → r ≡ moved_to p Closed 0
@@ -103,8 +134,8 @@ first_closed p r line m m' b o t e = record {
 }
   where
     go : (l : List ℕ) → Counts p [] → (x : Option Setting) → setting_named l ≡ x → OpensOrNot x m' b → Stands (moved_to p Closed 0) m' (after_line opening l)
-    go l k (some s) q f = let g = f.0 in let z : ◌≡◌ {A = ℕ} 0 1 = cc in absurd (omega arith)
-    go l k none q f = subst (Stands (moved_to p Closed 0) m') (sym (line_opens l none q)) (refl, moved-counts p Closed 0 [] k)
+    go l k (Some s) q f = let g = f.0 in let z : ◌≡◌ {A = ℕ} 0 1 = cc in absurd (omega arith)
+    go l k None q f = subst (Stands (moved_to p Closed 0) m') (sym (line_opens l None q)) (refl, moved-counts p Closed 0 [] k)
 
 -- ---- A packet line
 
@@ -113,7 +144,7 @@ silent : (x y : List ℕ) → y ≡ [] → x ≡ x ++ y
 silent x y e = rw (e, append-nil x)
 
 -- the most have been read
-pub packet-past : (p r : Progress) (line m out : List ℕ) (at : ℕ) → at ≤ length out → most_lines ≤ p.lines → r ≡ moved_to p Working 0
+pub packet-past : (p r : Progress) (line m out : List ℕ) (at : ℕ) → at ≤ length out → most_lines ≤ p.lines → r ≡ moved_to p p.stage 0
     → PacketEnded p line m m out out at (record { progress = r; at = at })
 packet-past p r line m out at n h e = record {
   room = omega arith;
@@ -122,23 +153,28 @@ packet-past p r line m out at n h e = record {
   goes = λ w l a k g. subst (λ x. Passed w l (take at out) (take at out) x m) (sym e) (go w l a k);
 }
   where
-    go : (w : Standing) (l : List ℕ) → AtPackets w → Stands p m w → Passed w l (take at out) (take at out) (moved_to p Working 0) m
+    go : (w : Standing) (l : List ℕ) → AtPackets w → Stands p m w → Passed w l (take at out) (take at out) (moved_to p p.stage 0) m
     go opening l a k = absurd a
     go closed l a k = absurd a
     go (working s t rs) l a k =
         let (stays, prints) = line-past s t rs l (omega (arith, k.counts.lines)) in
         record {
-          stands = subst (Stands (moved_to p Working 0) m) (sym stays)
-              (record { stage = refl; holds = k.holds; counts = moved-counts p Working 0 rs k.counts });
+          stands = subst (Stands (moved_to p p.stage 0) m) (sym stays)
+              (record { stage = k.stage; holds = k.holds; counts = moved-counts p p.stage 0 rs k.counts });
           wrote = silent (take at out) _ prints;
         }
 
 -- a record is printed
-pub packet-read : (p p' : Progress) (line m m' out out' : List ℕ) (at next : ℕ) (r : Record) → p.lines < most_lines → r.answer < 2 ^ 64 → r.known < 2 ^ 64
-    → Answered p.have line m m' r → Put out out' at next (record_line (p.lines + 1) r.answer r.known) → Counted p r p'
+pub packet-read : (p p' : Progress) (line m m' out out' : List ℕ) (at next : ℕ) (x : Result ℕ Fault) → p.lines < most_lines
+    → Answered p.have line m m' (told x) → Put out out' at next (record_line (p.lines + 1) (told x).answer (told x).known) → Counted p (told x) p'
     → PacketEnded p line m m' out out' at (record { progress = p'; at = next })
-packet-read p p' line m m' out out' at next r few ra rk a put c = record {
-  room = omega (arith, put.ends, record_length (p.lines + 1) r.answer r.known (omega arith) ra rk);
+packet-read p p' line m m' out out' at next x few a put c = record {
+  room =
+      omega (
+        arith,
+        put.ends,
+        record_length (p.lines + 1) (told x).answer (told x).known (omega arith) (omega (arith, told_small x)) (omega (arith, a.small)),
+      );
   rest = grown_put put;
   have = c.have;
   goes = go;
@@ -179,7 +215,7 @@ line_working p line m m' out out' at r e f = record { room = f.room; rest = f.re
     go closed l n k g = let q = k.0 in let z : ◌≡◌ {A = ℕ} 0 1 = cc in absurd (omega arith)
     go (working s t rs) l n k g = f.goes (working s t rs) l tt k g
 
-pub line_closed : (p r : Progress) (line m out : List ℕ) (at : ℕ) → at ≤ length out → p.stage ≡ Closed → r ≡ moved_to p Closed 0
+pub line_closed : (p r : Progress) (line m out : List ℕ) (at : ℕ) → at ≤ length out → p.stage ≡ Closed → r ≡ moved_to p p.stage 0
     → LineEnded p line m m out out at (record { progress = r; at = at })
 unfolding after_line printed_line
 line_closed p r line m out at n e f = record {
@@ -189,7 +225,7 @@ line_closed p r line m out at n e f = record {
   goes = λ w l n k g. subst (λ x. Passed w l (take at out) (take at out) x m) (sym f) (go w l k);
 }
   where
-    go : (w : Standing) (l : List ℕ) → Stands p m w → Passed w l (take at out) (take at out) (moved_to p Closed 0) m
+    go : (w : Standing) (l : List ℕ) → Stands p m w → Passed w l (take at out) (take at out) (moved_to p p.stage 0) m
     go opening l k = let q = k.0 in let z : ◌≡◌ {A = ℕ} 0 1 = cc in absurd (omega arith)
-    go closed l k = record { stands = (refl, moved-counts p Closed 0 [] k.1); wrote = silent (take at out) [] refl }
+    go closed l k = record { stands = (e, moved-counts p p.stage 0 [] k.1); wrote = silent (take at out) [] refl }
     go (working s t rs) l k = let q = k.stage in let z : ◌≡◌ {A = ℕ} 0 1 = cc in absurd (omega arith)

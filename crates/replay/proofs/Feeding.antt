@@ -16,7 +16,6 @@ use Rattle.words.specs.Words.{arith, ℕ, List, length, refl, ◌∙◌, sym, ap
 use Rattle.words.specs.Words.{take, ltb, leb, add-one, lt-ltb, append_assoc, length-drop, leb-true, append-nil, ltb-true, not, take_all}
 use Rattle.words.specs.Words.{ltb-false, le-leb, drop-cons, drop-drop, drop-length, take-append-drop, length-append, length-take-le, add_assoc, ap₂}
 use Rattle.std.proofs.Common.{drop_of_length-le, take-suc, take-add}
-use Rattle.memory.specs.Part.{part}
 use Rattle.wire.proofs.Settings.{both}
 use Rattle.lines.specs.Lines.{lines_from}
 use Rattle.lines.specs.Inner.{Ends}
@@ -48,16 +47,12 @@ text-ends : (at next : ℕ) (out out' text : List ℕ) → at ≤ length out →
 text-ends at next out out' text h k e =
     omega (arith, ap length e, length-append (take at out) text, length-take-le at out h, length-take-le next out' k)
 
-module _ (p kept : Progress) (line line' m input bytes : List ℕ) (n have : ℕ) (ends : Ends input n) (b : bytes ≡ part 0 n input)
+module _ (p kept : Progress) (line line' m input bytes : List ℕ) (n have : ℕ) (ends : Ends input n) (b : bytes ≡ take n input)
     (more : KeptMore p.have have line line' bytes) (k : kept ≡ moved_to p p.stage have) where
-  front : bytes ≡ take n input
-  unfolding part
-  front = b
-
   kept_held : (w : Standing) (q : List ℕ) → Held p line m w q → Held kept line' m w (q ++ take n input)
   kept_held w q h =
       subst (λ x. Held x line' m w (q ++ take n input)) (sym k)
-      (record { stands = moved_stands p have m w h.stands; kept = subst (λ x. Kept have line' (q ++ x)) front (more q h.kept) })
+      (record { stands = moved_stands p have m w h.stands; kept = subst (λ x. Kept have line' (q ++ x)) b (more q h.kept) })
 
   goes_on : (q z : List ℕ) → lines_from q (take n input ++ z) ≡ lines_from (q ++ take n input) z
   goes_on q z = lines_go_on q (take n input) (front_unbroken input n ends) z

@@ -3,13 +3,12 @@ use Rattle.std.specs.Prelude.{◌≡◌, ◌≤◌, ◌+◌, ◌<◌, ◌∷◌,
 use Rattle.words.specs.Words.{ℕ, List, length, [], drop, take}
 use Rattle.printing.specs.Printed.{last_line}
 use Rattle.lines.specs.Lines.{lines_from}
-use Rattle.records.specs.declared.Record.{Record}
 use Rattle.records.specs.declared.Stage.{Stage}
 use Rattle.records.specs.declared.Stage.TheVariants.{Working}
 use Rattle.records.specs.declared.Progress.{Progress}
 use Rattle.records.specs.declared.Pass.{Pass}
 use Rattle.replay.specs.declared.Ended.{Ended}
-use Rattle.records.specs.Records.{most_lines}
+use Rattle.records.specs.Records.{Record, most_lines}
 use Rattle.records.specs.Standing.{Standing, opening, closed, working, after_line, printed_line, after, printed_by, last_of, Counts, Stands, Kept}
 use Rattle.records.specs.Taking.{taken_of, taken_from}
 use Rattle.records.specs.Promises.{Held, GoesFrom}

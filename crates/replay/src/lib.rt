@@ -3,12 +3,16 @@
 #![tactic(auto)]
 
 ghost use Rattle.std.specs.Prelude.{◌≡◌, ◌≤◌, ◌+◌, ◌&&◌};
-ghost use Rattle.words.specs.Words.{length, cond, ltb, leb, eqb, not};
+ghost use Rattle.words.specs.Words.{length, ltb, leb, not};
+ghost use Rattle.printing.specs.Printed.{record_line};
+ghost use Rattle.printing.specs.Inner.{Put};
+ghost use Rattle.answering.specs.Inner.{told};
 ghost use Rattle.records.specs.Promises.{is_over, Begun, Fed, Finished};
 ghost use Rattle.memory.specs.Contained.{Contained};
-ghost use Rattle.replay.specs.Inner.{Lent, Counted, moved_to, FirstEnded, PacketEnded, LineEnded, LineFed, InputEnded};
+ghost use Rattle.replay.specs.Inner.{Lent, Counted, FirstEnded, PacketEnded, LineEnded, LineFed, InputEnded};
 
-use records::{Pass, Progress, Record, Stage};
+use answering::Fault;
+use records::{Pass, Progress, Stage};
 
 // The most packet lines that are read.
 const MOST: u64 = 1000000;
@@ -23,39 +27,37 @@ struct Ended {
     at: usize,
 }
 
-// 1 where the answer is 0, else 0.
-fn is_accepted(answer: u64) -> u64
-    ensures { result ≡ cond (eqb answer 0) 1 0 }
+// The progress after the answer to a packet line. The sums of a capture are far from wrapping; those of any other progress may.
+fn count(p: Progress, answer: Result<usize, Fault>) -> Progress
+    ensures { Counted p (told answer) result }
 {
-    if answer == 0 { 1 } else { 0 }
-}
-
-// The progress after a record. The sums of a capture are far from wrapping; those of any other progress may.
-fn count(p: Progress, r: Record) -> Progress
-    ensures { Counted p r result }
-{
-    let accepted = is_accepted(r.answer);
-    Progress {
+    let read = Progress {
         stage: Stage::Working,
         have: 0,
-        lines: std::num::wrapping_add_u64(p.lines, 1),
-        accepted: std::num::wrapping_add_u64(p.accepted, accepted),
-        refused: std::num::wrapping_add_u64(p.refused, 1 - accepted),
-        known: std::num::wrapping_add_u64(p.known, r.known),
+        lines: p.lines.wrapping_add(1),
+        ..p
+    };
+    match answer {
+        Ok(known) => Progress {
+            accepted: p.accepted.wrapping_add(1),
+            known: p.known.wrapping_add(known as u64),
+            ..read
+        },
+        Err(_) => Progress {
+            refused: p.refused.wrapping_add(1),
+            ..read
+        },
     }
 }
 
-// The progress in a stage, with so many bytes kept.
-fn moved(p: Progress, stage: Stage, have: usize) -> Progress
-    ensures { result ≡ moved_to p stage have }
+// Puts the line of a packet line's answer from `at` on, and gives where it ends.
+fn put_answer(out: &mut [u8], at: usize, n: u64, answer: Result<usize, Fault>) -> usize
+    requires { at + 78 ≤ length out.old }
+    ensures { Put out.old out.new at result (record_line n (told answer).answer (told answer).known) }
 {
-    Progress {
-        stage,
-        have,
-        lines: p.lines,
-        accepted: p.accepted,
-        refused: p.refused,
-        known: p.known,
+    match answer {
+        Ok(known) => printing::put_record(out, at, n, 0, known as u64),
+        Err(fault) => printing::put_record(out, at, n, u64::from(u8::from(fault)), 0),
     }
 }
 
@@ -65,11 +67,21 @@ fn end_first(p: Progress, line: &[u8], mem: &mut [u8]) -> Progress
     ensures { FirstEnded p line.now mem.old mem.new result }
 {
     if answering::open_by(line, p.have, mem) {
-        return moved(p, Stage::Working, 0);
+        return Progress {
+            stage: Stage::Working,
+            have: 0,
+            ..p
+        };
     }
-    moved(p, Stage::Closed, 0)
+    Progress {
+        stage: Stage::Closed,
+        have: 0,
+        ..p
+    }
 }
 
+// Kept: the memories are lent one by one, as `feed` and `finish` are lent them, whose parameters may not change: a struct of references to them would be
+// put together there and taken apart at each call of `answering`.
 // A packet line has ended.
 fn end_packet(
     p: Progress,
@@ -86,14 +98,14 @@ fn end_packet(
     let n = p.lines;
     if MOST <= n {
         return Ended {
-            progress: moved(p, Stage::Working, 0),
+            progress: Progress { have: 0, ..p },
             at,
         };
     }
-    let record = answering::answer_line(line, p.have, mem, work, packet);
-    let next = printing::put_record(out, at, n + 1, record.answer, record.known);
+    let answer = answering::answer_line(line, p.have, mem, work, packet);
+    let next = put_answer(out, at, n + 1, answer);
     Ended {
-        progress: count(p, record),
+        progress: count(p, answer),
         at: next,
     }
 }
@@ -111,15 +123,14 @@ fn end_line(
     requires { Lent line.now mem.old work.old packet.old × (at + 78 ≤ length out.old) }
     ensures { LineEnded p line.now mem.old mem.new out.old out.new at result }
 {
-    let stage = p.stage;
-    match stage {
+    match p.stage {
         Stage::Opening => Ended {
             progress: end_first(p, line, mem),
             at,
         },
         Stage::Working => end_packet(p, line, mem, work, packet, out, at),
         Stage::Closed => Ended {
-            progress: moved(p, Stage::Closed, 0),
+            progress: Progress { have: 0, ..p },
             at,
         },
     }
@@ -141,9 +152,8 @@ fn feed_line(
         input.now out.old out.new at result }
 {
     let n = lines::line_end(input);
-    let have = answering::keep(line, p.have, memory::part(input, 0, n));
-    let stage = p.stage;
-    let kept = moved(p, stage, have);
+    let have = answering::keep(line, p.have, &input[..n]);
+    let kept = Progress { have, ..p };
     if n == input.len() {
         return Pass {
             progress: kept,
@@ -152,9 +162,8 @@ fn feed_line(
         };
     }
     let ended = end_line(kept, line, mem, work, packet, out, at);
-    let progress = ended.progress;
     Pass {
-        progress,
+        progress: ended.progress,
         taken: n + 1,
         written: ended.at,
     }
@@ -164,11 +173,9 @@ fn feed_line(
 pub fn is_over(progress: Progress) -> bool
     ensures { result ≡ is_over progress }
 {
-    let stage = progress.stage;
-    let lines = progress.lines;
-    match stage {
+    match progress.stage {
         Stage::Opening => false,
-        Stage::Working => MOST <= lines,
+        Stage::Working => MOST <= progress.lines,
         Stage::Closed => true,
     }
 }
@@ -177,13 +184,7 @@ pub fn is_over(progress: Progress) -> bool
 fn goes_on(p: Progress, taken: usize, all: usize, written: usize) -> bool
     ensures { result ≡ ltb taken all && (leb written 65458 && not (is_over p)) }
 {
-    if taken >= all {
-        return false;
-    }
-    if NEARLY_FULL < written {
-        return false;
-    }
-    !is_over(p)
+    taken < all && written <= NEARLY_FULL && !is_over(p)
 }
 
 // The beginning of a capture.
@@ -219,8 +220,7 @@ fn feed_lines(
     let mut written = 0;
     while goes_on(p, taken, input.len(), written) {
         let pass = feed_line(p, line, mem, work, packet, &input[taken..], out, written);
-        let next = pass.progress;
-        p = next;
+        p = pass.progress;
         taken += pass.taken;
         written = pass.written;
     }

@@ -1,13 +1,20 @@
--- `lines::is_hexadecimal` meets its contract: each way out rewrites with the tests before it.
-use Rattle.words.specs.Words.{le-leb, lt-leb}
+-- `lines::is_hexadecimal` meets its contract.
+use Rattle.words.specs.Words.{arith}
+use Rattle.std.proofs.lemmas.Bool.Decides.{nat_tests}
 use Rattle.lines.proofs.Digits.{digits-named}
 use Rattle.lines.proofs.is_hexadecimal.Goals as goal
 
-pub returns-then-is_digit : goal.returns-then-is_digit
-returns-then-is_digit c = rw (digits-named, ← c.is_digit.ensures, c.if-is_digit.true)
+pub returns-in-48-to-57 : goal.returns-in-48-to-57
+returns-in-48-to-57 c = rw digits-named (grind (arith, nat_tests))
 
-pub returns-then-b-lt65 : goal.returns-then-b-lt65
-returns-then-b-lt65 c = rw (digits-named, ← c.is_digit.ensures, c.if-is_digit.false, lt-leb 65 _ c.if-b-lt65.true)
+pub returns-in-48-to-57-2 : goal.returns-in-48-to-57-2
+returns-in-48-to-57-2 c = rw digits-named (grind (arith, nat_tests))
 
-pub returns : goal.returns
-returns c = rw (digits-named, ← c.is_digit.ensures, c.if-is_digit.false, le-leb 65 _ c.if-b-lt65.false)
+pub returns-in_default : goal.returns-in_default
+returns-in_default c = rw digits-named (grind (arith, nat_tests))
+
+pub returns-in_default-2 : goal.returns-in_default-2
+returns-in_default-2 c = rw digits-named (grind (arith, nat_tests))
+
+pub returns-in_default-3 : goal.returns-in_default-3
+returns-in_default-3 c = rw digits-named (grind (arith, nat_tests))

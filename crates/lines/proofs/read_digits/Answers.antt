@@ -1,49 +1,35 @@
--- `lines::read_digits` meets its contract. The loop's invariant: the number that has begun with `value` goes on from i.
-use Rattle.words.specs.Words.{arith, refl, ◌∙◌, sym, get_or}
-use Rattle.wire.proofs.Settings.{within_bounds}
-use Rattle.lines.proofs.Numbers.{at_end, no_digit, too_large, one-digit}
+-- `lines::read_digits` meets its contract.
+use Rattle.words.specs.Words.{arith, length, refl, ◌∙◌, sym, drop-length}
+use lib.ListN.{drop_of_length-le}
+use Rattle.lines.proofs.Numbers.{at_end, no_digit, too_large, one-digit, number_ends}
 use Rattle.lines.proofs.read_digits.Goals as goal
 
-pub loop-i-init : goal.loop-i-init
-loop-i-init c = (omega arith, omega arith, refl)
-
-pub returns-then-not-is_digit : goal.returns-then-not-is_digit
-returns-then-not-is_digit c =
-    let a = c.args in
+pub returns-then-not-is_ascii_digit : goal.returns-then-not-is_ascii_digit
+returns-then-not-is_ascii_digit c =
     let l = c.loop-i in
-    record {
-      number = sym (no_digit a.line.now a.most l.i l.value (omega arith) (sym c.is_digit.ensures ∙ c.if-not-is_digit.true)) ∙ l.invariant.2;
-      small = (omega arith, omega arith);
-    }
-
--- the byte is a digit
-pub overflow_sub-value : goal.overflow_sub-value
-overflow_sub-value c = (within_bounds 48 57 (get_or c.args.line.now c.loop-i.i 0) (sym c.is_digit.ensures ∙ c.if-not-is_digit.false)).0
-
-pub overflow_mul-value : goal.overflow_mul-value
-overflow_mul-value c =
-    omega (arith, within_bounds 48 57 (get_or c.args.line.now c.loop-i.i 0) (sym c.is_digit.ensures ∙ c.if-not-is_digit.false))
-
-pub overflow_add-value : goal.overflow_add-value
-overflow_add-value c =
-    omega (arith, within_bounds 48 57 (get_or c.args.line.now c.loop-i.i 0) (sym c.is_digit.ensures ∙ c.if-not-is_digit.false))
+    number_ends l.i
+    (sym l.invariant.1
+    ∙ no_digit c.args.line.now c.args.most l.i l.value (omega arith) (sym c.is_ascii_digit.ensures.value ∙ c.if-not-is_ascii_digit.true))
+    l.invariant.0 refl
 
 pub returns-then-most-value : goal.returns-then-most-value
 returns-then-most-value c =
-    let a = c.args in
     let l = c.loop-i in
-    let e = too_large a.line.now a.most l.i l.value (omega arith) (sym c.is_digit.ensures ∙ c.if-not-is_digit.false) c.if-most-value.true in
-    record { number = sym e ∙ l.invariant.2; small = tt }
+    let digit = sym c.is_ascii_digit.ensures.value ∙ c.if-not-is_ascii_digit.false in
+    let e = too_large c.args.line.now c.args.most l.i l.value (omega arith) digit c.if-most-value.true in
+    record { number = sym e ∙ l.invariant.1; small = tt }
 
 pub loop-i-preserved : goal.loop-i-preserved
 loop-i-preserved c =
-    let a = c.args in
     let l = c.loop-i in
-    let e = one-digit a.line.now a.most l.i l.value (omega arith) (sym c.is_digit.ensures ∙ c.if-not-is_digit.false) c.if-most-value.false in
-    (omega arith, omega arith, e ∙ l.invariant.2)
+    let digit = sym c.is_ascii_digit.ensures.value ∙ c.if-not-is_ascii_digit.false in
+    let e = one-digit c.args.line.now c.args.most l.i l.value (omega arith) digit c.if-most-value.false in
+    (omega arith, e ∙ l.invariant.1)
 
 pub returns : goal.returns
 returns c =
-    let a = c.args in
-    let p = c.loop-i in
-    record { number = sym (at_end a.line.now a.most p.i p.value (omega arith)) ∙ p.invariant.2; small = (omega arith, omega arith) }
+    let l = c.loop-i in
+    number_ends (length c.args.line.now)
+    (sym l.invariant.1 ∙ at_end c.args.line.now c.args.most l.i l.value (omega arith)
+    ∙ rw (drop_of_length-le c.args.line.now {i = l.i} (omega arith), drop-length))
+    l.invariant.0 refl

@@ -1,47 +1,43 @@
 -- `lines::read_first` meets its contract: each way out rewrites with the fields that were read.
-use Rattle.words.specs.Words.{drop-cons}
-use lib.ListN.{drop_of_length-le}
 use Rattle.lines.specs.Reading.{values_in}
-use Rattle.lines.proofs.Answers.{number-some, number-none}
+use Rattle.lines.proofs.Answers.{number-some, number-none, nothing_left, something_left}
 use Rattle.lines.proofs.read_first.Goals as goal
 
-pub returns-in_default : goal.returns-in_default
+pub returns-in_err-scheme : goal.returns-in_err-scheme
 unfolding values_in
-returns-in_default c = rw (number-none c.read_field.ensures c.in_default.is)
+returns-in_err-scheme c = rw (c.from_residual.ensures, number-none c.read_field.ensures c.in_err-scheme.was)
 
--- the scheme was read
-pub returns-in_default-read_field : goal.returns-in_default-read_field
+pub returns-in_err-size : goal.returns-in_err-size
 unfolding values_in
-returns-in_default-read_field c =
-    rw (number-some c.read_field.ensures c.in-Is.is, number-none c.read_field-2.ensures c.in_default-read_field.is)
+returns-in_err-size c =
+    rw (c.from_residual-in_err-size.ensures, number-some c.read_field.ensures c.in_ok-scheme.was, number-none c.read_field-2.ensures c.in_err-size.was)
 
--- E was read
-pub returns-in_default-read_field-2 : goal.returns-in_default-read_field-2
+pub returns-in_err-width : goal.returns-in_err-width
 unfolding values_in
-returns-in_default-read_field-2 c =
+returns-in_err-width c =
     rw (
-      number-some c.read_field.ensures c.in-Is.is,
-      number-some c.read_field-2.ensures c.in-Is-read_field.is,
-      number-none c.read_field-3.ensures c.in_default-read_field-2.is,
+      c.from_residual-in_err-width.ensures,
+      number-some c.read_field.ensures c.in_ok-scheme.was,
+      number-some c.read_field-2.ensures c.in_ok-size.was,
+      number-none c.read_field-3.ensures c.in_err-width.was,
     )
 
--- the width was read
-pub returns-then-c-line : goal.returns-then-c-line
+pub returns-then-not-is_empty : goal.returns-then-not-is_empty
 unfolding values_in
-returns-then-c-line c =
+returns-then-not-is_empty c =
     rw (
-      number-some c.read_field.ensures c.in-Is.is,
-      number-some c.read_field-2.ensures c.in-Is-read_field.is,
-      number-some c.read_field-3.ensures c.in-Is-read_field-2.is,
-      drop-cons c.args.line.now c.in-Is-read_field-2.c 0 c.if-c-line.true,
+      number-some c.read_field.ensures c.in_ok-scheme.was,
+      number-some c.read_field-2.ensures c.in_ok-size.was,
+      number-some c.read_field-3.ensures c.in_ok-width.was,
+      something_left _ c.in_ok-width.rest.now (c.if-not-is_empty.ensures),
     )
 
 pub returns : goal.returns
 unfolding values_in
 returns c =
     rw (
-      number-some c.read_field.ensures c.in-Is.is,
-      number-some c.read_field-2.ensures c.in-Is-read_field.is,
-      number-some c.read_field-3.ensures c.in-Is-read_field-2.is,
-      drop_of_length-le c.args.line.now c.if-c-line.false,
+      number-some c.read_field.ensures c.in_ok-scheme.was,
+      number-some c.read_field-2.ensures c.in_ok-size.was,
+      number-some c.read_field-3.ensures c.in_ok-width.was,
+      nothing_left _ c.in_ok-width.rest.now (c.if-not-is_empty.ensures),
     )

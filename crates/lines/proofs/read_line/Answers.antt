@@ -8,42 +8,44 @@ pub returns-then-line-gt8192 : goal.returns-then-line-gt8192
 unfolding call_in
 returns-then-line-gt8192 c = record { call = rw (lt-leb (length c.args.line.now) 8192 c.if-line-gt8192.true); within = tt }
 
-pub returns-in-Has : goal.returns-in-Has
+pub returns-in-Some : goal.returns-in-Some
 unfolding call_in repair_in
-returns-in-Has c =
+returns-in-Some c =
     record {
-      call = rw (le-leb (length c.args.line.now) 8192 c.if-line-gt8192.false, bytes-some c.read_packet.ensures c.in-Has.is);
-      within = bytes_fit c.read_packet.ensures c.in-Has.is;
+      call = rw (le-leb (length c.args.line.now) 8192 c.if-line-gt8192.false, bytes-some c.read_packet.ensures c.in-Some.is);
+      within = bytes_fit c.read_packet.ensures c.in-Some.is;
     }
 
 -- the line is short enough, and no repair packet's
-pub returns-in_default-read_field : goal.returns-in_default-read_field
+pub returns-in_err-flow : goal.returns-in_err-flow
 unfolding call_in repair_in source_in
-returns-in_default-read_field c =
-    record {
+returns-in_err-flow c =
+    rw c.from_residual.ensures
+    (record {
       call =
           rw (
             le-leb (length c.args.line.now) 8192 c.if-line-gt8192.false,
             bytes-none c.read_packet.ensures c.in_default.is,
-            number-none c.read_field.ensures c.in_default-read_field.is,
+            number-none c.read_field.ensures c.in_err-flow.was,
           );
       within = tt;
-    }
+    })
 
 -- its flow was read
-pub returns-in_default-read_packet : goal.returns-in_default-read_packet
+pub returns-in_err-n : goal.returns-in_err-n
 unfolding call_in repair_in source_in
-returns-in_default-read_packet c =
-    record {
+returns-in_err-n c =
+    rw c.from_residual-in_err-n.ensures
+    (record {
       call =
           rw (
             le-leb (length c.args.line.now) 8192 c.if-line-gt8192.false,
             bytes-none c.read_packet.ensures c.in_default.is,
-            number-some c.read_field.ensures c.in-Is.is,
-            bytes-none c.read_packet-2.ensures c.in_default-read_packet.is,
+            number-some c.read_field.ensures c.in_ok-flow.was,
+            bytes-none c.read_packet-2.ensures c.in_err-n.was,
           );
       within = tt;
-    }
+    })
 
 pub returns : goal.returns
 unfolding call_in repair_in source_in
@@ -53,8 +55,8 @@ returns c =
           rw (
             le-leb (length c.args.line.now) 8192 c.if-line-gt8192.false,
             bytes-none c.read_packet.ensures c.in_default.is,
-            number-some c.read_field.ensures c.in-Is.is,
-            bytes-some c.read_packet-2.ensures c.in-Has-read_packet.is,
+            number-some c.read_field.ensures c.in_ok-flow.was,
+            bytes-some c.read_packet-2.ensures c.in_ok-n.was,
           );
-      within = bytes_fit c.read_packet-2.ensures c.in-Has-read_packet.is;
+      within = bytes_fit c.read_packet-2.ensures c.in_ok-n.was;
     }

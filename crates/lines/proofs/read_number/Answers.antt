@@ -1,32 +1,26 @@
 -- `lines::read_number` meets its contract: each way out goes by the line's first byte.
-use Rattle.words.specs.Words.{arith, ◌∙◌, sym, get_or}
-use Rattle.wire.proofs.Settings.{within_bounds}
-use Rattle.lines.proofs.Numbers.{none_left, no_number, zero-read, begun}
+use Rattle.std.specs.Prelude.{◌≡◌, ◌≤◌}
+use Rattle.words.specs.Words.{arith, length, refl, false, get_or, sym}
+use Rattle.std.proofs.lemmas.Bool.Decides.{nat_tests}
+use Rattle.lines.specs.Reading.{is_digit}
+use Rattle.lines.proofs.Numbers.{zero-read, begun, no_number, number_ends}
+use Rattle.lines.proofs.read_number.Goals.{in_default-via-then-line-lt1, in_default-via-else-line-lt1+in_default+then-line-lt48}
+use Rattle.lines.proofs.read_number.Goals.{in_default-via-else-line-lt1+in_default+else-line-lt48+else-line-lt58}
 use Rattle.lines.proofs.read_number.Goals as goal
 
-pub returns-then-at-line : goal.returns-then-at-line
-returns-then-at-line c = let a = c.args in record { number = sym (none_left a.line.now a.most a.at c.if-at-line.true); small = tt }
+pub returns-in-48 : goal.returns-in-48
+returns-in-48 c = number_ends 1 (zero-read c.args.most c.args.line.now (omega arith) (omega arith)) (omega arith) refl
 
-pub returns-then-first-eq48 : goal.returns-then-first-eq48
-returns-then-first-eq48 c =
-    let a = c.args in
-    record { number = sym (zero-read a.line.now a.most a.at (omega arith) c.if-first-eq48.true); small = (omega arith, omega arith) }
+pub returns-in-48-to-57 : goal.returns-in-48-to-57
+returns-in-48-to-57 c = begun (omega arith) (λ e. omega arith) (omega arith) (omega arith) c.read_digits.ensures
 
-pub returns-then-not-is_digit : goal.returns-then-not-is_digit
-returns-then-not-is_digit c =
-    let a = c.args in
-    record { number = sym (no_number a.line.now a.most a.at (omega arith) (sym c.is_digit.ensures ∙ c.if-not-is_digit.true)); small = tt }
-
--- the byte is a digit
-pub overflow_sub-first : goal.overflow_sub-first
-overflow_sub-first c = (within_bounds 48 57 (get_or c.args.line.now c.args.at 0) (sym c.is_digit.ensures ∙ c.if-not-is_digit.false)).0
-
-pub read_digits-requires : goal.read_digits-requires
-read_digits-requires c =
-    omega (arith, within_bounds 48 57 (get_or c.args.line.now c.args.at 0) (sym c.is_digit.ensures ∙ c.if-not-is_digit.false))
-
-pub returns : goal.returns
-returns c =
-    let a = c.args in
-    let e = begun a.line.now a.most a.at (omega arith) (sym c.is_digit.ensures ∙ c.if-not-is_digit.false) c.if-first-eq48.false in
-    record { number = c.read_digits.ensures.number ∙ e; small = c.read_digits.ensures.small }
+pub returns-in_default : goal.returns-in_default
+returns-in_default c = record { number = sym (no_number c.args.most c.args.line.now h); small = tt }
+  where
+    h : 1 ≤ length c.args.line.now → is_digit (get_or c.args.line.now 0 0) ≡ false
+    h =
+        elim c.in_default.branch [
+          | in_default-via-then-line-lt1 w ↦ λ l. absurd (grind (arith, nat_tests))
+          | in_default-via-else-line-lt1+in_default+then-line-lt48 w ↦ λ l. grind (arith, nat_tests)
+          | in_default-via-else-line-lt1+in_default+else-line-lt48+else-line-lt58 w ↦ λ l. grind (arith, nat_tests)
+        ]

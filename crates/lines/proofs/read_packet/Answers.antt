@@ -1,16 +1,11 @@
 -- `lines::read_packet` meets its contract.
-use Rattle.words.specs.Words.{arith}
-use Rattle.lines.proofs.Texts.{text-within}
+use Rattle.lines.proofs.Texts.{after_found, after_missing}
 use Rattle.lines.proofs.read_packet.Goals as goal
 
-pub returns-then-not-has : goal.returns-then-not-has
-returns-then-not-has c = record { bytes = rw (c.has.ensures, c.if-not-has.true); fits = tt }
-
--- the name lies within the line
-pub read_bytes-requires : goal.read_bytes-requires
-read_bytes-requires c =
-    omega (arith, text-within c.args.line.now c.args.name.now c.args.at (omega arith) c.has.ensures c.if-not-has.false)
+pub returns-in_err-strip_prefix : goal.returns-in_err-strip_prefix
+returns-in_err-strip_prefix c = rw c.from_residual.ensures (record { bytes = rw (after_missing _ _ c.in_err-strip_prefix.ensures.cases); fits = tt })
 
 pub returns : goal.returns
 returns c =
-    record { bytes = rw (c.has.ensures, c.if-not-has.false) c.read_bytes.ensures.bytes; fits = c.read_bytes.ensures.fits }
+    let h = c.in_ok-strip_prefix.ensures.cases in
+    record { bytes = rw (after_found _ _ _ h.0 h.1) c.read_bytes.ensures.bytes; fits = c.read_bytes.ensures.fits }

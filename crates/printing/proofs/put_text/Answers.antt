@@ -6,4 +6,4 @@ use Rattle.printing.proofs.put_text.Goals as goal
 pub returns : goal.returns
 returns c =
     let a = c.args in
-    put_copy a.at a.text.now a.out.now _ c.copy_part.ensures (omega arith)
+    rw c.copy_from_slice.ensures.after (put_copy a.at a.text.now a.out.now (omega arith))
