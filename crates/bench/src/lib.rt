@@ -2,17 +2,14 @@
 // operation whose lengths do not fit does nothing.
 #![tactic(auto)]
 
-ghost use Rattle.std.specs.Prelude.{◌≡◌, ◌<◌};
+ghost use Rattle.std.specs.Prelude.{◌≡◌, ◌<◌, ◌≤◌, ◌*◌, IfSome};
 ghost use Rattle.words.specs.Words.{length};
 ghost use Rattle.rows.specs.Rows.{add_scaled};
 ghost use Rattle.table.specs.Window.{Fits};
 
-use field::{Gf256, tables};
-use receiver::{PacketAnswer, SymbolAnswer};
-use sender::RepairAnswer;
-use starts::Handed;
+use field::Gf256;
 use table::Shape;
-use wire::{Answer, Esi, RepairKey};
+use wire::{Esi, Refusal, RepairKey};
 
 // dst becomes src.
 #[unsafe(no_mangle)]
@@ -20,7 +17,7 @@ pub extern "C" fn bench_copy(dst: &mut [u8], src: &[u8]) {
     if dst.len() != src.len() {
         return;
     }
-    memory::copy(dst, src);
+    dst.copy_from_slice(src);
 }
 
 // dst becomes dst + c * src.
@@ -37,10 +34,8 @@ fn add_by_tables(dst: &mut [u8], src: &[u8], c: u8)
     requires { length dst.old ≡ length src.now }
     ensures { dst.new ≡ add_scaled c dst.old src.now }
 {
-    let powers = tables::powers();
-    let logarithms = tables::logarithms();
-    for i in 0..dst.len() {
-        dst[i] = dst[i] ^ tables::product(&powers, &logarithms, c, src[i]);
+    for (i, d) in dst.iter_mut().enumerate() {
+        *d = (Gf256(*d) + Gf256(c) * Gf256(src[i])).0;
     }
 }
 
@@ -55,61 +50,48 @@ pub extern "C" fn bench_add_by_tables(dst: &mut [u8], src: &[u8], c: u8) {
 // The n bytes of mem from a on become themselves + c * (the n bytes of mem from b on).
 #[unsafe(no_mangle)]
 pub extern "C" fn bench_add_within(mem: &mut [u8], a: usize, b: usize, n: usize, c: u8) {
-    if mem.len() < n {
-        return;
-    }
-    if mem.len() - n < a {
-        return;
-    }
-    if a < n {
-        return;
-    }
-    if a - n < b {
+    if mem.len() < n || mem.len() - n < a || a < n || a - n < b {
         return;
     }
     rows::add_within(mem, a, b, n, Gf256(c));
 }
 
+// How many bytes a row of mem has, where the rows fill it, one for each coefficient, and are no shorter than dst.
+fn row_size(dst: &[u8], cs: &[u8], mem: &[u8]) -> Option<usize>
+    ensures { IfSome result (λ s. (length dst.now ≤ s) × (length cs.now * s ≤ length mem.now)) }
+{
+    if cs.len() == 0 {
+        return None;
+    }
+    let s = mem.len() / cs.len();
+    if s < dst.len() { None } else { Some(s) }
+}
+
 // dst becomes the sum of the rows of mem, row k times cs[k]. The rows fill mem.
 #[unsafe(no_mangle)]
 pub extern "C" fn bench_combine(dst: &mut [u8], cs: &[u8], mem: &[u8]) {
-    if cs.len() == 0 {
-        return;
+    if let Some(s) = row_size(dst, cs, mem) {
+        sums::combine(dst, cs, mem, 0, s);
     }
-    let s = mem.len() / cs.len();
-    if dst.len() > s {
-        return;
-    }
-    sums::combine(dst, cs, mem, 0, s);
 }
 
 // dst becomes dst + the same.
 #[unsafe(no_mangle)]
 pub extern "C" fn bench_add_combination(dst: &mut [u8], cs: &[u8], mem: &[u8]) {
-    if cs.len() == 0 {
-        return;
+    if let Some(s) = row_size(dst, cs, mem) {
+        sums::add_combination(dst, cs, mem, 0, s);
     }
-    let s = mem.len() / cs.len();
-    if dst.len() > s {
-        return;
-    }
-    sums::add_combination(dst, cs, mem, 0, s);
 }
 
-// The number that a call answers; where it is refused, one that no call of the drivers answers.
-fn answered(answer: Answer) -> usize {
-    match answer {
-        Answer::Done(n) => n,
-        Answer::Refused(_r) => 1000000,
-    }
-}
+// What stands for a refusal: a number that no call of the drivers answers.
+const REFUSED: usize = 1000000;
 
 // A number below 2^32 and the draws beside it, as the C interface has them.
-fn with_draws(n: usize, draws: u32) -> usize {
-    if n >= 4294967296 {
-        return 1000000;
+fn counted(answer: Result<(usize, u32), Refusal>) -> usize {
+    match answer {
+        Ok((n, draws)) if n < 4294967296 => n + 4294967296 * draws as usize,
+        _ => REFUSED,
     }
-    n + 4294967296 * draws as usize
 }
 
 #[unsafe(no_mangle)]
@@ -120,7 +102,7 @@ pub extern "C" fn bench_interleave(
     columns: usize,
     out: &mut [u8],
 ) -> usize {
-    answered(interleave::interleave(src, size, rows, columns, out))
+    interleave::interleave(src, size, rows, columns, out).unwrap_or(REFUSED)
 }
 
 #[unsafe(no_mangle)]
@@ -131,12 +113,12 @@ pub extern "C" fn bench_sender_open(
     width: usize,
     flows: &[u8; 32],
 ) -> usize {
-    answered(sender::open(mem, scheme, size, width, flows))
+    sender::open(mem, scheme, size, width, flows).unwrap_or(REFUSED)
 }
 
 #[unsafe(no_mangle)]
 pub extern "C" fn bench_add_adu(mem: &mut [u8], flow: u8, adu: &[u8], out: &mut [u8]) -> usize {
-    answered(sender::add_adu(mem, flow, adu, out))
+    sender::add_adu(mem, flow, adu, out).unwrap_or(REFUSED)
 }
 
 #[unsafe(no_mangle)]
@@ -147,17 +129,7 @@ pub extern "C" fn bench_make_repair(
     count: usize,
     out: &mut [u8],
 ) -> usize {
-    match sender::make_repair(mem, RepairKey(key), dt, count, out) {
-        RepairAnswer::Made(n, draws) => with_draws(n, draws),
-        RepairAnswer::NotMade(_r) => 1000000,
-    }
-}
-
-fn packet_received(answer: PacketAnswer) -> usize {
-    match answer {
-        PacketAnswer::Accepted(n, draws) => with_draws(n, draws),
-        PacketAnswer::NotAccepted(_r) => 1000000,
-    }
+    counted(sender::make_repair(mem, RepairKey(key), dt, count, out))
 }
 
 #[unsafe(no_mangle)]
@@ -168,7 +140,7 @@ pub extern "C" fn bench_receiver_open(
     width: usize,
     flows: &[u8; 32],
 ) -> usize {
-    answered(receiver::open(mem, scheme, size, width, flows))
+    receiver::open(mem, scheme, size, width, flows).unwrap_or(REFUSED)
 }
 
 #[unsafe(no_mangle)]
@@ -178,30 +150,28 @@ pub extern "C" fn bench_receive_source(
     flow: u8,
     packet: &[u8],
 ) -> usize {
-    packet_received(receiver::receive_source(mem, work, flow, packet))
+    counted(receiver::receive_source(mem, work, flow, packet))
 }
 
 #[unsafe(no_mangle)]
 pub extern "C" fn bench_receive_repair(mem: &mut [u8], work: &mut [u8], packet: &[u8]) -> usize {
-    packet_received(receiver::receive_repair(mem, work, packet))
+    counted(receiver::receive_repair(mem, work, packet))
 }
 
 // 0 for a known symbol, and 2^32 more where it was heard.
 #[unsafe(no_mangle)]
 pub extern "C" fn bench_symbol(mem: &[u8], esi: u32) -> usize {
     match receiver::symbol(mem, Esi(esi)) {
-        SymbolAnswer::Shown(heard) => if heard { 4294967296 } else { 0 },
-        SymbolAnswer::Hidden(_r) => 1000000,
+        Ok(true) => 4294967296,
+        Ok(false) => 0,
+        Err(_) => REFUSED,
     }
 }
 
 // The length of the ADU that is handed out.
 #[unsafe(no_mangle)]
 pub extern "C" fn bench_adu(mem: &[u8], esi: u32, out: &mut [u8]) -> usize {
-    match receiver::adu(mem, Esi(esi), out) {
-        Handed::Adu(_flow, n) => n,
-        Handed::Withheld(_r) => 1000000,
-    }
+    receiver::adu(mem, Esi(esi), out).map_or(REFUSED, |(_, n)| n)
 }
 
 // The work on marks in the call for a new source packet of one symbol, at a receiver whose window began in the row `oldest`.
@@ -225,16 +195,7 @@ fn mark_new(mem: &mut [u8], size: usize, width: usize, oldest: usize)
 
 #[unsafe(no_mangle)]
 pub extern "C" fn bench_marks(mem: &mut [u8], size: usize, width: usize, oldest: usize) {
-    if size < 4 {
-        return;
-    }
-    if 1500 < size {
-        return;
-    }
-    if 255 < width {
-        return;
-    }
-    if width <= oldest {
+    if size < 4 || 1500 < size || 255 < width || width <= oldest {
         return;
     }
     let shape = Shape {
@@ -251,13 +212,7 @@ pub extern "C" fn bench_marks(mem: &mut [u8], size: usize, width: usize, oldest:
 // The coefficients of the symbol with an ESI in a block of as many source symbols as `out` has bytes.
 #[unsafe(no_mangle)]
 pub extern "C" fn bench_block_fill(out: &mut [u8], esi: usize) {
-    if out.len() == 0 {
-        return;
-    }
-    if 255 < out.len() {
-        return;
-    }
-    if 255 <= esi {
+    if out.len() == 0 || 255 < out.len() || 255 <= esi {
         return;
     }
     interpolation::fill(out, esi);
@@ -271,7 +226,7 @@ pub extern "C" fn bench_block_open_encoder(
     total: usize,
     number: usize,
 ) -> usize {
-    answered(block_encoder::open(mem, size, k, total, number))
+    block_encoder::open(mem, size, k, total, number).unwrap_or(REFUSED)
 }
 
 #[unsafe(no_mangle)]
@@ -281,12 +236,12 @@ pub extern "C" fn bench_block_add_adu(
     adu: &[u8],
     out: &mut [u8],
 ) -> usize {
-    answered(block_encoder::add_adu(mem, flow, adu, out))
+    block_encoder::add_adu(mem, flow, adu, out).unwrap_or(REFUSED)
 }
 
 #[unsafe(no_mangle)]
 pub extern "C" fn bench_block_make_repair(mem: &[u8], esi: usize, out: &mut [u8]) -> usize {
-    answered(block_encoder::make_repair(mem, esi, out))
+    block_encoder::make_repair(mem, esi, out).unwrap_or(REFUSED)
 }
 
 #[unsafe(no_mangle)]
@@ -297,7 +252,7 @@ pub extern "C" fn bench_block_open_recovery(
     total: usize,
     number: usize,
 ) -> usize {
-    answered(block_receiver::open(mem, size, k, total, number))
+    block_receiver::open(mem, size, k, total, number).unwrap_or(REFUSED)
 }
 
 #[unsafe(no_mangle)]
@@ -307,7 +262,7 @@ pub extern "C" fn bench_block_receive_source(
     flow: u8,
     packet: &[u8],
 ) -> usize {
-    packet_received(block_receiver::receive_source(mem, work, flow, packet))
+    counted(block_receiver::receive_source(mem, work, flow, packet))
 }
 
 #[unsafe(no_mangle)]
@@ -316,5 +271,5 @@ pub extern "C" fn bench_block_receive_repair(
     work: &mut [u8],
     packet: &[u8],
 ) -> usize {
-    packet_received(block_receiver::receive_repair(mem, work, packet))
+    counted(block_receiver::receive_repair(mem, work, packet))
 }

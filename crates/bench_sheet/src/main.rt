@@ -2,15 +2,10 @@
 // C10 begins after a packet at ESI 0 (document 02, No. 2). All flows are announced (No. 7).
 #![tactic(auto)]
 
-ghost use Rattle.std.specs.Prelude.{◌≡◌};
-ghost use Rattle.words.specs.Words.{length};
-
 mod receiving;
 
-use coefficients::Filled;
 use field::Gf256;
 use report::{print, print_bytes, print_number, print_refusal};
-use sender::{Answer, RepairAnswer};
 use std::io;
 use wire::{Refusal, RepairKey, Scheme};
 
@@ -18,63 +13,41 @@ fn print_value(rt: &impl Print, n: u8) -> io::Result<()> {
     print_number(rt, n as usize)
 }
 
-// The first n numbers of a row.
-fn print_numbers(rt: &impl Print, row: &[u8], n: usize) -> io::Result<()> {
-    for i in 0..n {
-        if i < row.len() {
-            print_value(rt, row[i])?;
-        }
-    }
-    Ok(())
-}
-
 // The ADU of a source packet, and the ESI.
-fn print_source(rt: &impl Print, answer: Answer, out: &[u8]) -> io::Result<()> {
+fn print_source(rt: &impl Print, answer: Result<usize, Refusal>, out: &[u8]) -> io::Result<()> {
     match answer {
-        Answer::Done(n) => {
-            if 4 <= n {
-                if n <= out.len() {
-                    let end = n - 4;
-                    print_bytes(rt, &out[0..end])?;
-                    print_bytes(rt, &out[end..n])?;
-                }
-            }
+        Ok(n) if 4 <= n && n <= out.len() => {
+            let (adu, esi) = out[..n].split_at(n - 4);
+            print_bytes(rt, adu)?;
+            print_bytes(rt, esi)
         }
-        Answer::Refused(refusal) => print_refusal(rt, refusal)?,
+        Ok(_) => Ok(()),
+        Err(refusal) => print_refusal(rt, refusal),
     }
-    Ok(())
 }
 
 // The fields of a repair packet: key, DT and NSS, FSS_ESI, and the repair symbols.
-fn print_repair(rt: &impl Print, answer: RepairAnswer, out: &[u8]) -> io::Result<()> {
+fn print_repair(
+    rt: &impl Print,
+    answer: Result<(usize, u32), Refusal>,
+    out: &[u8],
+) -> io::Result<()> {
     match answer {
-        RepairAnswer::Made(n, _) => {
-            if 8 <= n {
-                if n <= out.len() {
-                    print_bytes(rt, &out[0..2])?;
-                    print_bytes(rt, &out[2..4])?;
-                    print_bytes(rt, &out[4..8])?;
-                    print_bytes(rt, &out[8..n])?;
-                }
-            }
+        Ok((n, _)) if 8 <= n && n <= out.len() => {
+            print_bytes(rt, &out[0..2])?;
+            print_bytes(rt, &out[2..4])?;
+            print_bytes(rt, &out[4..8])?;
+            print_bytes(rt, &out[8..n])
         }
-        RepairAnswer::NotMade(refusal) => print_refusal(rt, refusal)?,
+        Ok(_) => Ok(()),
+        Err(refusal) => print_refusal(rt, refusal),
     }
-    Ok(())
 }
 
-// The memory of a sender with E 4 and width 2, and room for its packets.
-fn memory_for_two() -> [u8; 72]
-    ensures { length result ≡ 72 }
-{
-    [0; 72]
-}
+// The bytes of the memory of a sender with E 4 and width 2, and of its packets.
+const MEMORY: usize = 72;
 
-fn output() -> [u8; 12]
-    ensures { length result ≡ 12 }
-{
-    [0; 12]
-}
+const PACKET: usize = 12;
 
 fn field_case(rt: &impl Print, name: &[u8], value: Gf256) -> io::Result<()> {
     print(rt, name)?;
@@ -96,22 +69,23 @@ fn coefficients_case(
     print(rt, name)?;
     let mut row = coefficients::room_for_lists();
     match coefficients::fill_lists(&mut row, n, scheme, RepairKey(1), dt, 1) {
-        Filled::Done(draws) => {
-            print_numbers(rt, &row, n)?;
+        Ok(draws) => {
+            for value in &row[..n] {
+                print_value(rt, *value)?;
+            }
             print(rt, b"; draws")?;
             print_number(rt, draws as usize)?;
         }
-        Filled::Refused => print_refusal(rt, Refusal::Draws)?,
+        Err(refusal) => print_refusal(rt, refusal)?,
     }
     print(rt, b"\n")
 }
 
 // E 4, F 1, ADUs 41 and 42: two source packets and a repair packet of scheme 9.
 fn packets_case(rt: &impl Print) -> io::Result<()> {
-    let mut mem = memory_for_two();
-    let mut out = output();
-    let announced = flows::all();
-    sender::open(&mut mem, 9, 4, 2, &announced);
+    let mut mem = [0u8; MEMORY];
+    let mut out = [0u8; PACKET];
+    let _ = sender::open(&mut mem, 9, 4, 2, &flows::all());
     print(rt, b"C7")?;
     let first = sender::add_adu(&mut mem, 1, b"\x41", &mut out);
     print_source(rt, first, &out)?;
@@ -126,10 +100,9 @@ fn packets_case(rt: &impl Print) -> io::Result<()> {
 
 // E 4, width 2: an ADU of 5 bytes taken, one of 6 refused.
 fn width_case(rt: &impl Print) -> io::Result<()> {
-    let mut mem = memory_for_two();
-    let mut out = output();
-    let announced = flows::all();
-    sender::open(&mut mem, 9, 4, 2, &announced);
+    let mut mem = [0u8; MEMORY];
+    let mut out = [0u8; PACKET];
+    let _ = sender::open(&mut mem, 9, 4, 2, &flows::all());
     print(rt, b"C9")?;
     let taken = sender::add_adu(&mut mem, 1, b"\0\0\0\0\0", &mut out);
     print_source(rt, taken, &out)?;

@@ -1,32 +1,20 @@
 // The receiver's cases: what each packet call answers, and then what the symbol call shows. E is 4 and F is 1 throughout.
-ghost use Rattle.std.specs.Prelude.{◌≡◌};
-ghost use Rattle.words.specs.Words.{length};
-
 use report::{print, repair, show, source};
 use std::io;
 
 // The memory of a receiver of width 4, enough for the smaller widths too, and its working memory.
-fn receiver_memory() -> [u8; 148]
-    ensures { length result ≡ 148 }
-{
-    [0; 148]
-}
+const MEMORY: usize = 148;
 
-fn working_memory() -> [u8; 161]
-    ensures { length result ≡ 161 }
-{
-    [0; 161]
-}
+const WORKING: usize = 161;
 
 fn open(mem: &mut [u8], width: usize) {
-    let announced = flows::all();
-    receiver::open(mem, 9, 4, width, &announced);
+    let _ = receiver::open(mem, 9, 4, width, &flows::all());
 }
 
 // Width 2: the first and the repair packet of C7, then symbol 1.
 pub fn solved_case(rt: &impl Print) -> io::Result<()> {
-    let mut mem = receiver_memory();
-    let mut work = working_memory();
+    let mut mem = [0u8; MEMORY];
+    let mut work = [0u8; WORKING];
     open(&mut mem, 2);
     print(rt, b"C8")?;
     source(rt, &mut mem, &mut work, b"\x41\0\0\0\0")?;
@@ -45,8 +33,8 @@ fn place(rt: &impl Print, mem: &mut [u8], work: &mut [u8], packet: &[u8]) -> io:
 
 // ESI 65535, 65536, 2147483647, 2147483648.
 pub fn places_case(rt: &impl Print) -> io::Result<()> {
-    let mut mem = receiver_memory();
-    let mut work = working_memory();
+    let mut mem = [0u8; MEMORY];
+    let mut work = [0u8; WORKING];
     print(rt, b"C10")?;
     place(rt, &mut mem, &mut work, b"\0\0\xFF\xFF")?;
     print(rt, b";")?;
@@ -60,8 +48,8 @@ pub fn places_case(rt: &impl Print) -> io::Result<()> {
 
 // C7's repair, then an ADU of five zero bytes that contradicts it; neither symbol is known.
 pub fn contradiction_case(rt: &impl Print) -> io::Result<()> {
-    let mut mem = receiver_memory();
-    let mut work = working_memory();
+    let mut mem = [0u8; MEMORY];
+    let mut work = [0u8; WORKING];
     open(&mut mem, 2);
     print(rt, b"C11")?;
     repair(rt, &mut mem, &mut work, b"\0\0\xF0\x02\0\0\0\0\0\0\0\x03")?;
@@ -74,8 +62,8 @@ pub fn contradiction_case(rt: &impl Print) -> io::Result<()> {
 
 // Width 4: repairs over 0..1 and 0..3, sources 4, 5 and 3, then symbol 2.
 pub fn departed_case(rt: &impl Print) -> io::Result<()> {
-    let mut mem = receiver_memory();
-    let mut work = working_memory();
+    let mut mem = [0u8; MEMORY];
+    let mut work = [0u8; WORKING];
     open(&mut mem, 4);
     print(rt, b"C12")?;
     repair(rt, &mut mem, &mut work, b"\0\0\xF0\x02\0\0\0\0\0\0\0\x03")?;

@@ -24,21 +24,21 @@ use wire::{Esi, RepairKey};
 pub extern "C" fn rlc_sender_memory(size: u32, width: u32) -> i64
     ensures { Codes said (SizeAnswered (sender_memory size width) size width) result }
 {
-    coding::coded_answer(sender::memory_size(size as usize, width as usize))
+    coding::coded(sender::memory_size(size as usize, width as usize))
 }
 
 #[unsafe(no_mangle)]
 pub extern "C" fn rlc_receiver_memory(size: u32, width: u32) -> i64
     ensures { Codes said (SizeAnswered (receiver_memory size width) size width) result }
 {
-    coding::coded_answer(receiver::memory_size(size as usize, width as usize))
+    coding::coded(receiver::memory_size(size as usize, width as usize))
 }
 
 #[unsafe(no_mangle)]
 pub extern "C" fn rlc_working_memory(size: u32, width: u32) -> i64
     ensures { Codes said (SizeAnswered (working_memory size width) size width) result }
 {
-    coding::coded_answer(receiver::working_size(size as usize, width as usize))
+    coding::coded(receiver::working_size(size as usize, width as usize))
 }
 
 #[unsafe(no_mangle)]
@@ -63,13 +63,7 @@ pub extern "C" fn rlc_interleave(
     ensures { Codes said
         (λ a. Interleaves size rows columns src.now out.old a out.new) result }
 {
-    coding::coded_answer(interleave::interleave(
-        src,
-        size as usize,
-        rows as usize,
-        columns as usize,
-        out,
-    ))
+    coding::coded(interleave::interleave(src, size as usize, rows as usize, columns as usize, out))
 }
 
 #[unsafe(no_mangle)]
@@ -83,7 +77,7 @@ pub extern "C" fn rlc_deinterleave(
     ensures { Codes said
         (λ a. Deinterleaves size rows columns src.now out.old a out.new) result }
 {
-    coding::coded_answer(interleave::deinterleave(
+    coding::coded(interleave::deinterleave(
         src,
         size as usize,
         rows as usize,
@@ -116,7 +110,7 @@ pub extern "C" fn rlc_sender_open(
 ) -> i64
     ensures { Codes said (λ a. Opens scheme size width flows.now memory.old a memory.new) result }
 {
-    coding::coded_answer(sender::open(
+    coding::coded(sender::open(
         memory,
         scheme as usize,
         size as usize,
@@ -130,7 +124,7 @@ pub extern "C" fn rlc_sender_add_adu(memory: &mut [u8], flow: u8, adu: &[u8], ou
     ensures { Codes said
         (λ a. Adds flow adu.now memory.old out.old a memory.new out.new) result }
 {
-    coding::coded_answer(sender::add_adu(memory, flow, adu, out))
+    coding::coded(sender::add_adu(memory, flow, adu, out))
 }
 
 #[unsafe(no_mangle)]
@@ -143,13 +137,7 @@ pub extern "C" fn rlc_sender_make_repair(
 ) -> i64
     ensures { Codes repair_said (λ a. RepairMade key dt count memory.now out.old a out.new) result }
 {
-    coding::coded_repair(sender::make_repair(
-        memory,
-        RepairKey(key),
-        dt as usize,
-        count as usize,
-        out,
-    ))
+    coding::coded(sender::make_repair(memory, RepairKey(key), dt as usize, count as usize, out))
 }
 
 #[unsafe(no_mangle)]
@@ -163,7 +151,7 @@ pub extern "C" fn rlc_receiver_open(
     ensures { Codes said
         (Opened receiver_layout scheme size width flows.now memory.old memory.new) result }
 {
-    coding::coded_answer(receiver::open(
+    coding::coded(receiver::open(
         memory,
         scheme as usize,
         size as usize,
@@ -182,7 +170,7 @@ pub extern "C" fn rlc_receive_source(
     ensures { Codes packet_said (PacketAnswered receiver_layout (source-call flow packet.now)
         memory.old memory.new work.old work.new) result }
 {
-    coding::coded_packet(receiver::receive_source(memory, work, flow, packet))
+    coding::coded(receiver::receive_source(memory, work, flow, packet))
 }
 
 #[unsafe(no_mangle)]
@@ -190,28 +178,28 @@ pub extern "C" fn rlc_receive_repair(memory: &mut [u8], work: &mut [u8], packet:
     ensures { Codes packet_said (PacketAnswered receiver_layout (repair-call packet.now)
         memory.old memory.new work.old work.new) result }
 {
-    coding::coded_packet(receiver::receive_repair(memory, work, packet))
+    coding::coded(receiver::receive_repair(memory, work, packet))
 }
 
 #[unsafe(no_mangle)]
 pub extern "C" fn rlc_symbol(memory: &[u8], esi: u32) -> i64
     ensures { Codes symbol_said (SymbolShown receiver_layout memory.now esi) result }
 {
-    coding::coded_symbol(receiver::symbol(memory, Esi(esi)))
+    coding::coded(receiver::symbol(memory, Esi(esi)))
 }
 
 #[unsafe(no_mangle)]
 pub extern "C" fn rlc_symbol_place(memory: &[u8], esi: u32) -> i64
     ensures { Codes said (PlaceAnswered receiver_layout memory.now esi) result }
 {
-    coding::coded_answer(receiver::symbol_place(memory, Esi(esi)))
+    coding::coded(receiver::symbol_place(memory, Esi(esi)))
 }
 
 #[unsafe(no_mangle)]
 pub extern "C" fn rlc_adu(memory: &[u8], esi: u32, out: &mut [u8]) -> i64
     ensures { Codes handed_said (AduAnswered receiver_layout memory.now esi out.old out.new) result }
 {
-    coding::coded_handed(receiver::adu(memory, Esi(esi), out))
+    coding::coded(receiver::adu(memory, Esi(esi), out))
 }
 
 #[unsafe(no_mangle)]
@@ -224,7 +212,7 @@ pub extern "C" fn rlc_block_open_encoder(
 ) -> i64
     ensures { Codes said (λ a. encoder.Opens size k total number memory.old a memory.new) result }
 {
-    coding::coded_answer(block_encoder::open(
+    coding::coded(block_encoder::open(
         memory,
         size as usize,
         k as usize,
@@ -238,14 +226,14 @@ pub extern "C" fn rlc_block_add_adu(memory: &mut [u8], flow: u8, adu: &[u8], out
     ensures { Codes said
         (λ a. encoder.Adds flow adu.now memory.old out.old a memory.new out.new) result }
 {
-    coding::coded_answer(block_encoder::add_adu(memory, flow, adu, out))
+    coding::coded(block_encoder::add_adu(memory, flow, adu, out))
 }
 
 #[unsafe(no_mangle)]
 pub extern "C" fn rlc_block_make_repair(memory: &[u8], esi: u32, out: &mut [u8]) -> i64
     ensures { Codes said (λ a. encoder.Makes esi memory.now out.old a out.new) result }
 {
-    coding::coded_answer(block_encoder::make_repair(memory, esi as usize, out))
+    coding::coded(block_encoder::make_repair(memory, esi as usize, out))
 }
 
 #[unsafe(no_mangle)]
@@ -258,7 +246,7 @@ pub extern "C" fn rlc_block_open_recovery(
 ) -> i64
     ensures { Codes said (block.Opened block_layout size k total number memory.old memory.new) result }
 {
-    coding::coded_answer(block_receiver::open(
+    coding::coded(block_receiver::open(
         memory,
         size as usize,
         k as usize,
@@ -277,7 +265,7 @@ pub extern "C" fn rlc_block_receive_source(
     ensures { Codes packet_said (block.PacketAnswered block_layout (source-call flow packet.now)
         memory.old memory.new work.old work.new) result }
 {
-    coding::coded_packet(block_receiver::receive_source(memory, work, flow, packet))
+    coding::coded(block_receiver::receive_source(memory, work, flow, packet))
 }
 
 #[unsafe(no_mangle)]
@@ -285,19 +273,19 @@ pub extern "C" fn rlc_block_receive_repair(memory: &mut [u8], work: &mut [u8], p
     ensures { Codes packet_said (block.PacketAnswered block_layout (repair-call packet.now)
         memory.old memory.new work.old work.new) result }
 {
-    coding::coded_packet(block_receiver::receive_repair(memory, work, packet))
+    coding::coded(block_receiver::receive_repair(memory, work, packet))
 }
 
 #[unsafe(no_mangle)]
 pub extern "C" fn rlc_block_symbol(memory: &[u8], esi: u32) -> i64
     ensures { Codes symbol_said (block.SymbolShown block_layout memory.now esi) result }
 {
-    coding::coded_symbol(block_receiver::symbol(memory, esi as usize))
+    coding::coded(block_receiver::symbol(memory, esi as usize))
 }
 
 #[unsafe(no_mangle)]
 pub extern "C" fn rlc_block_symbol_place(memory: &[u8], esi: u32) -> i64
     ensures { Codes said (block.PlaceAnswered block_layout memory.now esi) result }
 {
-    coding::coded_answer(block_receiver::symbol_place(memory, esi as usize))
+    coding::coded(block_receiver::symbol_place(memory, esi as usize))
 }

@@ -1,5 +1,5 @@
--- Laws of the coding: of a value, of a refusal, and of an answer whose case is known.
-use Rattle.std.specs.Prelude.{◌≡◌, ◌≤◌, ◌+◌, ◌<◌, ◌*◌, ◌≢◌, ◌^◌, ◌/◌, ◌%◌}
+-- Laws of the coding: of a refusal; and a code read back.
+use Rattle.std.specs.Prelude.{◌≡◌, ◌≤◌, ◌+◌, ◌<◌, ◌*◌, ◌≢◌, ◌^◌, ◌/◌, ◌%◌, Result, Ok, Err}
 use Rattle.words.specs.Words.{arith, ℕ, refl, ◌∙◌, sym, ap, suc, zero, subst, ap₂, lit<, min}
 use Rattle.words.specs.Words.{Bool, true, false, cond}
 use lib.IntN.{ℤ, pos, negsuc, neg_ℤ, nat_abs, ◌-ℤ◌, +ℤ_idl}
@@ -11,40 +11,14 @@ use Rattle.wire.specs.declared.Refusal.{Refusal}
 use Rattle.wire.specs.declared.Refusal.TheVariants.{Values, Short, Unopened, Long, Form, Range, Empty, Behind, Ahead, Draws, Contradiction, Unknown, NoStart}
 use Rattle.wire.specs.declared.Refusal.TheVariants.{Padding, Unannounced, Grid, Block}
 use Rattle.wire.specs.Numbers.{number_of}
-use Rattle.latency.specs.declared.WindowAnswer.{WindowAnswer}
-use Rattle.latency.specs.declared.WindowAnswer.TheVariants.{Divided, NotDivided}
 use Rattle.latency.specs.Window.{dividend, divisor}
 use Rattle.latency.specs.Promises.{Division, WindowAnswered}
-use Rattle.receiver.specs.declared.SymbolAnswer.{SymbolAnswer}
-use Rattle.receiver.specs.declared.SymbolAnswer.TheVariants.{Shown}
-use Rattle.wire.specs.Answers.{Said, value, refusal}
+use Rattle.wire.specs.Answers.{value, refusal}
 use Rattle.coding.specs.Coding.{largest, coded, symbol_said, window_said, remainder_after, Readable}
-
--- A value below the largest number is itself; from there on it stands as that one.
-pub value_small : (n : ℕ) → n < largest → to_z w64 n ≡ coded (value n)
-value_small n l =
-    let fits : n < 2 ^ 63 = omega (arith, l) in
-    let same : n ≡ min n largest = omega (arith, l) in
-    to_z_pos w64 fits ∙ ap pos same
-
-pub value_large : (n : ℕ) → largest ≤ n → pos largest ≡ coded (value n)
-value_large n l = let same : largest ≡ min n largest = omega (arith, l) in ap pos same
-
--- The length alone is past the largest number.
-pub adu_large : (flow n : ℕ) → largest ≤ n → pos largest ≡ coded (value (flow * 65536 + n))
-adu_large flow n l = value_large (flow * 65536 + n) (omega (arith, l))
 
 -- The number that an inner function gave, handed on.
 pub handed : {z w : ℤ} → mag z < 2 ^ 63 → z ≡ w → to_z w64 (of_z w64 z) ≡ w
 handed fits e = to_z-of_z {w = w64} (record { sfits = fits }) ∙ e
-
--- A number that codes what an answer's case says codes what the answer says.
-pub coded_case : {A : Type 0} (said : A → Said) {a b : A} {z : ℤ} → mag z < 2 ^ 63 → a ≡ b → z ≡ coded (said b) → to_z w64 (of_z w64 z) ≡ coded (said a)
-coded_case said fits e h = handed fits h ∙ ap (λ x. coded (said x)) (sym e)
-
--- The code of a known symbol, heard or not.
-pub shown-coded : {a : SymbolAnswer} {heard b : Bool} → a ≡ Shown heard → heard ≡ b → coded (symbol_said (Shown b)) ≡ coded (symbol_said a)
-shown-coded e h = ap (λ x. coded (symbol_said x)) (ap Shown (sym h) ∙ sym e)
 
 -- A number taken from 0 is the code of the refusal with that number, and has 63 bits and a sign.
 pub negated : (n : ℕ) → n < 2 ^ 63 → to_z w64 0 -ℤ to_z w64 n ≡ coded (refusal n)
@@ -102,18 +76,18 @@ readable = record {
     apart n zero l e = absurd (omega (arith, l))
     apart n (suc k) l e = subst NotNegative e tt
 
-    symbols : (heard : Bool) (k : ℕ) → coded (symbol_said (Shown heard)) ≡ pos k → (k % 4294967296 ≡ 0) × (k / 4294967296 ≡ cond heard 1 0)
+    symbols : (heard : Bool) (k : ℕ) → coded (symbol_said (Ok heard)) ≡ pos k → (k % 4294967296 ≡ 0) × (k / 4294967296 ≡ cond heard 1 0)
     symbols false k e = let f : 0 ≡ k = ap nat_abs e in (omega (arith, f), omega (arith, f))
     symbols true k e = let f : 4294967296 ≡ k = ap nat_abs e in (omega (arith, f), omega (arith, f))
 
-    windows : (budget bitrate E : ℕ) (a : WindowAnswer) (k before : ℕ) → WindowAnswered budget bitrate E a → coded (window_said a) ≡ pos k
+    windows : (budget bitrate E : ℕ) (a : Result (ℕ × ℕ) Refusal) (k before : ℕ) → WindowAnswered budget bitrate E a → coded (window_said a) ≡ pos k
         → Division (dividend budget bitrate) (divisor E) k (remainder_after a before)
-    windows budget bitrate E (Divided q r) k before w e =
+    windows budget bitrate E (Ok (q, r)) k before w e =
         let f : min q largest ≡ k = ap nat_abs e in
         let same : q ≡ k = omega (arith, f, (w.small q r refl).0) in
         subst (λ x. Division (dividend budget bitrate) (divisor E) x r) same ((w.divided q r).0 refl).1
-    windows budget bitrate E (NotDivided why) k before w e = absurd (refusal_negative why (subst NotNegative (sym e) tt))
+    windows budget bitrate E (Err why) k before w e = absurd (refusal_negative why (subst NotNegative (sym e) tt))
 
-    kept : (a : WindowAnswer) (k before : ℕ) → 1 ≤ k → coded (window_said a) ≡ coded (refusal k) → remainder_after a before ≡ before
-    kept (Divided q r) k before l e = absurd (apart q k l e)
-    kept (NotDivided why) k before l e = refl
+    kept : (a : Result (ℕ × ℕ) Refusal) (k before : ℕ) → 1 ≤ k → coded (window_said a) ≡ coded (refusal k) → remainder_after a before ≡ before
+    kept (Ok (q, r)) k before l e = absurd (apart q k l e)
+    kept (Err why) k before l e = refl

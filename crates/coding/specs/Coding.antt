@@ -1,21 +1,13 @@
 -- How the exported functions code what a call says as one signed number: a value is itself, 0 or more, and a refusal is minus its number.
-use Rattle.std.specs.Prelude.{◌≡◌, ◌≤◌, ◌+◌, ◌<◌, ◌%◌, ◌*◌, ◌≢◌, ◌/◌, ℤ, pos, neg_ℤ}
+use Rattle.std.specs.Prelude.{◌≡◌, ◌≤◌, ◌+◌, ◌<◌, ◌%◌, ◌*◌, ◌≢◌, ◌/◌, ℤ, pos, neg_ℤ, Result, Ok, Err}
 use Rattle.words.specs.Words.{ℕ, Bool, cond, min}
 use Rattle.wire.specs.Numbers.{number_of}
 use Rattle.wire.specs.Packets.{longest_adu}
-use Rattle.latency.specs.declared.WindowAnswer.{WindowAnswer}
-use Rattle.latency.specs.declared.WindowAnswer.TheVariants.{Divided, NotDivided}
 use Rattle.latency.specs.Window.{dividend, divisor}
 use Rattle.latency.specs.Promises.{Division, WindowAnswered}
-use Rattle.sender.specs.declared.RepairAnswer.{RepairAnswer}
-use Rattle.sender.specs.declared.RepairAnswer.TheVariants.{Made, NotMade}
-use Rattle.starts.specs.declared.Handed.TheVariants.{Adu}
-use Rattle.receiver.specs.declared.PacketAnswer.{PacketAnswer}
-use Rattle.receiver.specs.declared.PacketAnswer.TheVariants.{Accepted, NotAccepted}
-use Rattle.receiver.specs.declared.SymbolAnswer.{SymbolAnswer}
-use Rattle.receiver.specs.declared.SymbolAnswer.TheVariants.{Shown, Hidden}
 use Rattle.wire.specs.Answers.{Said, value, refusal}
 use Rattle.receiver.specs.Promises.{handed_said}
+use Rattle.wire.specs.declared.Refusal.{Refusal}
 
 -- The largest number of 64 bits with a sign.
 abbrev pub largest : ℕ
@@ -30,28 +22,27 @@ coded (refusal n) = neg_ℤ (pos n)
 abbrev pub with_draws : (n draws : ℕ) → Said
 with_draws n draws = value (n + 4294967296 * draws)
 
--- What a packet call and making repair answer.
-abbrev pub packet_said : PacketAnswer → Said
-packet_said (Accepted n draws) = with_draws n draws
-packet_said (NotAccepted r) = refusal (number_of r)
+-- What a packet call and making repair answer, which is the same.
+abbrev pub packet_said : Result (ℕ × ℕ) Refusal → Said
+packet_said (Ok (n, draws)) = with_draws n draws
+packet_said (Err r) = refusal (number_of r)
 
-abbrev pub repair_said : RepairAnswer → Said
-repair_said (Made n draws) = with_draws n draws
-repair_said (NotMade r) = refusal (number_of r)
+abbrev pub repair_said : Result (ℕ × ℕ) Refusal → Said
+repair_said a = packet_said a
 
 -- What the symbol call answers: 0, and 2^32 more where the position is heard.
-abbrev pub symbol_said : SymbolAnswer → Said
-symbol_said (Shown heard) = value (4294967296 * cond heard 1 0)
-symbol_said (Hidden r) = refusal (number_of r)
+abbrev pub symbol_said : Result Bool Refusal → Said
+symbol_said (Ok heard) = value (4294967296 * cond heard 1 0)
+symbol_said (Err r) = refusal (number_of r)
 
 -- What the call for the window answers as a number, and what it leaves where the remainder goes: a refusal leaves what was there.
-abbrev pub window_said : WindowAnswer → Said
-window_said (Divided q r) = value q
-window_said (NotDivided why) = refusal (number_of why)
+abbrev pub window_said : Result (ℕ × ℕ) Refusal → Said
+window_said (Ok (q, r)) = value q
+window_said (Err why) = refusal (number_of why)
 
-abbrev pub remainder_after : WindowAnswer → ℕ → ℕ
-remainder_after (Divided q r) before = r
-remainder_after (NotDivided why) before = before
+abbrev pub remainder_after : Result (ℕ × ℕ) Refusal → ℕ → ℕ
+remainder_after (Ok (q, r)) before = r
+remainder_after (Err why) before = before
 
 -- A code is read back: no refusal has the code of a value, and neither two refusals nor two values up to the largest number share one.
 -- The code of an ADU, divided by 65,536, is its flow, and the remainder its length; that of a value with draws, divided by 2^32, is the draws, and the
@@ -62,12 +53,12 @@ pub record Readable : Type 0 where
   pub apart : (n k : ℕ) → 1 ≤ k → coded (value n) ≢ coded (refusal k)
   pub refusals : (n k : ℕ) → coded (refusal n) ≡ coded (refusal k) → n ≡ k
   pub values : (n k : ℕ) → n ≤ largest → k ≤ largest → coded (value n) ≡ coded (value k) → n ≡ k
-  pub adus : (flow L k : ℕ) → flow < 256 → L ≤ longest_adu → coded (handed_said (Adu flow L)) ≡ pos k → (flow ≡ k / 65536) × (L ≡ k % 65536)
+  pub adus : (flow L k : ℕ) → flow < 256 → L ≤ longest_adu → coded (handed_said (Ok (flow, L))) ≡ pos k → (flow ≡ k / 65536) × (L ≡ k % 65536)
   pub draws : (n d k : ℕ) → n ≤ 65535 → d ≤ 69360 → coded (with_draws n d) ≡ pos k → (n ≡ k % 4294967296) × (d ≡ k / 4294967296)
-  pub symbols : (heard : Bool) (k : ℕ) → coded (symbol_said (Shown heard)) ≡ pos k → (k % 4294967296 ≡ 0) × (k / 4294967296 ≡ cond heard 1 0)
-  pub windows : (budget bitrate E : ℕ) (a : WindowAnswer) (k before : ℕ) → WindowAnswered budget bitrate E a → coded (window_said a) ≡ pos k
+  pub symbols : (heard : Bool) (k : ℕ) → coded (symbol_said (Ok heard)) ≡ pos k → (k % 4294967296 ≡ 0) × (k / 4294967296 ≡ cond heard 1 0)
+  pub windows : (budget bitrate E : ℕ) (a : Result (ℕ × ℕ) Refusal) (k before : ℕ) → WindowAnswered budget bitrate E a → coded (window_said a) ≡ pos k
       → Division (dividend budget bitrate) (divisor E) k (remainder_after a before)
-  pub kept : (a : WindowAnswer) (k before : ℕ) → 1 ≤ k → coded (window_said a) ≡ coded (refusal k) → remainder_after a before ≡ before
+  pub kept : (a : Result (ℕ × ℕ) Refusal) (k before : ℕ) → 1 ≤ k → coded (window_said a) ≡ coded (refusal k) → remainder_after a before ≡ before
 
 -- The number r codes what an answer says, and the promise holds of that answer.
 pub record Codes {A : Type 0} (said : A → Said) (Promise : A → Type 0) (r : ℤ) : Type 0 where

@@ -23,11 +23,9 @@
 // Y  shows the symbol of a block with an ESI
 #![tactic(auto)]
 
-ghost use Rattle.std.specs.Prelude.{◌≡◌, ◌≤◌};
-ghost use Rattle.words.specs.Words.{length};
+ghost use Rattle.std.specs.Prelude.{◌<◌, ◌≤◌, IfSome, IfOk};
 
-use block_receiver::{PacketAnswer, SymbolAnswer};
-use report::print;
+use report::{print, print_answer, print_count, print_symbol};
 use std::io;
 use std::io::Read;
 use wire::RepairKey;
@@ -40,333 +38,200 @@ struct Sizes {
     out: usize,
 }
 
-// The memory of a receiver of width 4, enough for the smaller widths and for a sender too; its working memory; and output.
-fn memory_for_four() -> [u8; 148]
-    ensures { 148 ≡ length result }
-{
-    [0; 148]
+// The bytes of a step, up to 16 of them.
+#[derive(Clone, Copy)]
+struct Args {
+    bytes: [u8; 16],
+    len: usize,
+    ghost room: { len ≤ 16 },
 }
 
-fn working_memory() -> [u8; 161]
-    ensures { 161 ≡ length result }
-{
-    [0; 161]
-}
-
-fn output() -> [u8; 12]
-    ensures { 12 ≡ length result }
-{
-    [0; 12]
-}
-
-// A hexadecimal digit, or 16.
-fn digit(b: u8) -> u8 {
-    if b < 48 {
-        return 16;
-    }
-    if b < 58 {
-        return b - 48;
-    }
-    if b < 65 {
-        return 16;
-    }
-    if b < 71 {
-        return b - 55;
-    }
-    16
-}
-
-// Half a byte more, of n that are there; 16 is none.
-fn put_digit(args: &mut [u8; 16], n: usize, d: u8) -> usize
-    requires { n ≤ 32 }
-    ensures { result ≤ 32 }
-{
-    if 15 < d {
-        return n;
-    }
-    if 32 <= n {
-        return n;
-    }
-    let at = n / 2;
-    args[at] = args[at] % 16 * 16 + d;
-    n + 1
-}
-
-// The bytes of a step, up to 16 of them; blanks may stand between. Gives how many they are.
-fn read_bytes(line: &[u8], args: &mut [u8; 16]) -> usize
-    ensures { result ≤ 16 }
-{
-    let mut n: usize = 0;
-    for i in 1..line.len() {
-        n = put_digit(args, n, digit(line[i]));
-    }
-    n / 2
-}
-
-// Opening an end.
-fn opens(
-    rt: &impl Print,
-    step: u8,
-    scheme: u8,
-    size: u8,
-    width: u8,
-    announced: &[u8; 32],
-    mem: &mut [u8],
-) -> io::Result<()> {
-    let scheme = scheme as usize;
-    let size = size as usize;
-    let width = width as usize;
-    match step {
-        b's' => report::print_answer(rt, sender::open(mem, scheme, size, width, announced)),
-        b'S' => {
-            sender::open(mem, scheme, size, width, announced);
-            Ok(())
+impl Args {
+    // Those that a line has after its first character, in hexadecimal; blanks may stand between.
+    fn read(line: &[u8]) -> Args {
+        let mut bytes = [0u8; 16];
+        let mut digits: usize = 0;
+        for character in line {
+            if let Some(d) = digit(*character) {
+                if digits < 32 {
+                    let at = digits / 2;
+                    bytes[at] = bytes[at] % 16 * 16 + d;
+                    digits += 1;
+                }
+            }
         }
-        b'r' => report::print_answer(rt, receiver::open(mem, scheme, size, width, announced)),
-        b'R' => {
-            receiver::open(mem, scheme, size, width, announced);
-            Ok(())
+        Args {
+            bytes,
+            len: digits / 2,
         }
-        _ => Ok(()),
+    }
+
+    // All of them.
+    fn all(&self) -> &[u8] {
+        &self.bytes[..self.len]
+    }
+
+    // One of them, as a number.
+    fn number(&self, i: usize) -> usize
+        requires { i < 16 }
+    {
+        self.bytes[i] as usize
+    }
+
+    // Two of them, as a number.
+    fn pair(&self, i: usize) -> usize
+        requires { i < 15 }
+    {
+        memory::load_u16(&self.bytes, i) as usize
+    }
+
+    // Four of them, as a number.
+    fn word(&self, i: usize) -> u32
+        requires { i < 13 }
+    {
+        memory::load_u32(&self.bytes, i)
     }
 }
 
-// A call that takes the bytes as they are, the first n.
-fn takes(
-    rt: &impl Print,
-    step: u8,
-    args: &[u8; 16],
-    n: usize,
-    mem: &mut [u8],
-    work: &mut [u8],
-    out: &mut [u8],
-) -> io::Result<()>
-    requires { n ≤ 16 }
+// The value of a hexadecimal digit.
+fn digit(character: u8) -> Option<u8>
+    ensures { IfSome result (λ d. d < 16) }
 {
-    let bytes = memory::part(args, 0, n);
-    match step {
-        b'a' => report::print_answer(rt, sender::add_adu(mem, 1, bytes, out)),
-        b'p' => report::source(rt, mem, work, bytes),
-        b'q' => report::repair(rt, mem, work, bytes),
-        _ => Ok(()),
+    match character {
+        b'0'..=b'9' => Some(character - b'0'),
+        b'A'..=b'F' => Some(character - b'A' + 10),
+        _ => None,
     }
 }
 
-// The ESI that a step names.
-fn esi_of(args: &[u8; 16]) -> u32 {
-    memory::load_u32(args, 0)
-}
-
-// A call that takes numbers: DT and count, or an ESI.
-fn asks(
-    rt: &impl Print,
-    step: u8,
-    dt: u8,
-    count: u8,
-    esi: u32,
-    mem: &[u8],
-    out: &mut [u8],
-) -> io::Result<()> {
-    match step {
-        b'k' => report::print_made(
-            rt,
-            sender::make_repair(mem, RepairKey(1), dt as usize, count as usize, out),
-        ),
-        b'y' => report::show(rt, mem, esi),
-        b'h' => report::hand(rt, mem, esi, out),
-        _ => Ok(()),
-    }
-}
-
-// A call that takes E, rows and columns, and a grid.
-fn rearranges(
-    rt: &impl Print,
-    step: u8,
-    size: u8,
-    rows: u8,
-    columns: u8,
-    grid: &[u8],
-    out: &mut [u8],
-) -> io::Result<()> {
-    let size = size as usize;
-    let rows = rows as usize;
-    let columns = columns as usize;
-    match step {
-        b'g' => report::print_answer(rt, interleave::interleave(grid, size, rows, columns, out)),
-        b'G' => report::print_answer(rt, interleave::deinterleave(grid, size, rows, columns, out)),
-        _ => Ok(()),
-    }
-}
-
-// Opening an end of a block.
-fn opens_block(rt: &impl Print, step: u8, args: &[u8; 16], mem: &mut [u8]) -> io::Result<()> {
-    let size = memory::load_u16(args, 0) as usize;
-    let k = memory::load_u16(args, 2) as usize;
-    let total = memory::load_u16(args, 4) as usize;
-    let number = memory::load_u32(args, 6) as usize;
-    match step {
-        b'b' => report::print_answer(rt, block_encoder::open(mem, size, k, total, number)),
-        b'B' => {
-            block_encoder::open(mem, size, k, total, number);
-            Ok(())
-        }
-        b'c' => report::print_answer(rt, block_receiver::open(mem, size, k, total, number)),
-        b'C' => {
-            block_receiver::open(mem, size, k, total, number);
-            Ok(())
-        }
-        _ => Ok(()),
-    }
-}
-
-// What a packet call of a block answered.
-fn print_packet(rt: &impl Print, answer: PacketAnswer) -> io::Result<()> {
-    match answer {
-        PacketAnswer::Accepted(n, _) => report::print_number(rt, n),
-        PacketAnswer::NotAccepted(refusal) => report::print_refusal(rt, refusal),
-    }
-}
-
-// The symbol of a block with an ESI, without its origin, or the refusal of the symbol call.
-fn show(rt: &impl Print, mem: &[u8], esi: usize) -> io::Result<()> {
-    match block_receiver::symbol(mem, esi) {
-        SymbolAnswer::Shown(_) => report::print_bytes(rt, block_receiver::symbol_part(mem, esi)),
-        SymbolAnswer::Hidden(refusal) => report::print_refusal(rt, refusal),
-    }
-}
-
-// A call of a block that takes an ESI, or the first n bytes as they are.
-fn calls_block(
-    rt: &impl Print,
-    step: u8,
-    args: &[u8; 16],
-    n: usize,
-    mem: &mut [u8],
-    work: &mut [u8],
-    out: &mut [u8],
-) -> io::Result<()>
-    requires { n ≤ 16 }
-{
-    let esi = esi_of(args) as usize;
-    let bytes = memory::part(args, 0, n);
-    match step {
-        b'A' => report::print_answer(rt, block_encoder::add_adu(mem, 1, bytes, out)),
-        b'K' => report::print_answer(rt, block_encoder::make_repair(mem, esi, out)),
-        b'P' => print_packet(rt, block_receiver::receive_source(mem, work, 1, bytes)),
-        b'Q' => print_packet(rt, block_receiver::receive_repair(mem, work, bytes)),
-        b'Y' => show(rt, mem, esi),
-        _ => Ok(()),
-    }
-}
-
-// The call of an end or of a grid that a step names, if it names one.
+// The call of a sender or of a receiver that a step names, if it names one.
 fn call_end(
     rt: &impl Print,
     step: u8,
-    args: &[u8; 16],
-    n: usize,
+    args: &Args,
     announced: &[u8; 32],
     mem: &mut [u8],
     work: &mut [u8],
     out: &mut [u8],
-) -> io::Result<()>
-    requires { n ≤ 16 }
-{
-    opens(rt, step, args[0], args[1], args[2], announced, mem)?;
-    takes(rt, step, args, n, mem, work, out)?;
-    asks(rt, step, args[0], args[1], esi_of(args), mem, out)?;
-    if 3 <= n {
-        rearranges(
+) -> io::Result<()> {
+    let scheme = args.number(0);
+    let size = args.number(1);
+    let width = args.number(2);
+    match step {
+        b's' => print_answer(rt, sender::open(mem, scheme, size, width, announced)),
+        b'S' => {
+            let _ = sender::open(mem, scheme, size, width, announced);
+            Ok(())
+        }
+        b'r' => print_answer(rt, receiver::open(mem, scheme, size, width, announced)),
+        b'R' => {
+            let _ = receiver::open(mem, scheme, size, width, announced);
+            Ok(())
+        }
+        b'a' => print_answer(rt, sender::add_adu(mem, 1, args.all(), out)),
+        b'k' => print_count(
             rt,
-            step,
-            args[0],
-            args[1],
-            args[2],
-            memory::part(args, 3, n - 3),
-            out,
-        )?;
+            sender::make_repair(mem, RepairKey(1), args.number(0), args.number(1), out),
+        ),
+        b'p' => report::source(rt, mem, work, args.all()),
+        b'q' => report::repair(rt, mem, work, args.all()),
+        b'y' => report::show(rt, mem, args.word(0)),
+        b'h' => report::hand(rt, mem, args.word(0), out),
+        _ => Ok(()),
     }
-    Ok(())
 }
 
-// The call that a step names, if it names one.
+// The call for a grid that a step names, if it names one: E, rows and columns, and the grid.
+fn call_grid(rt: &impl Print, step: u8, args: &Args, out: &mut [u8]) -> io::Result<()> {
+    if args.len < 3 {
+        return Ok(());
+    }
+    let grid = &args.bytes[3..args.len];
+    let size = args.number(0);
+    let rows = args.number(1);
+    let columns = args.number(2);
+    match step {
+        b'g' => print_answer(rt, interleave::interleave(grid, size, rows, columns, out)),
+        b'G' => print_answer(rt, interleave::deinterleave(grid, size, rows, columns, out)),
+        _ => Ok(()),
+    }
+}
+
+// The call of an end of a block that a step names, if it names one.
+fn call_block(
+    rt: &impl Print,
+    step: u8,
+    args: &Args,
+    mem: &mut [u8],
+    work: &mut [u8],
+    out: &mut [u8],
+) -> io::Result<()> {
+    let size = args.pair(0);
+    let k = args.pair(2);
+    let total = args.pair(4);
+    let number = args.word(6) as usize;
+    let esi = args.word(0) as usize;
+    match step {
+        b'b' => print_answer(rt, block_encoder::open(mem, size, k, total, number)),
+        b'B' => {
+            let _ = block_encoder::open(mem, size, k, total, number);
+            Ok(())
+        }
+        b'c' => print_answer(rt, block_receiver::open(mem, size, k, total, number)),
+        b'C' => {
+            let _ = block_receiver::open(mem, size, k, total, number);
+            Ok(())
+        }
+        b'A' => print_answer(rt, block_encoder::add_adu(mem, 1, args.all(), out)),
+        b'K' => print_answer(rt, block_encoder::make_repair(mem, esi, out)),
+        b'P' => print_count(rt, block_receiver::receive_source(mem, work, 1, args.all())),
+        b'Q' => print_count(rt, block_receiver::receive_repair(mem, work, args.all())),
+        b'Y' => print_symbol(
+            rt,
+            block_receiver::symbol(mem, esi),
+            block_receiver::symbol_part(mem, esi),
+        ),
+        _ => Ok(()),
+    }
+}
+
+// The call that a step names, if it names one, on so much as is lent.
 fn call(
     rt: &impl Print,
     step: u8,
-    args: &[u8; 16],
-    n: usize,
-    announced: &[u8; 32],
-    mem: &mut [u8],
-    work: &mut [u8],
-    out: &mut [u8],
-) -> io::Result<()>
-    requires { n ≤ 16 }
-{
-    call_end(rt, step, args, n, announced, mem, work, out)?;
-    opens_block(rt, step, args, mem)?;
-    calls_block(rt, step, args, n, mem, work, out)
-}
-
-// The same on so much of the memories as is lent.
-fn call_on(
-    rt: &impl Print,
-    step: u8,
-    args: &[u8; 16],
-    n: usize,
+    args: &Args,
     sizes: Sizes,
     announced: &[u8; 32],
     mem: &mut [u8],
     work: &mut [u8],
     out: &mut [u8],
-) -> io::Result<()>
-    requires { n ≤ 16 }
-{
-    let m = sizes.mem;
-    let w = sizes.work;
-    let o = sizes.out;
-    if m <= mem.len() {
-        if w <= work.len() {
-            if o <= out.len() {
-                call(
-                    rt,
-                    step,
-                    args,
-                    n,
-                    announced,
-                    &mut mem[0..m],
-                    &mut work[0..w],
-                    &mut out[0..o],
-                )?;
-            }
-        }
+) -> io::Result<()> {
+    if mem.len() < sizes.mem || work.len() < sizes.work || out.len() < sizes.out {
+        return Ok(());
     }
-    Ok(())
+    let mem = &mut mem[..sizes.mem];
+    let work = &mut work[..sizes.work];
+    let out = &mut out[..sizes.out];
+    call_end(rt, step, args, announced, mem, work, out)?;
+    call_grid(rt, step, args, out)?;
+    call_block(rt, step, args, mem, work, out)
 }
 
 // What is lent after a step.
-fn lends(step: u8, n: u8, sizes: Sizes, mem: &mut [u8], out: &mut [u8]) -> Sizes {
-    let size = n as usize;
+fn lends(step: u8, args: &Args, sizes: Sizes, mem: &mut [u8], out: &mut [u8]) -> Sizes {
+    let size = args.number(0);
     match step {
-        b'm' => Sizes {
-            mem: size,
-            work: sizes.work,
-            out: sizes.out,
-        },
+        b'm' => Sizes { mem: size, ..sizes },
         b'w' => Sizes {
-            mem: sizes.mem,
             work: size,
-            out: sizes.out,
+            ..sizes
         },
         b'o' => {
-            memory::fill(out, 0);
-            Sizes {
-                mem: sizes.mem,
-                work: sizes.work,
-                out: size,
-            }
+            out.fill(0);
+            Sizes { out: size, ..sizes }
         }
         b'z' => {
-            memory::fill(mem, 0);
+            mem.fill(0);
             sizes
         }
         _ => sizes,
@@ -377,18 +242,16 @@ fn lends(step: u8, n: u8, sizes: Sizes, mem: &mut [u8], out: &mut [u8]) -> Sizes
 fn announces(step: u8, flow: u8, announced: &mut [u8; 32]) {
     match step {
         b'f' => {
-            memory::fill(announced, 0);
+            announced.fill(0);
             flows::announce(announced, flow);
         }
-        b'F' => {
-            flows::announce_all(announced);
-        }
+        b'F' => flows::announce_all(announced),
         _ => {}
     }
 }
 
-// A line of the table.
-fn take_step(
+// A line of the table. Gives what is lent after it.
+fn take(
     rt: &impl Print,
     line: &[u8],
     sizes: Sizes,
@@ -397,79 +260,28 @@ fn take_step(
     work: &mut [u8],
     out: &mut [u8],
 ) -> io::Result<Sizes> {
-    if line.len() == 0 {
+    let Some((step, rest)) = line.split_first() else {
         return Ok(sizes);
-    }
-    let step = line[0];
+    };
+    let step = *step;
     if step == b'=' {
-        print(rt, &line[1..])?;
+        print(rt, rest)?;
         return Ok(sizes);
     }
     if step == b'.' {
-        print(rt, b"\n")?;
+        println!(rt)?;
         return Ok(sizes);
     }
-    let mut args = [0u8; 16];
-    let n = read_bytes(line, &mut args);
-    call_on(rt, step, &args, n, sizes, announced, mem, work, out)?;
-    announces(step, args[0], announced);
-    Ok(lends(step, args[0], sizes, mem, out))
-}
-
-// Where the line that begins at a place ends.
-fn end_from(table: &[u8], at: usize) -> usize
-    requires { at ≤ length table.now }
-    ensures { (at ≤ result) × (result ≤ length table.now) }
-{
-    for i in at..table.len() {
-        if table[i] == 10 {
-            return i;
-        }
-    }
-    table.len()
-}
-
-// All lines of the table.
-fn take_all(
-    rt: &impl Print,
-    table: &[u8],
-    announced: &mut [u8; 32],
-    mem: &mut [u8],
-    work: &mut [u8],
-    out: &mut [u8],
-) -> io::Result<()> {
-    let mut sizes = Sizes {
-        mem: 148,
-        work: 161,
-        out: 12,
-    };
-    let mut at: usize = 0;
-    while at < table.len() {
-        let end = end_from(table, at);
-        let next = take_step(
-            rt,
-            memory::part(table, at, end - at),
-            sizes,
-            announced,
-            mem,
-            work,
-            out,
-        )?;
-        sizes = next;
-        at = end + 1;
-    }
-    Ok(())
-}
-
-// Room for the table.
-fn table_room() -> [u8; 65536]
-    ensures { 65536 ≡ length result }
-{
-    [0; 65536]
+    let args = Args::read(rest);
+    call(rt, step, &args, sizes, announced, mem, work, out)?;
+    announces(step, args.bytes[0], announced);
+    Ok(lends(step, &args, sizes, mem, out))
 }
 
 // Reads the table until its room is full or the input ends. Gives how many bytes were read.
-fn read_table(rt: &impl Input, table: &mut [u8; 65536]) -> io::Result<usize> {
+fn read_table(rt: &impl Input, table: &mut [u8; 65536]) -> io::Result<usize>
+    ensures { IfOk result (λ n. n ≤ 65536) }
+{
     let mut input = rt.reader();
     let mut n: usize = 0;
     while n < table.len() {
@@ -483,16 +295,23 @@ fn read_table(rt: &impl Input, table: &mut [u8; 65536]) -> io::Result<usize> {
 }
 
 fn main(rt: HostRuntime) -> io::Result<()> {
-    let mut announced = flows::all();
-    let mut mem = memory_for_four();
-    let mut work = working_memory();
-    let mut out = output();
-    let mut table = table_room();
+    let mut table = [0; 65536];
     let n = read_table(&rt, &mut table)?;
-    if n <= 65536 {
-        take_all(
+    let mut announced = flows::all();
+    // the memory of a receiver of width 4, enough for the smaller widths and for a sender too; its working memory; and output
+    let mut mem = [0u8; 148];
+    let mut work = [0u8; 161];
+    let mut out = [0u8; 12];
+    let mut sizes = Sizes {
+        mem: 148,
+        work: 161,
+        out: 12,
+    };
+    for line in table[..n].split(|byte| *byte == b'\n') {
+        sizes = take(
             &rt,
-            memory::part(&table, 0, n),
+            line,
+            sizes,
             &mut announced,
             &mut mem,
             &mut work,

@@ -1,6 +1,7 @@
 -- Laws of the rows of zero bytes: how the draws of a coefficient count them, that a shorter row than sixteen is not refused, and the largest value.
-use Rattle.std.specs.Prelude.{◌≡◌, ◌≤◌, ◌+◌, ◌<◌}
+use Rattle.std.specs.Prelude.{◌≡◌, ◌≤◌, ◌+◌, ◌<◌, is_some}
 use Rattle.words.specs.Words.{arith, ℕ, List, refl, suc, true, zero, false, Bool, cond, leb, eqb, add-one, not-suc-le-zero, max}
+use Rattle.std.specs.Option.{unwrap_or}
 use native.Mathlib.Decide.{le_ind}
 use Rattle.tinymt.specs.Generator.{start_of, draw_of, low4, low8}
 use Rattle.coefficients.specs.declared.Coefficient.{Coefficient}
@@ -15,8 +16,8 @@ last v = cond (eqb v 0) 0 1
 
 -- a coefficient c with z zeros, after k draws that are no bytes: its draws are those, the zeros and the last one; fewer than n zeros are not refused
 pub record Row (n k z : ℕ) (c : Coefficient) : Type 0 where
-  pub draws : c.draws ≡ k + (z + last c.value)
-  pub found : z < n → c.ok ≡ true
+  pub draws : c.draws ≡ k + (z + last (unwrap_or c.value 0))
+  pub found : z < n → is_some c.value ≡ true
 
 row_from : (n k : ℕ) (s : List ℕ) → Row n k (zeros_from n s) (nonzero_from n k s)
 unfolding nonzero_from zeros_from

@@ -2,15 +2,14 @@
 // refusal 10.
 #![tactic(auto)]
 
-ghost use Rattle.std.specs.Prelude.{◌≡◌};
-ghost use Rattle.words.specs.Words.{max};
-ghost use Rattle.survey.specs.Survey.{counted, longest_of_key, longest_at, longest_zeros};
+ghost use Rattle.std.specs.Prelude.{◌≡◌, ◌<◌, ℕ};
+ghost use Rattle.survey.specs.Survey.{counted, largest, longest_of_key, longest_at, longest_zeros};
 
 use coefficients::next_coefficient;
 use std::io;
 use wire::Scheme;
 
-// The zero bytes drawn for one coefficient, and the state after its draws.
+// The zero bytes drawn for one coefficient, and the generator's state after its draws.
 #[derive(Clone, Copy)]
 struct Counted {
     zeros: u8,
@@ -22,16 +21,26 @@ fn zeros_of(dt: u8, s: [u32; 4]) -> Counted
     ensures { result ≡ counted dt s }
 {
     let c = next_coefficient(Scheme::Gf256, dt, s);
-    let state = c.state;
     let bytes = if dt == 15 { c.draws } else { c.draws - 1 };
-    let zeros = if c.value == 0 { bytes } else { bytes - 1 };
+    let zeros = if c.value.unwrap_or(0) == 0 {
+        bytes
+    } else {
+        bytes - 1
+    };
+    let state = c.state;
     Counted { zeros, state }
 }
 
-fn larger(a: u8, b: u8) -> u8
-    ensures { result ≡ max a b }
+// The largest value of f below n.
+fn largest<F: Fn(u32) -> u8>(n: u32, f: F) -> u8
+    requires { (i : ℕ) → i < n → F.pre f i }
+    ensures { (g : ℕ → ℕ) → ((i r : ℕ) → i < n → F.post f i r → r ≡ g i) → result ≡ largest g n }
 {
-    if a < b { b } else { a }
+    let mut most: u8 = 0;
+    for i in 0..n {
+        most = most.max(f(i));
+    }
+    most
 }
 
 // The 255 coefficients of a key.
@@ -40,11 +49,11 @@ fn longest_of_key(dt: u8, key: u32) -> u8
 {
     let mut state = tinymt::start(key);
     let mut longest: u8 = 0;
-    for i in 0..255usize {
+    // Kept: each turn goes on from the state that the one before left, and `largest` takes a closure of the index alone.
+    for _ in 0..255u8 {
         let c = zeros_of(dt, state);
-        longest = larger(longest, c.zeros);
-        let t = c.state;
-        state = t;
+        longest = longest.max(c.zeros);
+        state = c.state;
     }
     longest
 }
@@ -53,22 +62,14 @@ fn longest_of_key(dt: u8, key: u32) -> u8
 fn longest_at(dt: u8) -> u8
     ensures { result ≡ longest_at 255 65536 dt }
 {
-    let mut longest: u8 = 0;
-    for key in 0..65536u32 {
-        longest = larger(longest, longest_of_key(dt, key));
-    }
-    longest
+    largest(65536, |key| longest_of_key(dt, key))
 }
 
 // Every density threshold.
 fn longest_zeros() -> u8
     ensures { result ≡ longest_zeros }
 {
-    let mut longest: u8 = 0;
-    for dt in 0..16u8 {
-        longest = larger(longest, longest_at(dt));
-    }
-    longest
+    largest(16, |dt| longest_at(dt as u8))
 }
 
 fn main(rt: HostRuntime) -> io::Result<()> {

@@ -1,20 +1,11 @@
 -- `bench::add_by_tables` meets its contract. The loop: the first i elements are those of the result.
-use Rattle.words.specs.Words.{arith, rules}
-use Rattle.rows.proofs.Turns.{summed_turn, summed_end}
+use Rattle.words.specs.Words.{arith}
+use Rattle.rows.proofs.Turns.{sum_more, sum_all}
 use Rattle.bench.proofs.add_by_tables.Goals as goal
 
 pub loop-i-preserved : goal.loop-i-preserved
 loop-i-preserved c =
-    let a = c.args in
-    let i = c.loop-i.i in (
-      search rules,
-      cc (summed_turn a.c a.dst.now a.src.now i (omega arith) (omega arith)),
-      search rules,
-      search rules,
-      search rules,
-    )
+    rw (c.add.ensures, c.mul.ensures) (sum_more _ _ (omega arith) (omega arith) c.loop-i.invariant)
 
 pub returns : goal.returns
-returns c =
-    let a = c.args in
-    cc (summed_end a.c a.dst.now a.src.now c.loop-i.i (omega arith))
+returns c = sum_all _ _ (omega arith) c.loop-i.invariant

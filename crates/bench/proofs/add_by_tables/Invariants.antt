@@ -1,14 +1,7 @@
 -- `bench::add_by_tables` meets its contract. The loop: the first i elements are those of the result.
-use Rattle.std.specs.Prelude.{◌≡◌, ◌≤◌, ◌-◌}
-use Rattle.words.specs.Words.{length}
-use Rattle.field.specs.Tables.{power_table, logarithm_table}
-use Rattle.rows.proofs.Turns.{summed}
+use Rattle.memory.proofs.Loop.{Turned}
+use Rattle.rows.specs.Rows.{add_scaled}
 use Rattle.bench.proofs.add_by_tables.Given as goal
 
 abbrev pub invariant-loop-i : goal.invariant-loop-i
-invariant-loop-i l =
-    (l.i ≤ length l.initial.dst) × (l.dst ≡ summed l.c l.initial.dst l.src l.i) × (length l.dst ≡ length l.initial.dst)
-    × (l.powers ≡ power_table) × (l.logarithms ≡ logarithm_table)
-
-abbrev pub decreases-loop-i : goal.decreases-loop-i
-decreases-loop-i l = l.i-end - l.i
+invariant-loop-i l = Turned l.initial.dst (add_scaled l.c l.initial.dst l.src) l.i l.dst

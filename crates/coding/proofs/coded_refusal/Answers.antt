@@ -6,9 +6,9 @@ use Rattle.coding.proofs.Coding.{handed, negated, negated_fits}
 use Rattle.coding.proofs.coded_refusal.Goals as goal
 
 pub overflow_sub-result : goal.overflow_sub-result
-overflow_sub-result c = record { sfits = negated_fits c.refusal_number.result (omega arith) }
+overflow_sub-result c = record { sfits = negated_fits c.from.result (omega arith) }
 
 pub returns : goal.returns
 returns c =
-    let n = c.refusal_number in
+    let n = c.from in
     handed (negated_fits n.result (omega arith)) (negated n.result (omega arith) ∙ ap (λ x. coded (refusal x)) n.ensures)
