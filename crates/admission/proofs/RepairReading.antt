@@ -82,11 +82,11 @@ module _ (p m : List ℕ) (room : ℕ) (h : Header) (has : header_in m ≡ Some 
   enough : leb (working_size h.setting) room ≡ true
   enough = le-leb (working_size h.setting) room lent
 
-  pub repair_form_lem : (x : Refusal) → Err x ≡ repair_header_of E p → Failed c m room x
+  pub repair_form_lem : (x : Refusal) → Err x ≡ repair_header_of E p → Failed c m room refusals.Form
   unfolding reading check read_repair
   repair_form_lem x q =
       let (a, k) = cond_err (repair_form E p) _ _ q in
-      rw k (failed c m room h has refusals.Form (λ z. omega arith) (λ b. rw (enough, a)))
+      failed c m room h has refusals.Form (λ z. omega arith) (λ b. rw (enough, a))
 
   module _ (f : RepairFields) (read : Ok f ≡ repair_header_of E p) where
     is : f ≡ repair_fields E p

@@ -58,11 +58,11 @@ module _ (flow : ℕ) (p m : List ℕ) (room : ℕ) (h : Header) (has : header_i
   enough : leb (working_size h.setting) room ≡ true
   enough = le-leb (working_size h.setting) room lent
 
-  pub source_form_lem : (x : Refusal) → Err x ≡ source_header_of p → Failed c m room x
+  pub source_form_lem : (x : Refusal) → Err x ≡ source_header_of p → Failed c m room refusals.Form
   unfolding reading check read_source
   source_form_lem x q =
       let (a, k) = cond_err (source_form p) _ _ q in
-      rw k (failed c m room h has refusals.Form (λ z. omega arith) (λ b. rw (enough, a)))
+      failed c m room h has refusals.Form (λ z. omega arith) (λ b. rw (enough, a))
 
   pub source-stray : source_form p ≡ true → announced (flows_in m) flow ≡ false → Failed c m room refusals.Unannounced
   unfolding reading check read_source

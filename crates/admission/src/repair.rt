@@ -23,7 +23,9 @@ pub fn read_repair(
 {
     let header = packet::ready(mem, room)?;
     let setting = header.setting;
-    let fields = wire::read_repair(packet, setting.size)?;
+    let Ok(fields) = wire::read_repair(packet, setting.size) else {
+        return Err(Refusal::Form);
+    };
     let named = fields.nss;
     let count = fields.count;
     if !wire::between(1, setting.width, named) {

@@ -19,7 +19,9 @@ pub fn read_source(mem: &[u8], room: usize, flow: u8, packet: &[u8]) -> Result<P
     ensures { SourceRead flow packet.now mem.now room result }
 {
     let header = packet::ready(mem, room)?;
-    let fields = wire::read_source(packet)?;
+    let Ok(fields) = wire::read_source(packet) else {
+        return Err(Refusal::Form);
+    };
     if !wire::is_announced(mem, flow) {
         return Err(Refusal::Unannounced);
     }

@@ -6,17 +6,16 @@ use Rattle.holding.proofs.Headers.{headed, header_fits}
 use Rattle.admission.proofs.Locating.{handed_on}
 use Rattle.admission.proofs.SourceReading.{Fields, source-fields, source_form_lem, source-stray, source-long, source_many, source_out, source_passed}
 use Rattle.admission.proofs.source.read_source.Goals as goal
-use Rattle.admission.proofs.source.read_source.Goals.{In_ok-fields}
+use Rattle.admission.proofs.source.read_source.Goals.{In-Ok}
 
 -- What the fields say of the packet.
-reads : (c : In_ok-fields) → Fields c.args.packet.now c.in_ok-fields.fields
-reads c = source-fields _ c.in_ok-fields.fields (sym c.in_ok-fields.was ∙ c.read_source.ensures)
+reads : (c : In-Ok) → Fields c.args.packet.now c.in-Ok.fields
+reads c = source-fields _ c.in-Ok.fields (sym c.in-Ok.is ∙ c.read_source.ensures)
 
-pub returns-in_err-fields : goal.returns-in_err-fields
-returns-in_err-fields c =
+pub returns-in_default : goal.returns-in_default
+returns-in_default c =
     let h = c.in_ok-header in
-    let e = handed_on c.from_residual-in_err-fields.ensures.1 in
-    rw e (source_form_lem _ _ _ _ h.header h.ensures.0 h.ensures.1 _ (sym c.in_err-fields.was ∙ c.read_source.ensures))
+    source_form_lem _ _ _ _ h.header h.ensures.0 h.ensures.1 _ (sym c.in_default.is ∙ c.read_source.ensures)
 
 pub is_announced-requires : goal.is_announced-requires
 is_announced-requires c =
@@ -27,12 +26,12 @@ pub returns-then-not-is_announced : goal.returns-then-not-is_announced
 returns-then-not-is_announced c =
     let h = c.in_ok-header in
     let known = sym c.is_announced.ensures ∙ c.if-not-is_announced.true in
-    source-stray _ _ _ _ h.header h.ensures.0 h.ensures.1 (reads (goal.at.returns-then-not-is_announced c).In_ok-fields).form known
+    source-stray _ _ _ _ h.header h.ensures.0 h.ensures.1 (reads (goal.at.returns-then-not-is_announced c).In-Ok).form known
 
 pub returns-then-fields-gt-LONGEST_ADU : goal.returns-then-fields-gt-LONGEST_ADU
 returns-then-fields-gt-LONGEST_ADU c =
     let h = c.in_ok-header in
-    let reads = reads (goal.at.returns-then-fields-gt-LONGEST_ADU c).In_ok-fields in
+    let reads = reads (goal.at.returns-then-fields-gt-LONGEST_ADU c).In-Ok in
     let known = sym c.is_announced.ensures ∙ c.if-not-is_announced.false in
     source-long _ _ _ _ h.header h.ensures.0 h.ensures.1 _ reads known c.if-fields-gt-LONGEST_ADU.true
 
@@ -44,7 +43,7 @@ symbol_count-count-requires c =
 pub returns-then-setting-count : goal.returns-then-setting-count
 returns-then-setting-count c =
     let h = c.in_ok-header in
-    let reads = reads (goal.at.returns-then-setting-count c).In_ok-fields in
+    let reads = reads (goal.at.returns-then-setting-count c).In-Ok in
     let known = sym c.is_announced.ensures ∙ c.if-not-is_announced.false in
     source_many _ _ _ _ h.header h.ensures.0 h.ensures.1 _ reads known c.if-fields-gt-LONGEST_ADU.false _ c.symbol_count-count.ensures c.if-setting-count.true
 
@@ -56,7 +55,7 @@ place-requires c =
 pub returns-in_err-based : goal.returns-in_err-based
 returns-in_err-based c =
     let h = c.in_ok-header in
-    let reads = reads (goal.at.returns-in_err-based c).In_ok-fields in
+    let reads = reads (goal.at.returns-in_err-based c).In-Ok in
     let known = sym c.is_announced.ensures ∙ c.if-not-is_announced.false in
     let out = rw reads.esi at c.in_err-based.ensures in
     rw (handed_on c.from_residual-in_err-based.ensures.1)
@@ -65,7 +64,7 @@ returns-in_err-based c =
 pub returns : goal.returns
 returns c =
     let h = c.in_ok-header in
-    let reads = reads (goal.at.returns c).In_ok-fields in
+    let reads = reads (goal.at.returns c).In-Ok in
     let known = sym c.is_announced.ensures ∙ c.if-not-is_announced.false in
     let (is, at) = rw reads.esi at c.in_ok-based.ensures in
     source_passed _ _ _ _ h.header h.ensures.0 h.ensures.1 _ reads known c.if-fields-gt-LONGEST_ADU.false _ c.symbol_count-count.ensures c.if-setting-count.false _
