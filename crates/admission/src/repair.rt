@@ -61,7 +61,7 @@ fn admit_symbol(
 {
     let shape = location.shape;
     let at = table::symbol_offset(shape, kept);
-    work[at..at + shape.size].copy_from_slice(symbol);
+    memory::copy(&mut work[at..at + shape.size], symbol);
     packet::admit_equation(mem, work, list, location, kept, location.first)
 }
 

@@ -17,7 +17,7 @@ pub extern "C" fn bench_copy(dst: &mut [u8], src: &[u8]) {
     if dst.len() != src.len() {
         return;
     }
-    dst.copy_from_slice(src);
+    memory::copy(dst, src);
 }
 
 // dst becomes dst + c * src.

@@ -6,4 +6,4 @@ use Rattle.memory.proofs.copy_part.Goals as goal
 pub returns : goal.returns
 returns c =
     let a = c.args in
-    cc (put a.a a.n c.copy_from_slice.new.self a.mem.now (omega arith) c.copy_from_slice.auto.self, cut a.b a.n a.src.now)
+    cc (put a.a a.n c.copy.new.dst a.mem.now (omega arith) c.copy.auto.dst, cut a.b a.n a.src.now)

@@ -29,8 +29,7 @@ admit_equation-requires c =
     let s = a.location.shape in
     let p = c.requires in
     let room = inside (goal.at.admit_equation-requires c).After-symbol_offset-at in
-    let copied = c.copy_from_slice.ensures in
-    let is = stored s.width s.size a.kept _ _ _ a.work.now c.symbol_offset-at.ensures room copied.len copied.after in
+    let is = stored s.width s.size a.kept _ _ _ a.work.now c.symbol_offset-at.ensures room c.copy.auto.dst c.copy.ensures in
     (p.0, works_stored _ _ a.kept _ _ _ p.1 p.5 is, p.2, p.3, p.4)
 
 pub returns : goal.returns
@@ -38,6 +37,5 @@ returns c =
     let a = c.args in
     let s = a.location.shape in
     let room = inside (goal.at.returns c).After-symbol_offset-at in
-    let copied = c.copy_from_slice.ensures in
-    let is = stored s.width s.size a.kept _ _ _ a.work.now c.symbol_offset-at.ensures room copied.len copied.after in
+    let is = stored s.width s.size a.kept _ _ _ a.work.now c.symbol_offset-at.ensures room c.copy.auto.dst c.copy.ensures in
     symbol_admitted a.location a.kept a.list.now a.symbol.now a.mem.now a.work.now _ _ _ c.requires.1 c.requires.5 is c.admit_equation.ensures
