@@ -3,4 +3,5 @@ pub mod Symbols
 pub mod Places
 pub mod Answers
 pub mod Sending
+pub mod Straight
 pub mod Claims
