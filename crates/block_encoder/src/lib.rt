@@ -31,7 +31,7 @@ pub fn open(
     if mem.len() < front::memory_size(blocks::setting_for(block)) {
         return Err(Refusal::Short);
     }
-    blocks::write_block(mem, Kind::Encoder, block);
+    blocks::write_block(mem, Kind::Encoder as u16, block);
     Ok(0)
 }
 
@@ -77,7 +77,7 @@ fn write_source(out: &mut [u8], block: Block, esi: usize, adu: &[u8])
 pub fn add_adu(mem: &mut [u8], flow: u8, adu: &[u8], out: &mut [u8]) -> Result<usize, Refusal>
     ensures { Adds flow adu.now mem.old out.old result mem.new out.new }
 {
-    let block = blocks::read_block(mem, Kind::Encoder).ok_or(Refusal::Unopened)?;
+    let block = blocks::read_block(mem, Kind::Encoder as u16).ok_or(Refusal::Unopened)?;
     if !has_room(out.len(), adu.len()) {
         return Err(Refusal::Short);
     }
@@ -120,7 +120,7 @@ fn write_repair(out: &mut [u8], mem: &[u8], block: Block, esi: usize)
 pub fn make_repair(mem: &[u8], esi: usize, out: &mut [u8]) -> Result<usize, Refusal>
     ensures { Makes esi mem.now out.old result out.new }
 {
-    let block = blocks::read_block(mem, Kind::Encoder).ok_or(Refusal::Unopened)?;
+    let block = blocks::read_block(mem, Kind::Encoder as u16).ok_or(Refusal::Unopened)?;
     if !has_room(out.len(), block.size) {
         return Err(Refusal::Short);
     }

@@ -13,7 +13,7 @@ use wire::{Kind, Refusal};
 pub fn opened_for(mem: &[u8], room: usize) -> Result<Block, Refusal>
     ensures { result ≡ opened_for (block_in 4 mem.now) room }
 {
-    let block = blocks::read_block(mem, Kind::Recovery).ok_or(Refusal::Unopened)?;
+    let block = blocks::read_block(mem, Kind::Recovery as u16).ok_or(Refusal::Unopened)?;
     if room < front::working_size(blocks::setting_for(block)) {
         return Err(Refusal::Short);
     }

@@ -29,7 +29,7 @@ pub fn open(
 {
     let block = blocks::block_of(size, k, total, number)?;
     receiver::open(mem, Scheme::Gf256 as usize, size, k, &[0; 32])?;
-    blocks::write_block(mem, Kind::Recovery, block);
+    blocks::write_block(mem, Kind::Recovery as u16, block);
     Ok(0)
 }
 
@@ -72,7 +72,7 @@ pub fn receive_repair(
 fn find(mem: &[u8], esi: usize) -> Result<Spot, Refusal>
     ensures { Spotted mem.now esi result }
 {
-    let block = blocks::read_block(mem, Kind::Recovery).ok_or(Refusal::Unopened)?;
+    let block = blocks::read_block(mem, Kind::Recovery as u16).ok_or(Refusal::Unopened)?;
     let shape = take::shape_of(block);
     if block.k <= esi || !placing::is_known(mem, shape, esi) {
         return Err(Refusal::Unknown);

@@ -5,14 +5,13 @@
 ghost use Rattle.std.specs.Prelude.{◌≡◌, ◌≤◌, ◌<◌};
 ghost use Rattle.words.specs.Words.{length};
 ghost use Rattle.memory.specs.Part.{splice};
-ghost use Rattle.wire.specs.Stored.{kind_number};
 ghost use Rattle.blocks.specs.Block.{has_values, block_of, setting_for, Valid};
 ghost use Rattle.blocks.specs.Stored.{block_in, block_bytes};
 
 pub mod identifier;
 
 use holding::front;
-use wire::{Kind, Refusal, Scheme, Setting};
+use wire::{Refusal, Scheme, Setting};
 
 // The bytes of the header at the front of a block's memory.
 pub const HEADER: usize = 96;
@@ -64,9 +63,9 @@ pub fn setting_for(block: Block) -> Setting
     }
 }
 
-// The block in the header at the front of a memory, of the kind that encodes it or that recovers it.
-pub fn read_block(mem: &[u8], kind: Kind) -> Option<Block>
-    ensures { result ≡ block_in (kind_number kind) mem.now }
+// The block in the header at the front of a memory, by the number of the kind that encodes it or that recovers it.
+pub fn read_block(mem: &[u8], kind: u16) -> Option<Block>
+    ensures { result ≡ block_in kind mem.now }
 {
     let setting = wire::setting_in(mem, kind)?;
     if mem.len() < front::memory_size(setting) {
@@ -78,9 +77,9 @@ pub fn read_block(mem: &[u8], kind: Kind) -> Option<Block>
 }
 
 // Writes the header of a block that has taken nothing at the front of a memory.
-pub fn write_block(mem: &mut [u8], kind: Kind, block: Block)
+pub fn write_block(mem: &mut [u8], kind: u16, block: Block)
     requires { (16 ≤ length mem.old) × Valid block }
-    ensures { mem.new ≡ splice 0 (block_bytes (kind_number kind) block) mem.old }
+    ensures { mem.new ≡ splice 0 (block_bytes kind block) mem.old }
 {
     wire::write_setting(mem, kind, setting_for(block));
     memory::store_u16(mem, 8, block.total as u16);

@@ -41,7 +41,7 @@ pub fn working_size(setting: Setting) -> usize
 pub fn read_header(mem: &[u8]) -> Option<Header>
     ensures { result ≡ header_in mem.now }
 {
-    let setting = wire::setting_in(mem, Kind::Receiver)?;
+    let setting = wire::setting_in(mem, Kind::Receiver as u16)?;
     if mem.len() < memory_size(setting) {
         return None;
     }
@@ -65,7 +65,7 @@ pub fn write_fresh(mem: &mut [u8], setting: Setting)
     requires { (memory_size setting ≤ length mem.old) × Valid setting }
     ensures { mem.new ≡ fresh_memory setting mem.old }
 {
-    wire::write_setting(mem, Kind::Receiver, setting);
+    wire::write_setting(mem, Kind::Receiver as u16, setting);
     let rest = memory_size(setting) - 8;
     memory::fill_part(mem, 8, rest, 0);
 }

@@ -24,7 +24,7 @@ pub fn memory_size(setting: Setting) -> usize
 pub fn read_header(mem: &[u8]) -> Option<Header>
     ensures { result ≡ header_in mem.now }
 {
-    let setting = wire::setting_in(mem, Kind::Sender)?;
+    let setting = wire::setting_in(mem, Kind::Sender as u16)?;
     if mem.len() < memory_size(setting) {
         return None;
     }

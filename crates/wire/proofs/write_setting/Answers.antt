@@ -3,7 +3,7 @@ use Rattle.std.specs.Prelude.{◌++◌}
 use Rattle.words.specs.Words.{refl}
 use Rattle.memory.specs.Number.{bytes}
 use Rattle.wire.specs.Settings.{scheme_number}
-use Rattle.wire.specs.Stored.{kind_number, setting_bytes}
+use Rattle.wire.specs.Stored.{setting_bytes}
 use Rattle.wire.proofs.Adui.{front_next}
 use Rattle.wire.proofs.write_setting.Goals as goal
 
@@ -11,7 +11,7 @@ pub returns : goal.returns
 unfolding setting_bytes
 returns c =
     let a = c.args in
-    let x = bytes 2 (kind_number a.kind) in
+    let x = bytes 2 a.kind in
     let y = bytes 2 (scheme_number a.setting.scheme) in
     let z = bytes 2 a.setting.size in
     let w = bytes 2 a.setting.width in
