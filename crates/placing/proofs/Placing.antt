@@ -1,8 +1,9 @@
 -- To clear the new row's column in the rows in use, and to store it, is the model's `place`.
--- The row stored: stored_copy. One row cleared: cleared_zero, cleared_unused, cleared_row. Row after row: Cleared, cleared_none, cleared_more.
+-- The row stored: stored_copy. The search for the next row: Passed, passed_none, passed_more, passed_here, passed_all.
+-- One row cleared: cleared_zero, cleared_unused, cleared_row. Row after row: Cleared, cleared_none, cleared_more, cleared_skip.
 -- The whole call: settled. What it is in the model: places.
-use Rattle.std.specs.Prelude.{◌≡◌, ◌≤◌, ◌+◌, ◌<◌, ◌%◌, ◌≢◌}
-use Rattle.words.specs.Words.{arith, ℕ, List, length, refl, ◌∙◌, sym, ap, true, get_or, false, Bool, subst, ap₂, mod-lt}
+use Rattle.std.specs.Prelude.{◌≡◌, ◌≤◌, ◌+◌, ◌<◌, ◌-◌, ◌%◌, ◌≢◌}
+use Rattle.words.specs.Words.{arith, ℕ, List, length, refl, ◌∙◌, sym, ap, suc, true, zero, get_or, false, Bool, Option, Some, None, subst, ap₂, mod-lt}
 use Rattle.words.specs.Words.{ℕ_discrete, add-zero, bit_xor, zero-add, true≢false, get_or-append}
 use Rattle.std.specs.Int.{from_bool}
 use Rattle.field.specs.Gf256.{product}
@@ -19,7 +20,7 @@ use Rattle.decoder.proofs.Stretch.{line-add, line_same}
 use Rattle.decoder.proofs.Refine.{add_line-zero}
 use Rattle.table.specs.Window.{stride, row_offset, row, flag, in_use, line, table, Flagged, Flags, Fits, Kept}
 use Rattle.table.specs.RowSteps.{one_if_known, known-flag, flagged}
-use Rattle.placing.specs.PlaceSteps.{known_flags, RowMarked, Changed, ClearedRow, Stored, RowPlaced}
+use Rattle.placing.specs.PlaceSteps.{known_flags, RowMarked, Changed, ClearedRow, FirstWith, NextWith, Stored, RowPlaced}
 use Rattle.table.proofs.Rows.{row_store, row_other, kept_store, kept_refl, kept_trans, fits_kept}
 use Rattle.table.proofs.Flags.{flag_at, unused, used, unused_flag, not_known, flags_changed, count_changed, flagged-flag, flagged_cell, flagged-line}
 use Rattle.table.proofs.Flags.{flagged_rest, flagged_kept}
@@ -121,6 +122,50 @@ pub stored_copy : (w E r at : ℕ) (alone : Bool) (l m m₁ m' : List ℕ) → F
     → m₁ ≡ splice at (part 0 (w + E) l) m → RowMarked w E r alone m₁ m' → Stored w E r (from_bool alone) l m m'
 stored_copy w E r at alone l m m₁ m' fits h size here e t =
     stored w E r alone l m m₁ m' fits h size (e ∙ ap (λ x. splice at x m) (whole (w + E) l size) ∙ ap (λ k. splice k l m) here) t
+
+-- The rows from `from` on and before `q` have no coefficient in the column.
+pub record Passed (w E r from q : ℕ) (m : List ℕ) : Type 0 where
+  pub least : from ≤ q
+  pub most : q ≤ w
+  pub zeros : (j : ℕ) → from ≤ j → j < q → get_or m (row_offset w E j + r) 0 ≡ 0
+
+module _ {w E r from : ℕ} {m : List ℕ} where
+  pub passed_none : from ≤ w → Passed w E r from from m
+  passed_none h = record { least = omega arith; most = h; zeros = λ j a b. absurd (omega arith) }
+
+  module _ (q at : ℕ) (f : Passed w E r from q m) (h : q < w) (here : at ≡ row_offset w E q) where
+    pub passed_more : get_or m (at + r) 0 ≡ 0 → Passed w E r from (q + 1) m
+    passed_more z = record { least = omega (arith, f.least); most = omega arith; zeros = λ j a b. next j a b (ℕ_discrete j q) }
+      where
+        next : (j : ℕ) → from ≤ j → j < q + 1 → Dec (j ≡ q) → get_or m (row_offset w E j + r) 0 ≡ 0
+        next j a b (yes e) = ap (λ x. get_or m (row_offset w E x + r) 0) e ∙ ap (λ x. get_or m (x + r) 0) (sym here) ∙ z
+        next j a b (no e) = f.zeros j a (omega arith)
+
+    pub passed_here : get_or m (at + r) 0 ≢ 0 → FirstWith w E r from q m
+    passed_here z = record { least = f.least; most = f.most; zeros = f.zeros; here = λ _ e. z (ap (λ x. get_or m (x + r) 0) here ∙ e) }
+
+  pub passed_all : (q : ℕ) → Passed w E r from q m → q ≡ w → FirstWith w E r from w m
+  passed_all q f e = subst (λ x. FirstWith w E r from x m) e
+      (record { least = f.least; most = f.most; zeros = f.zeros; here = λ h. absurd (omega arith) })
+
+-- Where a search has come to: the row found, or the width.
+abbrev pub reached : ℕ → Option ℕ → ℕ
+reached w (Some q) = q
+reached w None = w
+
+-- A row that was found is one of the window.
+abbrev pub Inside : ℕ → Option ℕ → Type 0
+Inside w (Some q) = q < w
+Inside w None = Unit {0}
+
+module _ (w E r from : ℕ) (m : List ℕ) where
+  pub next_inside : (o : Option ℕ) → NextWith w E r from o m → Inside w o
+  next_inside (Some q) h = h.0
+  next_inside None h = tt
+
+  pub next_first : (o : Option ℕ) → NextWith w E r from o m → FirstWith w E r from (reached w o) m
+  next_first (Some q) h = h.1
+  next_first None h = h
 
 -- The row `q` is passed over: it is not in use, or has no coefficient in the column.
 module _ (w E r q : ℕ) (l m : List ℕ) where
@@ -253,6 +298,22 @@ module _ (w E r : ℕ) (l m : List ℕ) where
           ∙ g.sum (f.used i h ∙ ap (λ x. in_use w E (row w E x m)) (sym e) ∙ u)
           ∙ ap (λ x. add_line (byte (get_or x r 0)) (line w E l) (line w E x)) (f.rest i (omega arith) h ∙ ap (λ x. row w E x m) (sym e))
       one q b u (no e) = ap (line w E) (g.changed.rest q (omega arith) e) ∙ f.sum q (omega arith) u
+
+  -- Rows without a coefficient there are passed over.
+  skip : (d i n : ℕ) (m₁ : List ℕ) → 0 < E → r < w → i + d ≤ w → ((j : ℕ) → i ≤ j → j < i + d → get_or m₁ (row_offset w E j + r) 0 ≡ 0)
+      → Cleared w E r i n l m m₁ → Cleared w E r (i + d) n l m m₁
+  skip zero i n m₁ pos h k z f = subst (λ x. Cleared w E r x n l m m₁) (sym (add-zero i)) f
+  skip (suc d) i n m₁ pos h k z f =
+      let turn = cleared_zero w E r i l m₁ (row_offset w E i) refl pos h (z i (omega arith) (omega arith)) in
+      let more = subst (λ x. Cleared w E r (i + 1) x l m m₁) (add-zero n) (cleared_more i n 0 m₁ m₁ (omega arith) f turn) in
+      let e : i + 1 + d ≡ i + suc d = omega arith in
+      subst (λ x. Cleared w E r x n l m m₁) e (skip d (i + 1) n m₁ pos h (omega arith) (λ j a b. z j (omega arith) (omega arith)) more)
+
+  pub cleared_skip : (i q n : ℕ) (m₁ : List ℕ) → 0 < E → r < w → FirstWith w E r i q m₁ → Cleared w E r i n l m m₁ → Cleared w E r q n l m m₁
+  cleared_skip i q n m₁ pos h g f =
+      let e : i + (q - i) ≡ q = omega (arith, g.least) in
+      subst (λ x. Cleared w E r x n l m m₁) e
+      (skip (q - i) i n m₁ pos h (omega (arith, g.least, g.most)) (λ j a b. g.zeros j a (omega (arith, g.least))) f)
 
   -- Cleared, and then stored.
   pub settled : (i n k : ℕ) (m₁ m₂ : List ℕ) → r < w → i ≡ w → Cleared w E r i n l m m₁ → Stored w E r k l m₁ m₂ → RowPlaced w E r (n + k) l m m₂

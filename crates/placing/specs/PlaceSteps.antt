@@ -2,7 +2,7 @@
 -- A column is cleared in the rows in use, by a working row `l`, and the working row becomes the row of that column.
 use Rattle.std.specs.Prelude.{◌≡◌, ◌≤◌, ◌+◌, ◌<◌, ◌*◌, ◌≢◌}
 use Rattle.std.specs.Int.{from_bool}
-use Rattle.words.specs.Words.{ℕ, List, Bool, length, true, get_or, false}
+use Rattle.words.specs.Words.{ℕ, List, Bool, Option, Some, None, length, true, get_or, false}
 use Rattle.decoder.specs.Bytes.{byte, Coded}
 use Rattle.decoder.specs.Model.{State}
 use Rattle.decoder.specs.TableSteps.{add_line, total}
@@ -34,6 +34,18 @@ pub record ClearedRow (w E r q n : ℕ) (l m m' : List ℕ) : Type 0 where
       → line w E (row w E q m') ≡ add_line (byte (get_or (row w E q m) r 0)) (line w E l) (line w E (row w E q m))
   pub flags : (q ≡ r → in_use w E (row w E q m) ≡ false) → Flagged w E q (row w E q m)
       → Flagged w E q (row w E q m') × (n + known-flag w E m q ≡ known-flag w E m' q)
+
+-- The row `q` is the first from `from` on that has a coefficient in the column `r`, or `w` if none has.
+pub record FirstWith (w E r from q : ℕ) (m : List ℕ) : Type 0 where
+  pub least : from ≤ q
+  pub most : q ≤ w
+  pub zeros : (j : ℕ) → from ≤ j → j < q → get_or m (row_offset w E j + r) 0 ≡ 0
+  pub here : q < w → get_or m (row_offset w E q + r) 0 ≢ 0
+
+-- That row, or none.
+abbrev pub NextWith : (w E r from : ℕ) → Option ℕ → List ℕ → Type 0
+NextWith w E r from (Some q) m = (q < w) × FirstWith w E r from q m
+NextWith w E r from None m = FirstWith w E r from w m
 
 -- The working row `l` has become the row `r`, in use.
 pub record Stored (w E r n : ℕ) (l m m' : List ℕ) : Type 0 where

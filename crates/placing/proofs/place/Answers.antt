@@ -1,20 +1,30 @@
--- `placing::place` meets its contract. The loop: the column is clear in the rows before q, of which count have become known.
-use Rattle.words.specs.Words.{arith, rules}
-use Rattle.table.proofs.Rows.{fits_kept}
-use Rattle.placing.proofs.Placing.{cleared_none, cleared_more, settled}
+-- `placing::place` meets its contract. The loop: the column is clear in the rows before the one that was found, of which count have become known.
+use Rattle.words.specs.Words.{arith}
+use Rattle.placing.proofs.Placing.{next_inside, next_first, cleared_none, cleared_more, cleared_skip, settled}
 use Rattle.placing.proofs.place.Goals as goal
 
-pub loop-q-init : goal.loop-q-init
-loop-q-init c = cleared_none _ _ _ _ _
+pub loop-found-init : goal.loop-found-init
+loop-found-init c =
+    let a = c.args in
+    let found = c.next_with-found in
+    let first = next_first _ _ _ _ _ found.result found.ensures in (
+      next_inside _ _ _ _ _ found.result found.ensures,
+      cleared_skip _ _ _ _ _ 0 _ 0 _ (omega (arith, c.requires.0.some_symbol)) (omega arith) first
+          (cleared_none a.shape.width a.shape.size a.r a.row.now a.mem.now),
+    )
 
-pub clear_coefficient-requires : goal.clear_coefficient-requires
-clear_coefficient-requires c = (fits_kept c.requires.0 c.loop-q.invariant.kept, search rules, search rules, search rules)
-
-pub loop-q-preserved : goal.loop-q-preserved
-loop-q-preserved c = rw c.from-count.ensures (cleared_more _ _ _ _ _ c.loop-q.q _ _ _ _ (omega arith) c.loop-q.invariant c.clear_coefficient.ensures)
-
-pub store_row-requires : goal.store_row-requires
-store_row-requires c = (fits_kept c.requires.0 c.loop-q.invariant.kept, search rules, search rules)
+pub loop-found-preserved : goal.loop-found-preserved
+loop-found-preserved c =
+    let here = rw c.in-Some.is at c.loop-found.invariant in
+    let found = c.next_with-found-in-Some in
+    let first = next_first _ _ _ _ _ found.result found.ensures in
+    -- After a turn the column is clear in one row more.
+    let more = cleared_more _ _ _ _ _ c.in-Some.q _ _ _ _ here.0 here.1 c.clear_coefficient.ensures in (
+      next_inside _ _ _ _ _ found.result found.ensures,
+      rw c.from-count.ensures (cleared_skip _ _ _ _ _ _ _ _ _ (omega (arith, c.requires.0.some_symbol)) (omega arith) first more),
+    )
 
 pub returns : goal.returns
-returns c = rw c.from.ensures (settled _ _ _ _ _ c.loop-q.q _ _ _ _ (omega arith) (omega arith) c.loop-q.invariant c.store_row.ensures)
+returns c =
+    let all = rw c.in_default.is at c.loop-found.invariant in
+    rw c.from.ensures (settled _ _ _ _ _ c.args.shape.width _ _ _ _ (omega arith) (omega arith) all.1 c.store_row.ensures)
