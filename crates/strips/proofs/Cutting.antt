@@ -43,6 +43,20 @@ part-zeros a n =
     let g : i < n = omega arith in
     get_or-part a n i (replicate (a + n) 0) g ∙ get_or-replicate (a + n) (a + i) 0 0 (omega arith) ∙ sym (get_or-replicate n i 0 0 g))
 
+-- a whole strip more
+pub strip_whole : (cs m : List ℕ) (a s : ℕ) (d x y : List ℕ) (at : ℕ) → at + 64 ≤ length d
+    → x ≡ done (rows_added cs m a s (length d) d) d at → y ≡ rows_added cs m (a + at) s 64 (part at 64 x)
+    → splice at y x ≡ done (rows_added cs m a s (length d) d) d (at + 64)
+strip_whole cs m a s d x y at h p e =
+    let n : ℕ = length cs in
+    let c : ℕ → ℕ = coefficient cs in
+    let r : List ℕ = rows_added cs m a s (length d) d in
+    let lr : length r ≡ length d = length-combined (row_at m a s (length d)) c n d in
+    let old : part at 64 x ≡ part at 64 d = ap (part at 64) p ∙ done_rest r d at 64 (omega arith) in
+    let z : y ≡ part at 64 r =
+    e ∙ ap (combined c (row_at m (a + at) s 64) n) old ∙ part-combined c m a s (length d) at 64 n d h in
+    rw (z, p) (done_more r d at 64 (omega arith))
+
 -- the last v bytes of a strip that starts at b
 pub strip_rest : (cs m : List ℕ) (a s : ℕ) (d x y : List ℕ) (at b v : ℕ) → Bytes cs → v ≤ 64 → b + (64 - v) ≡ a + at → at + v ≤ length d
     → x ≡ done (rows_added cs m a s (length d) d) d at

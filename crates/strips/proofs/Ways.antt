@@ -1,6 +1,6 @@
 -- Laws of the ways in which a strip is summed.
-use Rattle.std.specs.Prelude.{◌≡◌, ◌<◌, ◌≤◌}
-use Rattle.words.specs.Words.{sym, subst, refl, arith, List, length, true≢false, ℕ}
+use Rattle.std.specs.Prelude.{◌≡◌, ◌<◌, ◌≤◌, ◌⊎◌}
+use Rattle.words.specs.Words.{sym, subst, refl, arith, List, length, true≢false, ℕ, inl, inr}
 use Rattle.memory.specs.Number.{Bytes}
 use Rattle.lists.specs.Named.{ListedPairs}
 use Rattle.lists.specs.declared.Lists.{Lists as RowLists}
@@ -49,13 +49,10 @@ module _ {cs : List ℕ} {l : RowLists} {o : Orders} where
   unfolding most_rows
   own_few e h = (subst (λ w. Ready w cs l o) e h).few
 
-  pub weights_listed : {way : Way} → way ≡ Buckets → Ready way cs l o → ListedPairs weights l.names l.counts l.pairs
+  pub weights_listed : {way : Way} → (way ≡ Buckets) ⊎ (way ≡ SortedBuckets) → Ready way cs l o → ListedPairs weights l.names l.counts l.pairs
   unfolding listed_for
-  weights_listed e h = (subst (λ w. Ready w cs l o) e h).listed
-
-  pub weights_listed_sorted : {way : Way} → way ≡ SortedBuckets → Ready way cs l o → ListedPairs weights l.names l.counts l.pairs
-  unfolding listed_for
-  weights_listed_sorted e h = (subst (λ w. Ready w cs l o) e h).listed
+  weights_listed (inl e) h = (subst (λ w. Ready w cs l o) e h).listed
+  weights_listed (inr e) h = (subst (λ w. Ready w cs l o) e h).listed
 
   pub rows_sorted : {way : Way} → way ≡ SortedBuckets → Ready way cs l o → SortedHalves cs o
   unfolding sorts

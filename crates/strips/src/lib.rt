@@ -6,7 +6,7 @@ ghost use Rattle.std.specs.List.{flat_map};
 ghost use Rattle.words.specs.Words.{length, replicate};
 ghost use Rattle.rows.specs.Sums.{row_at, rows_added};
 ghost use Rattle.lists.specs.Named.{ListedPairs, pairs_added};
-ghost use Rattle.buckets.specs.Buckets.{Strips, weights};
+ghost use Rattle.buckets.specs.Buckets.{Filled, Strips, weights};
 ghost use Rattle.strips.specs.Ways.{most_rows, Ready};
 
 use buckets::sorted::Orders;
@@ -60,6 +60,20 @@ struct Plan<'a> {
 }
 
 impl Plan<'_> {
+    // Fills the buckets, which are empty, with a strip of each row.
+    fn fill(&self, buckets: &mut [[u8; 64]; 32], rows: SpacedRows)
+        requires { Ready self.now.way self.now.cs.now self.now.lists.now self.now.orders.now × (rows.count ≡ length self.now.cs.now)
+            × (buckets.old ≡ replicate 32 (replicate 64 0)) }
+        ensures { Strips 32 buckets.new
+            × Filled self.now.cs.now (length self.now.cs.now) rows.entry.mem.now rows.entry.first rows.entry.stride buckets.new }
+    {
+        if let Way::SortedBuckets = self.way {
+            self.orders.fill(buckets, rows);
+        } else {
+            buckets::fill(buckets, self.cs, rows);
+        }
+    }
+
     // The sum of the strips of the rows, each times its coefficient.
     fn sum(&self, rows: SpacedRows) -> [u8; 64]
         requires { Ready self.now.way self.now.cs.now self.now.lists.now self.now.orders.now × (rows.count ≡ length self.now.cs.now) }
@@ -71,14 +85,10 @@ impl Plan<'_> {
                 rows,
             }
             .sum(),
-            Way::Buckets => {
+            // One array for both ways: in an arm for each, the two would not share their 2 KB of stack.
+            Way::Buckets | Way::SortedBuckets => {
                 let mut buckets = [[0u8; 64]; 32];
-                buckets::fill(&mut buckets, self.cs, rows);
-                sum_buckets(self.lists, &buckets)
-            }
-            Way::SortedBuckets => {
-                let mut buckets = [[0u8; 64]; 32];
-                self.orders.fill(&mut buckets, rows);
+                self.fill(&mut buckets, rows);
                 sum_buckets(self.lists, &buckets)
             }
         }

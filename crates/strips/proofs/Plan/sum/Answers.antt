@@ -1,12 +1,11 @@
 -- `strips::Plan::sum` meets its contract.
-use Rattle.std.specs.Prelude.{◌≤◌, ◌+◌, ◌*◌, ◌<◌}
-use Rattle.words.specs.Words.{◌∙◌, arith, length, refl, ℕ}
+use Rattle.std.specs.Prelude.{◌+◌, ◌*◌}
+use Rattle.words.specs.Words.{◌∙◌, arith}
 use Rattle.memory.proofs.Parts.{length_part}
 use Rattle.rows.specs.Sums.{row_at}
 use Rattle.lists.proofs.Named.{listed_naming, pairs_sum}
-use Rattle.buckets.proofs.Filling.{buckets_sum, strips_none}
-use Rattle.buckets.proofs.Sorting.{sorted_filled, sorted_ordered}
-use Rattle.strips.proofs.Ways.{most_few, own_few, own_listed, rows_sorted, weights_listed, weights_listed_sorted}
+use Rattle.buckets.proofs.Filling.{buckets_sum}
+use Rattle.strips.proofs.Ways.{own_few, own_listed, weights_listed}
 use Rattle.strips.proofs.Plan.sum.Goals as goal
 
 pub invariant_of-sum : goal.invariant_of-sum
@@ -21,15 +20,6 @@ invariant_of-sum c =
 
 pub sum_buckets-requires : goal.sum_buckets-requires
 sum_buckets-requires c = (weights_listed c.in-Buckets.is c.requires.0, c.fill.ensures.0)
-
-pub fill-requires-in-SortedBuckets : goal.fill-requires-in-SortedBuckets
-fill-requires-in-SortedBuckets c =
-    let few = most_few c.args.self.now.way in
-    (strips_none refl, rw c.requires.1 (sorted_ordered (rows_sorted c.in-SortedBuckets.is c.requires.0) (omega (arith, c.requires.0.few))))
-
-pub sum_buckets-requires-in-SortedBuckets : goal.sum_buckets-requires-in-SortedBuckets
-sum_buckets-requires-in-SortedBuckets c =
-    (weights_listed_sorted c.in-SortedBuckets.is c.requires.0, c.fill-in-SortedBuckets.ensures.0)
 
 pub returns-in-Lists : goal.returns-in-Lists
 unfolding row_at
@@ -53,15 +43,3 @@ returns-in-Buckets c =
     c.sum_buckets.ensures
     ∙ buckets_sum s.cs.now r.mem.now l.names l.counts l.pairs r.first r.stride (weights_listed c.in-Buckets.is c.requires.0) f.0
     (λ k g. r.fits k (omega arith)) f.1
-
-pub returns-in-SortedBuckets : goal.returns-in-SortedBuckets
-returns-in-SortedBuckets c =
-    let s = c.args.self.now in
-    let l = s.lists.now in
-    let r = c.args.rows in
-    let n = c.requires.1 in
-    let f = c.fill-in-SortedBuckets in
-    let fits : (k : ℕ) → k < length s.cs.now → r.first + k * r.stride + 64 ≤ length r.mem.now = λ k g. r.fits k (omega arith) in
-    c.sum_buckets-in-SortedBuckets.ensures
-    ∙ buckets_sum s.cs.now r.mem.now l.names l.counts l.pairs r.first r.stride (weights_listed_sorted c.in-SortedBuckets.is c.requires.0) f.ensures.0 fits
-    (sorted_filled r.mem.now r.first r.stride f.new.buckets (rows_sorted c.in-SortedBuckets.is c.requires.0) c.requires.0.bytes r.bytes fits f.ensures.1)
