@@ -1,7 +1,7 @@
 -- Calls of `feed` one after the other: one call more.
 use Rattle.std.specs.Prelude.{◌≡◌, ◌≤◌, ◌+◌, ◌<◌, ◌-◌, ◌∷◌, ◌++◌}
-use Rattle.words.specs.Words.{arith, ℕ, List, length, refl, ◌∙◌, sym, ap, [], true, false, subst, drop, take, inr}
-use Rattle.words.specs.Words.{inl, append_assoc, length-drop, append-nil, take-append-drop, drop-drop, drop-length}
+use Rattle.words.specs.Words.{arith, ℕ, List, length, refl, ◌∙◌, sym, ap, [], true, false, Bool, subst, drop, take, inr}
+use Rattle.words.specs.Words.{inl, append_assoc, length-drop, append-nil, not, take-append-drop, drop-drop, drop-length}
 use Rattle.records.specs.declared.Progress.{Progress}
 use Rattle.records.specs.declared.Pass.{Pass}
 use Rattle.records.specs.Promises.{is_over, Fed}
@@ -70,12 +70,12 @@ next_moves n input h o f =
     (f.moves o (omega arith), omega (arith, f.taken))
 
 -- no more is wanted, or all was taken
-pub went_over : (p : Progress) (line line' m m' input : List ℕ) (p' : Progress) (rest : List ℕ) → Handed p line m input p' line' m' rest → is_over p' ≡ true
-    → Through p line line' m m' input p'
-went_over p line line' m m' input p' rest h o = record { left = rest; handed = h; all = inr o }
+pub went_over : (p : Progress) (line line' m m' input : List ℕ) (p' : Progress) (b : Bool) (rest : List ℕ) → Handed p line m input p' line' m' rest
+    → b ≡ not (is_over p') → is_over p' ≡ true → Through p line line' m m' input (record { progress = p'; more = b })
+went_over p line line' m m' input p' b rest h e o = record { more = e; left = rest; handed = h; all = inr o }
 
-pub went_all : (p : Progress) (line line' m m' input : List ℕ) (p' : Progress) (n : ℕ) → Handed p line m input p' line' m' (drop n input)
-    → n ≤ length input → length input ≤ n → Through p line line' m m' input p'
-went_all p line line' m m' input p' n h k l =
+pub went_all : (p : Progress) (line line' m m' input : List ℕ) (p' : Progress) (b : Bool) (n : ℕ) → Handed p line m input p' line' m' (drop n input)
+    → b ≡ not (is_over p') → n ≤ length input → length input ≤ n → Through p line line' m m' input (record { progress = p'; more = b })
+went_all p line line' m m' input p' b n h e k l =
     let same : n ≡ length input = omega arith in
-    record { left = drop n input; handed = h; all = inl (rw same (drop-length input)) }
+    record { more = e; left = drop n input; handed = h; all = inl (rw same (drop-length input)) }

@@ -10,6 +10,13 @@ use records::Progress;
 use std::io;
 use std::io::Read;
 
+// How far the capture has come, and whether more of the input is to be read.
+#[derive(Clone, Copy)]
+struct Heard {
+    progress: Progress,
+    more: bool,
+}
+
 // Works through what was read. It is handed to the library until all of it is taken or no more is wanted.
 fn work_through(
     rt: &impl Print,
@@ -20,7 +27,7 @@ fn work_through(
     packet: &mut [u8; 4096],
     input: &[u8],
     out: &mut [u8; 65536],
-) -> io::Result<Progress>
+) -> io::Result<Heard>
     ensures { Went progress line.old line.new mem.old mem.new input.now result }
 {
     let mut p = progress;
@@ -31,7 +38,8 @@ fn work_through(
         rt.write_all(&out[..pass.written])?;
         at += pass.taken;
     }
-    Ok(p)
+    let more = !replay::is_over(p);
+    Ok(Heard { progress: p, more })
 }
 
 // Reads bytes, and gives how many; none where the input ends, or cannot be read, which is said.
@@ -60,7 +68,7 @@ fn work_on(rt: &(impl Print + Eprint), from: &mut impl Read) -> io::Result<()> {
     // more turns than there will ever be: a loop has to end by its own account
     for _ in 0..u64::MAX {
         let n = read_some(rt, from, &mut input);
-        progress = work_through(
+        let heard = work_through(
             rt,
             progress,
             &mut line,
@@ -70,7 +78,8 @@ fn work_on(rt: &(impl Print + Eprint), from: &mut impl Read) -> io::Result<()> {
             &input[..n],
             &mut out,
         )?;
-        if n == 0 || replay::is_over(progress) {
+        progress = heard.progress;
+        if n == 0 || !heard.more {
             break;
         }
     }
