@@ -13,12 +13,16 @@ use Rattle.wire.specs.declared.Refusal.TheVariants.{Padding, Unannounced, Grid, 
 use Rattle.wire.specs.Numbers.{number_of}
 use Rattle.latency.specs.Window.{dividend, divisor}
 use Rattle.latency.specs.Promises.{Division, WindowAnswered}
-use Rattle.wire.specs.Answers.{value, refusal}
+use Rattle.wire.specs.Answers.{Said, value, refusal}
 use Rattle.coding.specs.Coding.{largest, coded, symbol_said, window_said, remainder_after, Readable}
 
 -- The number that an inner function gave, handed on.
 pub handed : {z w : ℤ} → mag z < 2 ^ 63 → z ≡ w → to_z w64 (of_z w64 z) ≡ w
 handed fits e = to_z-of_z {w = w64} (record { sfits = fits }) ∙ e
+
+-- A number that codes what an answer's case says codes what the answer says.
+pub coded_case : {A : Type 0} (said : A → Said) {a b : A} {z : ℤ} → mag z < 2 ^ 63 → a ≡ b → z ≡ coded (said b) → to_z w64 (of_z w64 z) ≡ coded (said a)
+coded_case said fits e h = handed fits h ∙ ap (λ x. coded (said x)) (sym e)
 
 -- A number taken from 0 is the code of the refusal with that number, and has 63 bits and a sign.
 pub negated : (n : ℕ) → n < 2 ^ 63 → to_z w64 0 -ℤ to_z w64 n ≡ coded (refusal n)
