@@ -174,16 +174,17 @@ impl ListedRows<'_, '_> {
         self.add_digit(acc, &both, 3 * p);
     }
 
-    // The sum of the strips that the lists choose, from the highest of the pairs to the lowest.
-    pub fn sum(&self) -> [u8; 64]
+    // Adds to dst the sum of the strips that the lists choose, from the highest of the pairs to the lowest.
+    pub fn add_sum(&self, dst: &mut [u8])
+        requires { length dst.old ≡ 64 }
         ensures { let rows = self.now.rows in
             let lists = self.now.lists.now in
-            result ≡ pairs_added (row_at rows.mem.now rows.first rows.stride 64) lists.names lists.counts lists.pairs lists.pairs (replicate 64 0) }
+            dst.new ≡ add_scaled 1 dst.old (pairs_added (row_at rows.mem.now rows.first rows.stride 64) lists.names lists.counts lists.pairs lists.pairs (replicate 64 0)) }
     {
         let mut acc = [0u8; 64];
         for p in (0..self.lists.pairs).rev() {
             self.add_pair(&mut acc, p);
         }
-        acc
+        rows::add(&mut dst[..64], &acc);
     }
 }

@@ -43,6 +43,14 @@ part-zeros a n =
     let g : i < n = omega arith in
     get_or-part a n i (replicate (a + n) 0) g ∙ get_or-replicate (a + n) (a + i) 0 0 (omega arith) ∙ sym (get_or-replicate n i 0 0 g))
 
+-- a sum from zeros, added to a strip
+pub sum_over : (cs m : List ℕ) (a s : ℕ) (d : List ℕ) {p y : List ℕ} → Bytes cs → length d ≡ 64 → y ≡ add_scaled 1 d p → p ≡ rows_added cs m a s 64 (replicate 64 0)
+    → y ≡ rows_added cs m a s 64 d
+sum_over cs m a s d bytes size e f =
+    let zeros : combined (coefficient cs) (row_at m a s 64) (length cs) (replicate 64 0) ≡ combined (coefficient cs) (row_at m a s 64) (length cs) (replicate (length d) 0) =
+    ap (λ (n : ℕ). combined (coefficient cs) (row_at m a s 64) (length cs) (replicate n 0)) (sym size) in
+    e ∙ ap (add_scaled 1 d) (f ∙ zeros) ∙ sum_onto (coefficient cs) bytes (row_at m a s 64) (length cs) d
+
 -- a whole strip more
 pub strip_whole : (cs m : List ℕ) (a s : ℕ) (d x y : List ℕ) (at : ℕ) → at + 64 ≤ length d
     → x ≡ done (rows_added cs m a s (length d) d) d at → y ≡ rows_added cs m (a + at) s 64 (part at 64 x)

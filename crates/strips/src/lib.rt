@@ -4,6 +4,7 @@
 ghost use Rattle.std.specs.Prelude.{◌≡◌, ◌≤◌, ◌+◌, ◌*◌};
 ghost use Rattle.std.specs.List.{flat_map};
 ghost use Rattle.words.specs.Words.{length, replicate};
+ghost use Rattle.rows.specs.Rows.{add_scaled};
 ghost use Rattle.rows.specs.Sums.{row_at, rows_added};
 ghost use Rattle.lists.specs.Named.{ListedPairs, pairs_added};
 ghost use Rattle.buckets.specs.Buckets.{Filled, Strips, weights};
@@ -33,11 +34,12 @@ impl Way {
     }
 }
 
-// The sum of the buckets, each times its weight, whose pairs of digits are listed.
-fn sum_buckets(lists: &Lists, buckets: &[[u8; 64]; 32]) -> [u8; 64]
-    requires { ListedPairs weights lists.now.names lists.now.counts lists.now.pairs × Strips 32 buckets.now }
-    ensures { result
-        ≡ pairs_added (row_at (flat_map (λ x. x) buckets.now) 0 64 64) lists.now.names lists.now.counts lists.now.pairs lists.now.pairs (replicate 64 0) }
+// Adds to strip the sum of the buckets, each times its weight, whose pairs of digits are listed. In a frame of its own: in the caller's, what it lends
+// to `add_sum` would stand there twice.
+#[inline(never)]
+fn add_buckets(strip: &mut [u8], lists: &Lists, buckets: &[[u8; 64]; 32])
+    requires { (length strip.old ≡ 64) × ListedPairs weights lists.now.names lists.now.counts lists.now.pairs × Strips 32 buckets.now }
+    ensures { strip.new ≡ add_scaled 1 strip.old (pairs_added (row_at (flat_map (λ x. x) buckets.now) 0 64 64) lists.now.names lists.now.counts lists.now.pairs lists.now.pairs (replicate 64 0)) }
 {
     let mem = buckets.as_flattened();
     let rows = SpacedRows {
@@ -46,7 +48,7 @@ fn sum_buckets(lists: &Lists, buckets: &[[u8; 64]; 32]) -> [u8; 64]
         stride: 64,
         count: 32,
     };
-    ListedRows { lists, rows }.sum()
+    ListedRows { lists, rows }.add_sum(strip);
 }
 
 // What strips are summed with: the coefficients, lists of the pairs of their digits or of those of the buckets' weights, and the orders of the rows,
@@ -74,25 +76,38 @@ impl Plan<'_> {
         }
     }
 
-    // The sum of the strips of the rows, each times its coefficient.
-    fn sum(&self, rows: SpacedRows) -> [u8; 64]
-        requires { Ready self.now.way self.now.cs.now self.now.lists.now self.now.orders.now × (rows.count ≡ length self.now.cs.now) }
-        ensures { result ≡ rows_added self.now.cs.now rows.entry.mem.now rows.entry.first rows.entry.stride 64 (replicate 64 0) }
+    // Adds to strip the sum of the strips of the rows, each times its coefficient. In the caller's frame, so that the buckets stand in one frame with
+    // the lists and orders.
+    #[inline(always)]
+    fn add_sum(&self, strip: &mut [u8], rows: SpacedRows)
+        requires { (length strip.old ≡ 64) × Ready self.now.way self.now.cs.now self.now.lists.now self.now.orders.now × (rows.count ≡ length self.now.cs.now) }
+        ensures { strip.new ≡ rows_added self.now.cs.now rows.entry.mem.now rows.entry.first rows.entry.stride 64 strip.old }
     {
         match self.way {
             Way::Lists => ListedRows {
                 lists: self.lists,
                 rows,
             }
-            .sum(),
+            .add_sum(strip),
             // One array for both ways: in an arm for each, the two would not share their 2 KB of stack.
             Way::Buckets | Way::SortedBuckets => {
-                let mut buckets = [[0u8; 64]; 32];
-                self.fill(&mut buckets, rows);
-                sum_buckets(self.lists, &buckets)
+                let mut aligned = Aligned {
+                    buckets: [[0; 64]; 32],
+                    beside: 0,
+                };
+                self.fill(&mut aligned.buckets, rows);
+                add_buckets(strip, self.lists, &aligned.buckets);
             }
         }
     }
+}
+
+// Buckets at a multiple of 16 bytes, since the number beside them asks for one: at other places their strips lie across lines of the cache, and sums of
+// many short rows took up to 1.3 times as long.
+#[derive(Drop)]
+struct Aligned {
+    buckets: [[u8; 64]; 32],
+    beside: u128,
 }
 
 // Lists the pairs of digits of the coefficients or, where rows go into buckets, of the buckets' weights; and sorts the rows where that is needed.
@@ -131,13 +146,15 @@ pub fn add_rows(dst: &mut [u8], cs: &[u8], mem: &[u8], a: usize, s: usize, way: 
     let end = dst.len();
     for i in 0..end / 64 {
         let at = i * 64;
-        let sum = plan.sum(SpacedRows {
-            mem,
-            first: a + at,
-            stride: s,
-            count,
-        });
-        rows::add(&mut dst[at..at + 64], &sum);
+        plan.add_sum(
+            &mut dst[at..at + 64],
+            SpacedRows {
+                mem,
+                first: a + at,
+                stride: s,
+                count,
+            },
+        );
     }
     let rest = end % 64;
     if rest == 0 {
@@ -145,11 +162,15 @@ pub fn add_rows(dst: &mut [u8], cs: &[u8], mem: &[u8], a: usize, s: usize, way: 
     }
     let at = end - rest;
     let skip = 64 - rest;
-    let last = plan.sum(SpacedRows {
-        mem,
-        first: a + at - skip,
-        stride: s,
-        count,
-    });
+    let mut last = [0u8; 64];
+    plan.add_sum(
+        &mut last,
+        SpacedRows {
+            mem,
+            first: a + at - skip,
+            stride: s,
+            count,
+        },
+    );
     rows::add(&mut dst[at..at + rest], &last[skip..skip + rest]);
 }

@@ -1,9 +1,9 @@
--- `lists::ListedRows::sum` meets its contract. The loop: the pairs from p on have been added.
+-- `lists::ListedRows::add_sum` meets its contract. The loop: the pairs from p on have been added.
 use Rattle.std.specs.Prelude.{◌≡◌, ◌-◌}
 use Rattle.words.specs.Words.{replicate}
 use Rattle.rows.specs.Sums.{row_at}
 use Rattle.lists.specs.Named.{pairs_added}
-use Rattle.lists.proofs.ListedRows.sum.Given as goal
+use Rattle.lists.proofs.ListedRows.add_sum.Given as goal
 
 abbrev pub invariant-loop-p : goal.invariant-loop-p
 invariant-loop-p l =
