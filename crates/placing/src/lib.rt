@@ -83,7 +83,7 @@ fn clear_coefficient(mem: &mut [u8], row: &[u8], shape: Shape, r: usize, q: usiz
 }
 
 // The first row from `from` on that has a coefficient in the column `r`.
-// Kept: a loop of its own, called in two places. Where one loop looks at every row and clears it too, a new source packet at width 255 takes 1.6 times as long.
+// Kept: a loop of its own, called in two places. Where one loop looked at every row and cleared it too, a new source packet took up to 1.46 times as long.
 fn next_with(mem: &[u8], shape: Shape, r: usize, from: usize) -> Option<usize>
     requires { Fits shape.width shape.size mem.now × (r < shape.width) × (from ≤ shape.width) }
     ensures { NextWith shape.width shape.size r from result mem.now }
