@@ -1,6 +1,6 @@
 // How much stack a sum of many rows takes, as the call for a repair packet of a block uses it: by lists, and in buckets of short and of long rows. The call
-// runs on a stack of its own, painted beforehand; what an empty function writes there is taken off. A second frame for the buckets, or a second array of
-// them (2 KB), passes the limit.
+// runs on a stack of its own, painted beforehand; what an empty function writes there is taken off. A second array of buckets (2 KB) is more than the
+// limit allows; a second frame need not be, so `tests/c/frames` looks at the frames.
 #include "rlc8681.h"
 #include <stdio.h>
 #include <stdlib.h>
