@@ -187,4 +187,51 @@ impl ListedRows<'_, '_> {
         }
         rows::add(&mut dst[..64], &acc);
     }
+
+    // The sum of the strips that the lists choose, from the highest of the pairs to the lowest: what `add_sum` makes of zeros.
+    pub fn sum(&self) -> [u8; 64]
+        ensures { let rows = self.now.rows in
+            let lists = self.now.lists.now in
+            result ≡ pairs_added (row_at rows.mem.now rows.first rows.stride 64) lists.names lists.counts lists.pairs lists.pairs (replicate 64 0) }
+    {
+        let mut sum = [0u8; 64];
+        self.add_sum(&mut sum);
+        sum
+    }
+}
+
+#[cfg(test)]
+mod tests {
+    use super::*;
+    use std::test::Fail;
+
+    // The sum of the rows of mem, 64 bytes each, row k times cs[k].
+    fn sum_of(cs: &[u8], mem: &[u8]) -> [u8; 64]
+        requires { (length cs.now ≤ 64) × (length cs.now * 64 ≤ length mem.now) }
+    {
+        let mut lists = Lists::empty();
+        lists.list(cs);
+        let rows = SpacedRows {
+            mem,
+            first: 0,
+            stride: 64,
+            count: cs.len(),
+        };
+        ListedRows {
+            lists: &lists,
+            rows,
+        }
+        .sum()
+    }
+
+    // The first row three times, the second four times, the third not at all: 3 * 5 is 0x0F, and 4 * 0x80 is 2 * 0x1D, since 2 * 0x80 is 0x1D.
+    #[test]
+    fn sums_three_rows() -> Result<(), Fail> {
+        let mut mem = [0xFFu8; 192];
+        mem[..64].fill(5);
+        mem[64..128].fill(0x80);
+        let sum = sum_of(&[3, 4, 0], &mem);
+        (sum == [0x35; 64]).then_some(()).ok_or(sum)?;
+        Ok(())
+    }
 }
